@@ -1,0 +1,47 @@
+ghost use Rattle.std.specs.Prelude.{◌≡◌, ◌<◌, ◌≤◌, [], ◌∷◌, ◌++◌, length};
+
+use arrayvec::ArrayVec;
+use std::marker::Model;
+
+/// Room for the bytes of one packet, at most 640.
+#[derive(Clone, Debug, Drop, Eq, PartialEq)]
+pub struct Frame {
+    items: ArrayVec<u8, 640>,
+}
+
+impl Model for Frame {
+    ghost use Rattle.std.specs.Prelude.{List, ℕ, length, ◌≤◌};
+
+    ghost Value = { List ℕ };
+
+    ghost view = { λ list. list.items.items };
+
+    ghost invariant = { λ list. length list.items.items ≤ 640 };
+
+    ghost inverse = { λ xs. record { items = record { items = xs } } };
+}
+
+impl Frame {
+    pub fn new() -> Frame
+        ensures { result ≡ [] }
+    {
+        Frame {
+            items: ArrayVec::new(),
+        }
+    }
+
+    /// Appends a byte.
+    pub fn push(&mut self, item: u8)
+        requires { length self.old < 640 }
+        ensures { self.new ≡ self.old ++ item ∷ [] }
+    {
+        self.items.push(item);
+    }
+
+    pub fn as_slice(&self) -> &[u8]
+        ensures items { result.now ≡ self.now }
+        ensures bounded { length self.now ≤ 640 }
+    {
+        self.items.as_slice()
+    }
+}

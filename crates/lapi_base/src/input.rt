@@ -1,0 +1,33 @@
+use crate::schedule::Schedule;
+use crate::script::Script;
+
+/// What an input text says.
+#[derive(Debug, Drop)]
+pub struct Input {
+    pub script: Script,
+    pub schedule: Schedule,
+}
+
+/// The quantity that passes its limit, or a form that isn't built yet.
+#[derive(Clone, Copy, Debug, Eq, PartialEq)]
+pub enum Which {
+    Input,
+    Tasks,
+    Memory,
+    Counters,
+    Workers,
+    Statements,
+    Lines,
+    Lane,
+    Pieces,
+    Bytes,
+    Unbuilt,
+}
+
+/// Why a text is no input. Lines are counted from 1; line 0 stands for the whole text.
+#[derive(Clone, Copy, Debug, Eq, PartialEq)]
+pub enum ReadFault {
+    Syntax { line: u32 },
+    Limit { which: Which, line: u32 },
+    Memory,
+}

@@ -1,0 +1,52 @@
+//! The types of a run: scripts and schedules, events, packets, and the small lists they stand in.
+#![tactic(auto)]
+
+mod address;
+mod bytes;
+mod event;
+mod frame;
+mod handler;
+mod head;
+mod input;
+mod memory;
+mod message;
+mod numbers;
+mod packet;
+mod payload;
+mod piece;
+mod refusal;
+mod reply;
+mod rule;
+mod schedule;
+mod script;
+mod span;
+mod statement;
+mod status;
+mod user_header;
+mod vector;
+mod wire;
+
+pub use address::Addr;
+pub use bytes::Bytes;
+pub use event::{Event, Events};
+pub use frame::Frame;
+pub use handler::{Effect, HeaderIn, HeaderOut};
+pub use head::{Head, NoteOp};
+pub use input::{Input, ReadFault, Which};
+pub use memory::Memory;
+pub use message::{Leg, MsgName};
+pub use numbers::Numbers;
+pub use packet::{DataPacket, Packet};
+pub use payload::Payload;
+pub use piece::{Piece, PieceList};
+pub use refusal::Refusal;
+pub use reply::{Bad, Reason, Replies, Reply};
+pub use rule::{Choice, CompletionRule, HeaderRule, Place};
+pub use schedule::{Act, Line, Schedule};
+pub use script::Script;
+pub use span::{Span, Spans};
+pub use statement::{RmwOp, Statement, StatementLists, Statements};
+pub use status::{Status, WriteFault};
+pub use user_header::UserHeader;
+pub use vector::Vector;
+pub use wire::{Entries, WireEntry};

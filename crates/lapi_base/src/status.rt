@@ -1,0 +1,26 @@
+/// How a command ends; its number is the exit status of the program.
+#[derive(Clone, Copy, Debug, Eq, PartialEq)]
+pub enum Status {
+    Ok,
+    /// The words are no command.
+    Usage,
+    /// The input isn't in the grammar.
+    Syntax,
+    /// A quantity of the input passes its limit.
+    Limit,
+    /// The input couldn't be read.
+    SourceFault,
+    /// The text couldn't be written.
+    SinkFault,
+    Memory,
+    /// The lines of one worker stand in two lanes.
+    LaneClash,
+}
+
+/// Why a text wasn't written whole.
+#[derive(Clone, Copy, Debug, Eq, PartialEq)]
+pub enum WriteFault {
+    /// The sink refused.
+    Failed,
+    Memory,
+}
