@@ -1,5 +1,9 @@
+ghost use Rattle.std.specs.Prelude.{◌≡◌};
+
+use crate::memory::Memory;
 use crate::schedule::Schedule;
 use crate::script::Script;
+use std::alloc::AllocError;
 
 /// What an input text says.
 #[derive(Debug, Drop)]
@@ -30,4 +34,24 @@ pub enum ReadFault {
     Syntax { line: u32 },
     Limit { which: Which, line: u32 },
     Memory,
+}
+
+impl From<AllocError> for ReadFault {
+    ghost use Rattle.lapi_base.specs.declared.input.ReadFault.TheVariants as ReadFault;
+
+    ghost from_gives = { λ _ fault. fault ≡ ReadFault.Memory };
+
+    fn from(_error: AllocError) -> ReadFault {
+        ReadFault::Memory
+    }
+}
+
+impl From<Memory> for ReadFault {
+    ghost use Rattle.lapi_base.specs.declared.input.ReadFault.TheVariants as ReadFault;
+
+    ghost from_gives = { λ _ fault. fault ≡ ReadFault.Memory };
+
+    fn from(_error: Memory) -> ReadFault {
+        ReadFault::Memory
+    }
 }

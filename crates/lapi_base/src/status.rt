@@ -1,3 +1,8 @@
+ghost use Rattle.std.specs.Prelude.{◌≡◌};
+
+use crate::memory::Memory;
+use std::alloc::AllocError;
+
 /// How a command ends; its number is the exit status of the program.
 #[derive(Clone, Copy, Debug, Eq, PartialEq)]
 pub enum Status {
@@ -23,4 +28,24 @@ pub enum WriteFault {
     /// The sink refused.
     Failed,
     Memory,
+}
+
+impl From<AllocError> for WriteFault {
+    ghost use Rattle.lapi_base.specs.declared.status.WriteFault.TheVariants as WriteFault;
+
+    ghost from_gives = { λ _ fault. fault ≡ WriteFault.Memory };
+
+    fn from(_error: AllocError) -> WriteFault {
+        WriteFault::Memory
+    }
+}
+
+impl From<Memory> for WriteFault {
+    ghost use Rattle.lapi_base.specs.declared.status.WriteFault.TheVariants as WriteFault;
+
+    ghost from_gives = { λ _ fault. fault ≡ WriteFault.Memory };
+
+    fn from(_error: Memory) -> WriteFault {
+        WriteFault::Memory
+    }
 }

@@ -1,4 +1,4 @@
-ghost use Rattle.std.specs.Prelude.{◌≡◌, ◌<◌, ◌≤◌, [], ◌∷◌, ◌++◌, length};
+ghost use Rattle.std.specs.Prelude.{◌≡◌, ◌<◌, ◌≤◌, ◌+◌, [], ◌∷◌, ◌++◌, length};
 
 use arrayvec::ArrayVec;
 use std::marker::Model;
@@ -36,6 +36,14 @@ impl UserHeader {
         ensures { self.new ≡ self.old ++ item ∷ [] }
     {
         self.items.push(item);
+    }
+
+    /// Appends bytes, in order.
+    pub fn extend_from_slice(&mut self, items: &[u8])
+        requires { length self.old + length items.now ≤ 64 }
+        ensures { self.new ≡ self.old ++ items.now }
+    {
+        self.items.try_extend_from_slice(items).unwrap();
     }
 
     pub fn as_slice(&self) -> &[u8]
