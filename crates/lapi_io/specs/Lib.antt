@@ -1,0 +1,6 @@
+pub mod Causes
+pub mod MemSink
+pub mod MemSource
+pub mod StdSink
+pub mod StdSource
+pub mod SureRoom

@@ -1,0 +1,88 @@
+ghost use Rattle.std.specs.Prelude.{◌≡◌, ◌<◌, ◌++◌, ℕ, List, Option, Some, IfOk, OnOk, OnErr, length};
+ghost use Rattle.std.specs.Io.{WritesAtMost};
+ghost use Rattle.std.specs.Io.KnownBytes.{WriteAppends, Appends};
+ghost use Rattle.lapi_io.specs.Causes.{HasCause};
+
+use crate::source::Failed;
+
+/// What bytes are written to.
+pub trait Sink {
+    /// The bytes that it holds, where it tells them.
+    ghost held: { Self → Option (List ℕ) };
+
+    /// How many faults it had. It stands still at 2^64 - 1.
+    ghost faults: { Self → ℕ };
+
+    /// How many bytes it surely takes, where it has such a room.
+    ghost room: { Self → Option ℕ };
+
+    /// Appends a front of the piece, and answers its length. For a piece that isn't empty, this is at least 1.
+    fn write(&mut self, piece: &[u8]) -> Result<usize, Failed>
+        ensures bound { WritesAtMost result piece.now }
+        ensures some { IfOk result (λ n. 0 < length piece.now → 0 < n) }
+        ensures bytes { WriteAppends (held self.old) (held self.new) result piece.now }
+        ensures cause { HasCause (faults self.old) (faults self.new) result }
+        ensures room { room self.new ≡ room self.old };
+
+    /// With a sure room the bytes are told, and there was no fault while fewer are held.
+    ghost sure: { (sink : Self) (n : ℕ) → room sink ≡ Some n → (bs : List ℕ) × (held sink ≡ Some bs) × (length bs < n → faults sink ≡ 0) };
+}
+
+/// Appends the whole piece, or a front of it where a write failed.
+pub fn write_all<K: Sink>(sink: &mut K, piece: &[u8]) -> Result<(), Failed>
+    ensures ok { OnOk result (Appends (K.held sink.old) (K.held sink.new) piece.now) }
+    ensures err { OnErr result ((front : List ℕ) × (rest : List ℕ) × (piece.now ≡ front ++ rest) × Appends (K.held sink.old) (K.held sink.new) front) }
+    ensures cause { HasCause (K.faults sink.old) (K.faults sink.new) result }
+    ensures room { K.room sink.new ≡ K.room sink.old }
+{
+    let mut rest = piece;
+    while !rest.is_empty() {
+        let n = sink.write(rest)?;
+        let (_, after) = rest.split_at(n);
+        rest = after;
+    }
+    Ok(())
+}
+
+#[cfg(test)]
+mod tests {
+    use super::*;
+    use crate::mem_sink::MemSink;
+    use std::test::Fail;
+
+    #[test]
+    fn writes_until_the_room_is_held(rt: HostRuntime) -> Result<(), Fail> {
+        for step in 1..9 {
+            let mut sink = MemSink::new(rt.alloc(), 10, step, Vec::new(rt.alloc()))?;
+            assert_eq!(rt;
+                write_all(&mut sink, b"abcdefg"),
+                Ok(()),
+                "in steps of {step}"
+            );
+            assert_eq!(rt; sink.held(), b"abcdefg".as_slice(), "in steps of {step}");
+            assert_eq!(rt;
+                write_all(&mut sink, b"hijk"),
+                Err(Failed),
+                "in steps of {step}"
+            );
+            assert_eq!(rt; sink.held(), b"abcdefghij".as_slice(), "in steps of {step}");
+            assert_eq!(rt; write_all(&mut sink, b""), Ok(()), "in steps of {step}");
+            assert_eq!(rt; sink.write(b""), Ok(0), "in steps of {step}");
+            assert_eq!(rt; sink.write(b"k"), Err(Failed), "in steps of {step}");
+        }
+        Ok(())
+    }
+
+    #[test]
+    fn goes_on_after_a_failed_write(rt: HostRuntime) -> Result<(), Fail> {
+        let fails = [1, 3].to_vec(rt.alloc())?;
+        let mut sink = MemSink::new(rt.alloc(), 10, 3, fails)?;
+        assert_eq!(rt; write_all(&mut sink, b"abcdefg"), Err(Failed));
+        assert_eq!(rt; sink.held(), b"abc".as_slice());
+        assert_eq!(rt; write_all(&mut sink, b"defg"), Err(Failed));
+        assert_eq!(rt; sink.held(), b"abcdef".as_slice());
+        assert_eq!(rt; write_all(&mut sink, b"g"), Ok(()));
+        assert_eq!(rt; sink.held(), b"abcdefg".as_slice());
+        Ok(())
+    }
+}
