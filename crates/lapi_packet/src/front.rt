@@ -1,0 +1,89 @@
+//! The front of every packet.
+//!
+//! ```text
+//! place  size  field    rule                         reason
+//! 0      1     magic    4c                           Magic
+//! 1      1     version  01                           Version
+//! 2      1     kind     1 data, 2 acknowledgement    Kind
+//! 3      1     from     at most 7                    Task
+//! 4      1     to       at most 7                    Task
+//! ```
+
+ghost use Rattle.std.specs.Prelude.{◌≡◌, ◌≤◌, ◌+◌, ◌++◌, length};
+ghost use Rattle.lapi_packet.specs.Codes.{kind_number};
+ghost use Rattle.lapi_packet.specs.Written as written;
+
+use crate::fault::{Fault, refused};
+use crate::number::{read_one, write_one};
+use lapi_base::{Frame, Reason};
+
+pub(crate) const MAGIC: u32 = 0x4c;
+
+pub(crate) const VERSION: u32 = 1;
+
+pub(crate) const LAST_TASK: u32 = 7;
+
+#[derive(Clone, Copy)]
+pub(crate) enum Kind {
+    Data,
+    Acknowledgement,
+}
+
+#[derive(Clone, Copy)]
+pub(crate) struct Front {
+    pub(crate) kind: Kind,
+    pub(crate) from: u32,
+    pub(crate) to: u32,
+}
+
+pub(crate) fn read(bytes: &[u8]) -> Result<(Front, &[u8]), Fault> {
+    let (magic, rest) = read_one(bytes)?;
+    if magic != MAGIC {
+        return Err(refused(bytes, Reason::Magic));
+    }
+    let (version, after_version) = read_one(rest)?;
+    if version != VERSION {
+        return Err(refused(rest, Reason::Version));
+    }
+    let (kind, rest) = read_kind(after_version)?;
+    let (from, rest) = read_task(rest)?;
+    let (to, rest) = read_task(rest)?;
+    Ok((Front { kind, from, to }, rest))
+}
+
+fn read_kind(bytes: &[u8]) -> Result<(Kind, &[u8]), Fault> {
+    let (number, rest) = read_one(bytes)?;
+    match number {
+        1 => Ok((Kind::Data, rest)),
+        2 => Ok((Kind::Acknowledgement, rest)),
+        _ => Err(refused(bytes, Reason::Kind)),
+    }
+}
+
+fn read_task(bytes: &[u8]) -> Result<(u32, &[u8]), Fault> {
+    let (task, rest) = read_one(bytes)?;
+    if task > LAST_TASK {
+        return Err(refused(bytes, Reason::Task));
+    }
+    Ok((task, rest))
+}
+
+fn number_of(kind: Kind) -> u32
+    ensures { result ≡ kind_number kind }
+{
+    match kind {
+        Kind::Data => 1,
+        Kind::Acknowledgement => 2,
+    }
+}
+
+pub(crate) fn write(front: Front, out: &mut Frame)
+    requires { length out.old + 5 ≤ 640 }
+    ensures { out.new ≡ out.old ++ written.front (kind_number front.kind) front.from front.to }
+{
+    write_one(MAGIC, out);
+    write_one(VERSION, out);
+    write_one(number_of(front.kind), out);
+    write_one(front.from, out);
+    write_one(front.to, out);
+}

@@ -1,0 +1,57 @@
+ghost use Rattle.std.specs.Prelude.{◌≡◌, ◌≤◌, ◌+◌, ◌++◌, length};
+ghost use Rattle.lapi_packet.specs.Written.{one, two, four};
+
+use crate::fault::{Fault, cut_short};
+use lapi_base::Frame;
+
+/// The number that the first byte is, and the bytes after it.
+pub(crate) fn read_one(bytes: &[u8]) -> Result<(u32, &[u8]), Fault> {
+    if bytes.is_empty() {
+        return Err(cut_short());
+    }
+    let (front, rest) = bytes.split_at(1);
+    Ok((u32::from(front[0]), rest))
+}
+
+/// The number that the first two bytes spell.
+pub(crate) fn read_two(bytes: &[u8]) -> Result<(u32, &[u8]), Fault> {
+    if bytes.len() < 2 {
+        return Err(cut_short());
+    }
+    let (front, rest) = bytes.split_at(2);
+    Ok((u32::from(u16::from_be_bytes([front[0], front[1]])), rest))
+}
+
+/// The number that the first four bytes spell.
+pub(crate) fn read_four(bytes: &[u8]) -> Result<(u32, &[u8]), Fault> {
+    if bytes.len() < 4 {
+        return Err(cut_short());
+    }
+    let (front, rest) = bytes.split_at(4);
+    let number = u32::from_be_bytes([front[0], front[1], front[2], front[3]]);
+    Ok((number, rest))
+}
+
+/// Appends the lowest byte of a number.
+pub(crate) fn write_one(number: u32, out: &mut Frame)
+    requires { length out.old + 1 ≤ 640 }
+    ensures { out.new ≡ out.old ++ one number }
+{
+    out.push((number % 256) as u8);
+}
+
+/// Appends the lowest two bytes of a number.
+pub(crate) fn write_two(number: u32, out: &mut Frame)
+    requires { length out.old + 2 ≤ 640 }
+    ensures { out.new ≡ out.old ++ two number }
+{
+    out.extend_from_slice(&((number % 65_536) as u16).to_be_bytes());
+}
+
+/// Appends the four bytes of a number.
+pub(crate) fn write_four(number: u32, out: &mut Frame)
+    requires { length out.old + 4 ≤ 640 }
+    ensures { out.new ≡ out.old ++ four number }
+{
+    out.extend_from_slice(&number.to_be_bytes());
+}
