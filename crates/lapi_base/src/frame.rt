@@ -30,6 +30,13 @@ impl Frame {
         }
     }
 
+    /// Lets go of all bytes.
+    pub fn clear(&mut self)
+        ensures { self.new ≡ [] }
+    {
+        self.items.clear();
+    }
+
     /// Appends a byte.
     pub fn push(&mut self, item: u8)
         requires { length self.old < 640 }

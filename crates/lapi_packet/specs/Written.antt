@@ -1,6 +1,15 @@
 -- The bytes that are written for each part of a packet, each field reduced to its size.
-use Rattle.std.specs.Prelude.{ℕ, List, [], ◌∷◌, ◌++◌, ◌%◌, Option, unwrap_or}
+use Rattle.std.specs.Prelude.{ℕ, List, [], ◌∷◌, ◌++◌, ◌%◌, ◌^◌, length, Option, unwrap_or}
+use Rattle.std.specs.List.{flat_map}
 use Rattle.std.specs.Int.{w16, w32, to_be_bytes}
+use Rattle.lapi_base.specs.declared.head.Head.{Head}
+use Rattle.lapi_base.specs.declared.head.Head.TheVariants as heads
+use Rattle.lapi_base.specs.declared.packet.Packet.{Packet}
+use Rattle.lapi_base.specs.declared.packet.Packet.TheVariants as packets
+use Rattle.lapi_base.specs.declared.packet.DataPacket.{DataPacket}
+use Rattle.lapi_base.specs.declared.message.MsgName.{MsgName}
+use Rattle.lapi_base.specs.declared.span.Span.{Span}
+use Rattle.lapi_packet.specs.Codes.{leg_number, head_number, update_number}
 
 abbrev pub one : ℕ → List ℕ
 one n = n % 256 ∷ []
@@ -14,11 +23,38 @@ four n = to_be_bytes w32 n
 abbrev pub counter : Option ℕ → List ℕ
 counter number = one (unwrap_or number 255)
 
+abbrev pub span : Span → List ℕ
+span s = four (s.at % 2 ^ 32) ++ four s.len
+
+abbrev pub spans : List Span → List ℕ
+spans list = flat_map span list
+
 abbrev pub front : ℕ → ℕ → ℕ → List ℕ
 front kind from to = one 76 ++ one 1 ++ one kind ++ one from ++ one to
 
 abbrev pub acknowledgement : ℕ → ℕ → List ℕ
 acknowledgement base bits = four base ++ four bits
 
-abbrev pub put : ℕ → Option ℕ → Option ℕ → List ℕ
-put at tgt cmpl = four at ++ counter tgt ++ counter cmpl
+abbrev pub head : Head → List ℕ
+head (heads.Put at tgt cmpl) = four at ++ counter tgt ++ counter cmpl
+head (heads.GetGo asked source dest tgt org) = four asked ++ four source ++ four dest ++ counter tgt ++ counter org
+head (heads.GetBack dest org) = four dest ++ counter org
+head (heads.Putv tgt cmpl pieces) = counter tgt ++ counter cmpl ++ one (length pieces) ++ spans pieces
+head (heads.GetvGo tgt org source dest) = counter tgt ++ counter org ++ one (length source) ++ spans source ++ spans dest
+head (heads.GetvBack org dest) = counter org ++ one (length dest) ++ spans dest
+head (heads.RmwGo op at in1 in2 prev org) = one (update_number op) ++ four at ++ four in1 ++ four in2 ++ four prev ++ counter org
+head (heads.RmwBack dest org) = four dest ++ counter org
+head (heads.Am handler tgt cmpl header) = one handler ++ counter tgt ++ counter cmpl ++ one (length header) ++ header
+head (heads.Note op cmpl) = one cmpl
+head (heads.Gfence round) = two round
+head (heads.Addr round address) = two round ++ four address
+
+abbrev pub name : MsgName → List ℕ
+name m = one m.origin ++ two m.statement ++ one (leg_number m.leg)
+
+abbrev pub packet_data : DataPacket → List ℕ
+packet_data d = front 1 d.from d.to ++ four d.seq ++ name d.name ++ one (head_number d.head) ++ four d.length ++ two d.fragment ++ head d.head ++ d.payload
+
+abbrev pub packet : Packet → List ℕ
+packet (packets.Data d) = packet_data d
+packet (packets.Ack from to base bits) = front 2 from to ++ acknowledgement base bits

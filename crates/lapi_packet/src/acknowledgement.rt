@@ -7,27 +7,31 @@
 //! ```
 
 ghost use Rattle.std.specs.Prelude.{◌≡◌, ◌≤◌, ◌+◌, ◌++◌, length};
+ghost use Rattle.lapi_base.specs.Layout.{First};
+ghost use Rattle.lapi_base.specs.Spelling.{acknowledgement_form};
+ghost use Rattle.lapi_packet.specs.Reader.{Reads};
 ghost use Rattle.lapi_packet.specs.Written.{acknowledgement};
 
 use crate::fault::{Fault, refused};
 use crate::number::{read_four, write_four};
 use lapi_base::{Frame, Packet, Reason};
 
-pub(crate) fn read(from: u32, to: u32, bytes: &[u8]) -> Result<(Packet, &[u8]), Fault> {
+#[tactic(auto, unfolding(lapi_base::specs::Spelling::acknowledgement_form))]
+pub(crate) fn read(from: u32, to: u32, bytes: &[u8]) -> Result<(Packet, &[u8]), Fault>
+    ensures { Reads (acknowledgement_form First from to) bytes.now result }
+{
     let (base, rest) = read_four(bytes)?;
     let (bits, after) = read_four(rest)?;
     if bits % 2 != 0 {
         return Err(refused(rest, Reason::NotCanonical));
     }
-    Ok((
-        Packet::Ack {
-            from,
-            to,
-            base,
-            bits,
-        },
-        after,
-    ))
+    let packet = Packet::Ack {
+        from,
+        to,
+        base,
+        bits,
+    };
+    Ok((packet, after))
 }
 
 pub(crate) fn write(base: u32, bits: u32, out: &mut Frame)

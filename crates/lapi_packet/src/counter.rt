@@ -1,4 +1,6 @@
 ghost use Rattle.std.specs.Prelude.{◌≡◌, ◌≤◌, ◌+◌, ◌++◌, length};
+ghost use Rattle.lapi_base.specs.Parts.{counter_form};
+ghost use Rattle.lapi_packet.specs.Reader.{Reads};
 ghost use Rattle.lapi_packet.specs.Written.{counter};
 
 use crate::fault::{Fault, refused};
@@ -8,14 +10,18 @@ use lapi_base::{Frame, Reason};
 /// A counter of the target or the origin: its number, or ff for none.
 ///
 /// ```text
-/// 0 | counter | below 64, or ff | Field
+/// size  field    rule                        reason
+/// 1     counter  below 64, or ff for none    Field
 /// ```
-pub(crate) fn read(bytes: &[u8]) -> Result<(Option<u32>, &[u8]), Fault> {
+#[tactic(auto, unfolding(lapi_base::specs::Parts::counter_form))]
+pub(crate) fn read(bytes: &[u8]) -> Result<(Option<u32>, &[u8]), Fault>
+    ensures { Reads counter_form bytes.now result }
+{
     let (number, rest) = read_one(bytes)?;
     if number == 255 {
         return Ok((None, rest));
     }
-    if number > 63 {
+    if number >= 64 {
         return Err(refused(bytes, Reason::Field));
     }
     Ok((Some(number), rest))

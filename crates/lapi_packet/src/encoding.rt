@@ -1,10 +1,24 @@
+ghost use Rattle.std.specs.Prelude.{◌≡◌};
+ghost use Rattle.lapi_base.specs.Spelling.{Spells, HasSpelling};
+ghost use Rattle.lapi_packet.specs.Written as written;
+
 use crate::front::{Front, Kind};
 use crate::{acknowledgement, data, front};
 use lapi_base::{Frame, Packet};
 
-/// Leaves in `out` the bytes of a packet, each field reduced to its size.
-pub fn encode(p: &Packet, out: &mut Frame) {
-    *out = Frame::new();
+/// Leaves in `out` the one spelling of a packet, and nothing else.
+pub fn encode(p: &Packet, out: &mut Frame)
+    requires { HasSpelling p.now }
+    ensures { Spells p.now out.new }
+{
+    write(p, out);
+}
+
+/// Leaves in `out` the bytes of any packet, each field reduced to its size.
+pub(crate) fn write(p: &Packet, out: &mut Frame)
+    ensures { out.new ≡ written.packet p.now }
+{
+    out.clear();
     match p {
         Packet::Data(packet) => data::write(packet, out),
         Packet::Ack {
@@ -14,12 +28,9 @@ pub fn encode(p: &Packet, out: &mut Frame) {
             bits,
         } => {
             let kind = Kind::Acknowledgement;
-            let front = Front {
-                kind,
-                from: *from,
-                to: *to,
-            };
-            front::write(front, out);
+            let from = *from;
+            let to = *to;
+            front::write(Front { kind, from, to }, out);
             acknowledgement::write(*base, *bits, out);
         }
     }

@@ -10,18 +10,21 @@
 //! ```
 
 ghost use Rattle.std.specs.Prelude.{◌≡◌, ◌≤◌, ◌+◌, ◌++◌, length};
-ghost use Rattle.lapi_packet.specs.Codes.{kind_number};
+ghost use Rattle.lapi_base.specs.Form.{reading, One, field};
+ghost use Rattle.lapi_base.specs.Spelling.{front_form, task_form, kind_form};
+ghost use Rattle.lapi_packet.specs.Codes.{kind_number, front_of};
+ghost use Rattle.lapi_packet.specs.Reader.{Gives, Reads};
 ghost use Rattle.lapi_packet.specs.Written as written;
 
 use crate::fault::{Fault, refused};
 use crate::number::{read_one, write_one};
 use lapi_base::{Frame, Reason};
 
-pub(crate) const MAGIC: u32 = 0x4c;
+const MAGIC: u32 = 0x4c;
 
-pub(crate) const VERSION: u32 = 1;
+const VERSION: u32 = 1;
 
-pub(crate) const LAST_TASK: u32 = 7;
+const LAST_TASK: u32 = 7;
 
 #[derive(Clone, Copy)]
 pub(crate) enum Kind {
@@ -36,14 +39,17 @@ pub(crate) struct Front {
     pub(crate) to: u32,
 }
 
-pub(crate) fn read(bytes: &[u8]) -> Result<(Front, &[u8]), Fault> {
-    let (magic, rest) = read_one(bytes)?;
+#[tactic(auto, using(crate::proofs::Forms::read_bind), unfolding(lapi_base::specs::Spelling::front_form))]
+pub(crate) fn read(bytes: &[u8]) -> Result<(Front, &[u8]), Fault>
+    ensures { Gives (λ x. (front_of x.0, x.1.now)) result (reading front_form bytes.now) }
+{
+    let (magic, after_magic) = read_one(bytes)?;
     if magic != MAGIC {
         return Err(refused(bytes, Reason::Magic));
     }
-    let (version, after_version) = read_one(rest)?;
+    let (version, after_version) = read_one(after_magic)?;
     if version != VERSION {
-        return Err(refused(rest, Reason::Version));
+        return Err(refused(after_magic, Reason::Version));
     }
     let (kind, rest) = read_kind(after_version)?;
     let (from, rest) = read_task(rest)?;
@@ -51,7 +57,10 @@ pub(crate) fn read(bytes: &[u8]) -> Result<(Front, &[u8]), Fault> {
     Ok((Front { kind, from, to }, rest))
 }
 
-fn read_kind(bytes: &[u8]) -> Result<(Kind, &[u8]), Fault> {
+#[tactic(auto, unfolding(lapi_base::specs::Spelling::kind_form))]
+fn read_kind(bytes: &[u8]) -> Result<(Kind, &[u8]), Fault>
+    ensures { Gives (λ x. (kind_number x.0, x.1.now)) result (reading kind_form bytes.now) }
+{
     let (number, rest) = read_one(bytes)?;
     match number {
         1 => Ok((Kind::Data, rest)),
@@ -60,7 +69,10 @@ fn read_kind(bytes: &[u8]) -> Result<(Kind, &[u8]), Fault> {
     }
 }
 
-fn read_task(bytes: &[u8]) -> Result<(u32, &[u8]), Fault> {
+#[tactic(auto, unfolding(lapi_base::specs::Spelling::task_form))]
+fn read_task(bytes: &[u8]) -> Result<(u32, &[u8]), Fault>
+    ensures { Reads task_form bytes.now result }
+{
     let (task, rest) = read_one(bytes)?;
     if task > LAST_TASK {
         return Err(refused(bytes, Reason::Task));

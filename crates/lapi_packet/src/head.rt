@@ -1,23 +1,154 @@
-//! What a message carries before its payload: one form for each operation and leg.
+//! What a message carries before its payload: one form for each leg and operation.
 
-ghost use Rattle.std.specs.Prelude.{◌≤◌, ◌+◌, length};
+ghost use Rattle.std.specs.Prelude.{◌≡◌, ◌↔◌, IsTrue, ◌≤◌, ◌+◌, ◌++◌, length};
+ghost use Rattle.lapi_base.specs.Heads.{head_form};
+ghost use Rattle.lapi_base.specs.Layout.{First};
+ghost use Rattle.lapi_packet.specs.Codes.{operation_number};
+ghost use Rattle.lapi_packet.specs.Reader.{Reads};
+ghost use Rattle.lapi_packet.specs.Written as written;
 
+mod addr;
+mod am;
+mod get_back;
+mod get_go;
+mod getv_back;
+mod getv_go;
+mod gfence;
+mod note;
 mod put;
+mod putv;
+mod rmw_back;
+mod rmw_go;
 
 use crate::fault::Fault;
-use lapi_base::{Frame, Head};
+use crate::operation::Operation;
+use lapi_base::{Frame, Head, Leg, NoteOp};
 
-/// Only the head of Put is built yet.
-pub(crate) fn read(length: u32, bytes: &[u8]) -> Result<(Head, &[u8]), Fault> {
-    put::read(length, bytes)
+#[tactic(auto, unfolding(lapi_base::specs::Heads::head_form))]
+pub(crate) fn read(
+    leg: Leg,
+    operation: Operation,
+    length: u32,
+    bytes: &[u8],
+) -> Result<(Head, &[u8]), Fault>
+    ensures { Reads (head_form First leg (operation_number operation) length) bytes.now result }
+{
+    match leg {
+        Leg::Go => read_go(operation, length, bytes),
+        Leg::Back => match operation {
+            Operation::Get => get_back::read(length, bytes),
+            Operation::Getv => getv_back::read(length, bytes),
+            _ => rmw_back::read(bytes),
+        },
+        Leg::Note => match operation {
+            Operation::Put => note::read(NoteOp::Put, bytes),
+            Operation::Putv => note::read(NoteOp::Putv, bytes),
+            _ => note::read(NoteOp::Am, bytes),
+        },
+        Leg::Join(_) => match operation {
+            Operation::Gfence => gfence::read(bytes),
+            _ => addr::read(bytes),
+        },
+    }
 }
 
-/// Nothing is written for a head that isn't built yet.
-pub(crate) fn write(head: &Head, out: &mut Frame)
-    requires { length out.old + 262 ≤ 640 }
-    ensures { length out.new ≤ length out.old + 262 }
+#[tactic(auto, unfolding(lapi_base::specs::Heads::head_form))]
+fn read_go(operation: Operation, length: u32, bytes: &[u8]) -> Result<(Head, &[u8]), Fault>
+    ensures { Reads (head_form First Leg.Go (operation_number operation) length) bytes.now result }
 {
-    if let Head::Put { at, tgt, cmpl } = head {
-        put::write(*at, *tgt, *cmpl, out);
+    match operation {
+        Operation::Put => put::read(length, bytes),
+        Operation::Get => get_go::read(bytes),
+        Operation::Putv => putv::read(length, bytes),
+        Operation::Getv => getv_go::read(bytes),
+        Operation::Rmw => rmw_go::read(bytes),
+        _ => am::read(bytes),
+    }
+}
+
+pub(crate) fn write(head: &Head, out: &mut Frame)
+    requires { length out.old + 259 ≤ 640 }
+    ensures bytes { out.new ≡ out.old ++ written.head head.now }
+    ensures room { length out.new ≤ length out.old + 259 }
+{
+    match head {
+        Head::Put { at, tgt, cmpl } => put::write(*at, *tgt, *cmpl, out),
+        Head::GetGo {
+            asked,
+            source,
+            dest,
+            tgt,
+            org,
+        } => get_go::write(*asked, *source, *dest, *tgt, *org, out),
+        Head::GetBack { dest, org } => get_back::write(*dest, *org, out),
+        Head::Putv { tgt, cmpl, pieces } => putv::write(*tgt, *cmpl, pieces, out),
+        Head::GetvGo {
+            tgt,
+            org,
+            source,
+            dest,
+        } => getv_go::write(*tgt, *org, source, dest, out),
+        Head::GetvBack { org, dest } => getv_back::write(*org, dest, out),
+        Head::RmwGo {
+            op,
+            at,
+            in1,
+            in2,
+            prev,
+            org,
+        } => rmw_go::write(*op, *at, *in1, *in2, *prev, *org, out),
+        Head::RmwBack { dest, org } => rmw_back::write(*dest, *org, out),
+        Head::Am {
+            handler,
+            tgt,
+            cmpl,
+            header,
+        } => am::write(*handler, *tgt, *cmpl, header, out),
+        Head::Note { cmpl, .. } => note::write(*cmpl, out),
+        Head::Gfence { round } => gfence::write(*round, out),
+        Head::Addr { round, address } => addr::write(*round, *address, out),
+    }
+}
+
+/// Whether two heads are equal.
+pub(crate) fn same(a: &Head, b: &Head) -> bool
+    ensures { IsTrue result ↔ (a.now ≡ b.now) }
+{
+    match b {
+        Head::Put { at, tgt, cmpl } => put::is(a, *at, *tgt, *cmpl),
+        Head::GetGo {
+            asked,
+            source,
+            dest,
+            tgt,
+            org,
+        } => get_go::is(a, *asked, *source, *dest, *tgt, *org),
+        Head::GetBack { dest, org } => get_back::is(a, *dest, *org),
+        Head::Putv { tgt, cmpl, pieces } => putv::is(a, *tgt, *cmpl, pieces),
+        Head::GetvGo {
+            tgt,
+            org,
+            source,
+            dest,
+        } => getv_go::is(a, *tgt, *org, source, dest),
+        Head::GetvBack { org, dest } => getv_back::is(a, *org, dest),
+        Head::RmwGo {
+            op,
+            at,
+            in1,
+            in2,
+            prev,
+            org,
+        } => rmw_go::is(a, *op, *at, *in1, *in2, *prev, *org),
+        Head::RmwBack { dest, org } => rmw_back::is(a, *dest, *org),
+        Head::Am {
+            handler,
+            tgt,
+            cmpl,
+            header,
+        } => am::is(a, *handler, *tgt, *cmpl, header),
+        Head::Note { op, cmpl } => note::is(a, *op, *cmpl),
+        Head::Gfence { round } => gfence::is(a, *round),
+        Head::Addr { round, address } => addr::is(a, *round, *address),
     }
 }

@@ -1,27 +1,52 @@
 //! The leg of a message.
 //!
 //! ```text
-//! place  size  field  rule                                              reason
-//! 12     1     leg    1 Go, 2 Back, 3 Note, 4 Join;                     Kind
+//! place  size  field  rule                                       reason
+//! 12     1     leg    1 Go, 2 Back, 3 Note, 4 Join;              Kind
 //!                     Go and Join have origin = from,
 //!                     Back and Note have origin = to,
 //!                     Join has from different from to
 //! ```
 
 ghost use Rattle.std.specs.Prelude.{◌≡◌};
+ghost use Rattle.lapi_base.specs.Spelling.{leg_form, is_leg, leg_of};
 ghost use Rattle.lapi_packet.specs.Codes.{leg_number};
+ghost use Rattle.lapi_packet.specs.Reader.{Reads};
 
 use crate::fault::{Fault, refused};
 use crate::number::read_one;
 use lapi_base::{Leg, Reason};
 
-/// Only Go is built yet.
-pub(crate) fn read(from: u32, origin: u32, bytes: &[u8]) -> Result<(Leg, &[u8]), Fault> {
+#[tactic(auto, unfolding(lapi_base::specs::Spelling::leg_form))]
+pub(crate) fn read(from: u32, to: u32, origin: u32, bytes: &[u8]) -> Result<(Leg, &[u8]), Fault>
+    ensures { Reads (leg_form from to origin) bytes.now result }
+{
     let (number, rest) = read_one(bytes)?;
-    if number != 1 || origin != from {
+    if !is_leg(from, to, origin, number) {
         return Err(refused(bytes, Reason::Kind));
     }
-    Ok((Leg::Go, rest))
+    Ok((leg_of(to, number), rest))
+}
+
+fn is_leg(from: u32, to: u32, origin: u32, number: u32) -> bool
+    ensures { result ≡ is_leg from to origin number }
+{
+    match number {
+        1 => origin == from,
+        2 | 3 => origin == to,
+        _ => number == 4 && origin == from && from != to,
+    }
+}
+
+fn leg_of(to: u32, number: u32) -> Leg
+    ensures { result ≡ leg_of to number }
+{
+    match number {
+        1 => Leg::Go,
+        2 => Leg::Back,
+        3 => Leg::Note,
+        _ => Leg::Join(to),
+    }
 }
 
 pub(crate) fn number_of(leg: Leg) -> u32

@@ -7,17 +7,22 @@ mod data;
 mod decoding;
 mod encoding;
 mod fault;
+mod fragment;
 mod front;
 mod head;
+mod laws;
 mod leg;
+mod name;
 mod number;
 mod operation;
-mod payload;
 mod range;
+mod same;
+mod spans;
 mod validity;
 
 pub use decoding::decode;
 pub use encoding::encode;
+pub use laws::spelling_laws;
 pub use validity::valid;
 
 #[cfg(test)]

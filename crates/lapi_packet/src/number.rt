@@ -1,11 +1,15 @@
 ghost use Rattle.std.specs.Prelude.{◌≡◌, ◌≤◌, ◌+◌, ◌++◌, length};
+ghost use Rattle.lapi_base.specs.Form.{One, Two, Four, number_at};
+ghost use Rattle.lapi_packet.specs.Reader.{Gives};
 ghost use Rattle.lapi_packet.specs.Written.{one, two, four};
 
 use crate::fault::{Fault, cut_short};
 use lapi_base::Frame;
 
 /// The number that the first byte is, and the bytes after it.
-pub(crate) fn read_one(bytes: &[u8]) -> Result<(u32, &[u8]), Fault> {
+pub(crate) fn read_one(bytes: &[u8]) -> Result<(u32, &[u8]), Fault>
+    ensures { Gives (λ x. (x.0, x.1.now)) result (number_at One bytes.now) }
+{
     if bytes.is_empty() {
         return Err(cut_short());
     }
@@ -14,16 +18,21 @@ pub(crate) fn read_one(bytes: &[u8]) -> Result<(u32, &[u8]), Fault> {
 }
 
 /// The number that the first two bytes spell.
-pub(crate) fn read_two(bytes: &[u8]) -> Result<(u32, &[u8]), Fault> {
+pub(crate) fn read_two(bytes: &[u8]) -> Result<(u32, &[u8]), Fault>
+    ensures { Gives (λ x. (x.0, x.1.now)) result (number_at Two bytes.now) }
+{
     if bytes.len() < 2 {
         return Err(cut_short());
     }
     let (front, rest) = bytes.split_at(2);
-    Ok((u32::from(u16::from_be_bytes([front[0], front[1]])), rest))
+    let number = u16::from_be_bytes([front[0], front[1]]);
+    Ok((u32::from(number), rest))
 }
 
 /// The number that the first four bytes spell.
-pub(crate) fn read_four(bytes: &[u8]) -> Result<(u32, &[u8]), Fault> {
+pub(crate) fn read_four(bytes: &[u8]) -> Result<(u32, &[u8]), Fault>
+    ensures { Gives (λ x. (x.0, x.1.now)) result (number_at Four bytes.now) }
+{
     if bytes.len() < 4 {
         return Err(cut_short());
     }

@@ -1,18 +1,21 @@
 //! The operation that a message belongs to.
 //!
 //! ```text
-//! place  size  field  rule                                                      reason
-//! 13     1     op     with Go 1 Put, 2 Get, 3 Putv, 4 Getv, 5 Rmw, 6 Am;        Kind
+//! place  size  field  rule                                                 reason
+//! 13     1     op     with Go 1 Put, 2 Get, 3 Putv, 4 Getv, 5 Rmw, 6 Am;   Kind
 //!                     with Back 2, 4, 5; with Note 1, 3, 6;
 //!                     with Join 7 Gfence, 8 Addr
 //! ```
 
 ghost use Rattle.std.specs.Prelude.{◌≡◌};
-ghost use Rattle.lapi_packet.specs.Codes.{operation_number};
+ghost use Rattle.lapi_base.specs.Form.{reading};
+ghost use Rattle.lapi_base.specs.Heads.{operation_form, is_operation};
+ghost use Rattle.lapi_packet.specs.Codes.{operation_number, head_number, note_number};
+ghost use Rattle.lapi_packet.specs.Reader.{Gives};
 
 use crate::fault::{Fault, refused};
 use crate::number::read_one;
-use lapi_base::{Head, NoteOp, Reason};
+use lapi_base::{Head, Leg, NoteOp, Reason};
 
 #[derive(Clone, Copy)]
 pub(crate) enum Operation {
@@ -26,45 +29,61 @@ pub(crate) enum Operation {
     Addr,
 }
 
-/// Only Put is built yet.
-pub(crate) fn read(bytes: &[u8]) -> Result<(Operation, &[u8]), Fault> {
+#[tactic(auto, unfolding(lapi_base::specs::Heads::operation_form))]
+pub(crate) fn read(leg: Leg, bytes: &[u8]) -> Result<(Operation, &[u8]), Fault>
+    ensures { Gives (λ x. (operation_number x.0, x.1.now)) result
+        (reading (operation_form leg) bytes.now) }
+{
     let (number, rest) = read_one(bytes)?;
-    if number != 1 {
+    if !is_operation(leg, number) {
         return Err(refused(bytes, Reason::Kind));
     }
-    Ok((Operation::Put, rest))
-}
-
-/// The operation that a head is of.
-pub(crate) fn operation_of(head: &Head) -> Operation {
-    match head {
-        Head::Put { .. } => Operation::Put,
-        Head::GetGo { .. } | Head::GetBack { .. } => Operation::Get,
-        Head::Putv { .. } => Operation::Putv,
-        Head::GetvGo { .. } | Head::GetvBack { .. } => Operation::Getv,
-        Head::RmwGo { .. } | Head::RmwBack { .. } => Operation::Rmw,
-        Head::Am { .. } => Operation::Am,
-        Head::Note { op, .. } => match op {
-            NoteOp::Put => Operation::Put,
-            NoteOp::Putv => Operation::Putv,
-            NoteOp::Am => Operation::Am,
-        },
-        Head::Gfence { .. } => Operation::Gfence,
-        Head::Addr { .. } => Operation::Addr,
+    match number {
+        1 => Ok((Operation::Put, rest)),
+        2 => Ok((Operation::Get, rest)),
+        3 => Ok((Operation::Putv, rest)),
+        4 => Ok((Operation::Getv, rest)),
+        5 => Ok((Operation::Rmw, rest)),
+        6 => Ok((Operation::Am, rest)),
+        7 => Ok((Operation::Gfence, rest)),
+        _ => Ok((Operation::Addr, rest)),
     }
 }
 
-pub(crate) fn number_of(operation: Operation) -> u32
-    ensures { result ≡ operation_number operation }
+fn is_operation(leg: Leg, number: u32) -> bool
+    ensures { result ≡ is_operation leg number }
 {
-    match operation {
-        Operation::Put => 1,
-        Operation::Get => 2,
-        Operation::Putv => 3,
-        Operation::Getv => 4,
-        Operation::Rmw => 5,
-        Operation::Am => 6,
-        Operation::Gfence => 7,
-        Operation::Addr => 8,
+    match leg {
+        Leg::Go => 1 <= number && number <= 6,
+        Leg::Back => number == 2 || number == 4 || number == 5,
+        Leg::Note => number == 1 || number == 3 || number == 6,
+        Leg::Join(_) => number == 7 || number == 8,
+    }
+}
+
+/// The number of the operation that a head is of.
+pub(crate) fn number_of(head: &Head) -> u32
+    ensures { result ≡ head_number head.now }
+{
+    match head {
+        Head::Put { .. } => 1,
+        Head::GetGo { .. } | Head::GetBack { .. } => 2,
+        Head::Putv { .. } => 3,
+        Head::GetvGo { .. } | Head::GetvBack { .. } => 4,
+        Head::RmwGo { .. } | Head::RmwBack { .. } => 5,
+        Head::Am { .. } => 6,
+        Head::Note { op, .. } => number_of_note(*op),
+        Head::Gfence { .. } => 7,
+        Head::Addr { .. } => 8,
+    }
+}
+
+fn number_of_note(op: NoteOp) -> u32
+    ensures { result ≡ note_number op }
+{
+    match op {
+        NoteOp::Put => 1,
+        NoteOp::Putv => 3,
+        NoteOp::Am => 6,
     }
 }

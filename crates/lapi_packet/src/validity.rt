@@ -1,13 +1,19 @@
+ghost use Rattle.std.specs.Prelude.{◌↔◌, IsTrue};
+ghost use Rattle.lapi_base.specs.Spelling.{HasSpelling};
+
 use crate::decoding::decode;
-use crate::encoding::encode;
+use crate::encoding::write;
+use crate::same::same_packet;
 use lapi_base::{Frame, Packet};
 
-/// Whether the packet has a spelling.
-pub fn valid(p: &Packet) -> bool {
+/// Whether the packet has a spelling: whether its bytes are read as this packet again.
+pub fn valid(p: &Packet) -> bool
+    ensures { IsTrue result ↔ HasSpelling p.now }
+{
     let mut bytes = Frame::new();
-    encode(p, &mut bytes);
+    write(p, &mut bytes);
     match decode(bytes.as_slice()) {
-        Ok(packet) => packet == *p,
+        Ok(packet) => same_packet(&packet, p),
         Err(_) => false,
     }
 }

@@ -1,5 +1,5 @@
 use lapi_base::{Bytes, Frame, Memory, Numbers, Packet};
-use lapi_packet::encode;
+use lapi_packet::{encode, valid};
 use std::alloc::Global;
 
 /// A number is sent once it is less than this above the least unacknowledged one.
@@ -132,9 +132,11 @@ impl Link {
     }
 }
 
-/// The bytes of a packet.
+/// The bytes of a packet. No input makes a packet that has no spelling; its bytes would be none.
 fn spelled(alloc: Global, packet: &Packet) -> Result<Bytes, Memory> {
     let mut frame = Frame::new();
-    encode(packet, &mut frame);
+    if valid(packet) {
+        encode(packet, &mut frame);
+    }
     Bytes::from_slice(alloc, frame.as_slice())
 }

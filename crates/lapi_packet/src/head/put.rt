@@ -1,26 +1,28 @@
 //! The head of Put with Go.
 //!
 //! ```text
-//! size  field  rule                             reason
-//! 4     at     at + length at most 65,536       Field
-//! 1     tgt    below 64, or ff for none         Field
-//! 1     cmpl   below 64, or ff for none         Field
+//! size  field   rule                                        reason
+//! 4     at      at + length at most 65,536                  Field
+//! 1     tgt     below 64, or ff for none                    Field
+//! 1     cmpl    below 64, or ff for none                    Field
 //! ```
 
-ghost use Rattle.std.specs.Prelude.{◌≡◌, ◌≤◌, ◌+◌, ◌++◌, length};
-ghost use Rattle.lapi_packet.specs.Written.{put};
+ghost use Rattle.std.specs.Prelude.{◌≡◌, ◌↔◌, IsTrue, ◌≤◌, ◌+◌, ◌++◌, length};
+ghost use Rattle.lapi_base.specs.Heads.{put_form};
+ghost use Rattle.lapi_packet.specs.Reader.{Reads};
+ghost use Rattle.lapi_packet.specs.Written as written;
 
 use crate::counter;
-use crate::fault::{Fault, refused};
-use crate::number::{read_four, write_four};
-use crate::range::fits;
-use lapi_base::{Frame, Head, Reason};
+use crate::fault::Fault;
+use crate::number::write_four;
+use crate::range::read_range;
+use lapi_base::{Frame, Head};
 
-pub(crate) fn read(length: u32, bytes: &[u8]) -> Result<(Head, &[u8]), Fault> {
-    let (at, rest) = read_four(bytes)?;
-    if !fits(at, length) {
-        return Err(refused(bytes, Reason::Field));
-    }
+#[tactic(auto, using(crate::proofs::Forms::read_bind), unfolding(lapi_base::specs::Heads::put_form))]
+pub(crate) fn read(length: u32, bytes: &[u8]) -> Result<(Head, &[u8]), Fault>
+    ensures { Reads (put_form length) bytes.now result }
+{
+    let (at, rest) = read_range(length, bytes)?;
     let (tgt, rest) = counter::read(rest)?;
     let (cmpl, rest) = counter::read(rest)?;
     Ok((Head::Put { at, tgt, cmpl }, rest))
@@ -28,9 +30,24 @@ pub(crate) fn read(length: u32, bytes: &[u8]) -> Result<(Head, &[u8]), Fault> {
 
 pub(crate) fn write(at: u32, tgt: Option<u32>, cmpl: Option<u32>, out: &mut Frame)
     requires { length out.old + 6 ≤ 640 }
-    ensures { out.new ≡ out.old ++ put at tgt cmpl }
+    ensures bytes { out.new ≡ out.old ++ written.head (Head.Put at tgt cmpl) }
+    ensures room { length out.new ≤ length out.old + 6 }
 {
     write_four(at, out);
     counter::write(tgt, out);
     counter::write(cmpl, out);
+}
+
+/// Whether a head is this one.
+pub(crate) fn is(head: &Head, at: u32, tgt: Option<u32>, cmpl: Option<u32>) -> bool
+    ensures { IsTrue result ↔ (head.now ≡ Head.Put at tgt cmpl) }
+{
+    match head {
+        Head::Put {
+            at: its_at,
+            tgt: its_tgt,
+            cmpl: its_cmpl,
+        } => *its_at == at && *its_tgt == tgt && *its_cmpl == cmpl,
+        _ => false,
+    }
 }

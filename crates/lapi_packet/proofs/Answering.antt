@@ -1,0 +1,44 @@
+-- What an answer says of the bytes.
+use Rattle.std.proofs.Common.{◌≡◌, ℕ, List, Result, Ok, Err, sym, subst, ◌∙◌}
+use Rattle.std.specs.Prelude.{IfOk, IfErr}
+use Rattle.lapi_base.specs.declared.packet.Packet.{Packet}
+use Rattle.lapi_base.specs.declared.reply.Bad.{Bad}
+use Rattle.lapi_base.specs.Spelling.{packet_form, Spells, HasSpelling, Refuses, decoded}
+use Rattle.lapi_packet.specs.Written as written
+use Rattle.lapi_packet.proofs.Spellings.{spelling_is}
+use Rattle.lapi_packet.proofs.Forms.{found, refused}
+use Rattle.lapi_packet.proofs.Numbers.{IsBytes}
+
+pub found_if : (r : Result Packet Bad) (bytes : List ℕ) → IsBytes bytes → r ≡ decoded bytes → IfOk r (λ p. Spells p bytes)
+found_if (Ok p) bytes fits e = found packet_form p bytes fits (sym e)
+found_if (Err bad) bytes fits e = tt
+
+pub refused_if : (r : Result Packet Bad) (bytes : List ℕ) → IsBytes bytes → r ≡ decoded bytes → IfErr r (Refuses bytes)
+refused_if (Ok p) bytes fits e = tt
+refused_if (Err bad) bytes fits e = refused Packet packet_form bad bytes fits (sym e)
+
+-- ---- a packet's own bytes, read again
+
+own_bytes : (p : Packet) (bytes : List ℕ) → bytes ≡ written.packet p → HasSpelling p → Spells p bytes
+own_bytes p bytes e spelled = subst (λ (l : List ℕ). Spells p l) (sym (e ∙ spelling_is p spelled.0 spelled.1)) spelled.1
+
+abbrev pub ok : Packet → Result Packet Bad
+ok p = Ok p
+
+abbrev err : Bad → Result Packet Bad
+err bad = Err bad
+
+pub ok_is : (p q : Packet) → ok p ≡ ok q → p ≡ q
+ok_is p q e = cc
+
+not_both : (bad : Bad) (p : Packet) → err bad ≡ ok p → ⊥
+not_both bad p e = cc
+
+pub has_one : (q p : Packet) (bytes : List ℕ) → q ≡ p → Spells q bytes → HasSpelling p
+has_one q p bytes same s = (bytes, subst (λ (r : Packet). Spells r bytes) same s)
+
+pub is_answer : (q p : Packet) (bytes : List ℕ) → bytes ≡ written.packet p → (r : Result Packet Bad) → r ≡ Ok q → (Spells p bytes → r ≡ Ok p) → HasSpelling p → q ≡ p
+is_answer q p bytes e r is only spelled = ok_is q p (sym is ∙ only (own_bytes p bytes e spelled))
+
+pub has_none : (bad : Bad) (p : Packet) (bytes : List ℕ) → bytes ≡ written.packet p → (r : Result Packet Bad) → r ≡ Err bad → (Spells p bytes → r ≡ Ok p) → HasSpelling p → ⊥
+has_none bad p bytes e r is only spelled = not_both bad p (sym is ∙ only (own_bytes p bytes e spelled))

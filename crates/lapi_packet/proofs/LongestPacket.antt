@@ -1,0 +1,47 @@
+-- A packet whose spelling has 407 bytes.
+use Rattle.std.proofs.Common.{◌≡◌, ℕ, zero, suc, Bool, true, List, [], ◌∷◌, None, refl, arith, replicate}
+use Rattle.std.specs.Prelude.{nat_lt, ◌&&◌}
+use Rattle.std.proofs.lemmas.Bool.{and_parts, ltb-true}
+use Rattle.lapi_base.specs.declared.span.Span.{Span}
+use Rattle.lapi_base.specs.declared.head.Head.TheVariants as heads
+use Rattle.lapi_base.specs.declared.message.Leg.TheVariants.{Go}
+use Rattle.lapi_base.specs.declared.packet.Packet.{Packet}
+use Rattle.lapi_base.specs.declared.packet.Packet.TheVariants as packets
+use Rattle.lapi_base.specs.Form.{bytes_form, repeated}
+use Rattle.lapi_base.specs.Parts.{counter_form, count_form, span_form}
+use Rattle.lapi_base.specs.Heads.{putv_form, operation_form, head_form}
+use Rattle.lapi_base.specs.Spelling.{task_form, kind_form, front_form, leg_form, name_form, length_form, fragment_form, data_form, packet_form, Spells}
+use Rattle.lapi_packet.specs.Written as written
+use Rattle.lapi_packet.proofs.Numbers.{IsBytes}
+use Rattle.lapi_packet.proofs.Forms.{found}
+
+abbrev piece : Span
+piece = record { at = 0; len = 16 }
+
+abbrev pub longest_one : Packet
+longest_one = packets.Data (record {
+  from = 0;
+  to = 1;
+  seq = 0;
+  name = record { origin = 0; statement = 0; leg = Go };
+  head = heads.Putv None None (replicate 16 piece);
+  length = 256;
+  fragment = 0;
+  payload = replicate 256 0;
+})
+
+abbrev pub longest_bytes : List ℕ
+longest_bytes = written.packet longest_one
+
+abbrev all_bytes : List ℕ → Bool
+all_bytes [] = true
+all_bytes (b ∷ bytes) = nat_lt b 256 && all_bytes bytes
+
+bytes_fit : (bytes : List ℕ) → all_bytes bytes ≡ true → IsBytes bytes
+bytes_fit [] e i = omega arith
+bytes_fit (b ∷ bytes) e zero = ltb-true b 256 (and_parts (nat_lt b 256) (all_bytes bytes) e).0
+bytes_fit (b ∷ bytes) e (suc i) = bytes_fit bytes (and_parts (nat_lt b 256) (all_bytes bytes) e).1 i
+
+pub longest_spelled : Spells longest_one longest_bytes
+unfolding packet_form front_form kind_form task_form data_form name_form leg_form operation_form length_form fragment_form head_form putv_form counter_form count_form span_form repeated bytes_form
+longest_spelled = found packet_form longest_one longest_bytes (bytes_fit longest_bytes refl) refl

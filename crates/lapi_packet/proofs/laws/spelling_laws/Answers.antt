@@ -1,0 +1,33 @@
+use Rattle.std.proofs.Common.{◌∙◌, sym, refl}
+use Rattle.lapi_base.specs.Spelling.{packet_form}
+use Rattle.lapi_packet.proofs.Forms.{answer_spelled, no_prefix, at_most_spelling}
+use Rattle.lapi_packet.proofs.Lengths.{at_most_packet}
+use Rattle.lapi_packet.proofs.Spellings.{spelling_is}
+use Rattle.lapi_packet.proofs.Answering.{ok_is}
+use Rattle.lapi_packet.proofs.Faults.{cut_answer, refused_answer}
+use Rattle.lapi_packet.proofs.LongestPacket.{longest_bytes, longest_one, longest_spelled}
+use Rattle.lapi_packet.proofs.laws.spelling_laws.Goals as goal
+
+pub returns-clause-one_spelling : goal.returns-clause-one_spelling
+returns-clause-one_spelling c = λ p a b s t. sym (spelling_is p a s) ∙ spelling_is p b t
+
+pub returns-clause-one_packet : goal.returns-clause-one_packet
+returns-clause-one_packet c = λ p q bytes s t. ok_is p q (sym (answer_spelled packet_form p bytes s) ∙ answer_spelled packet_form q bytes t)
+
+pub returns-clause-round_trip : goal.returns-clause-round_trip
+returns-clause-round_trip c = λ p bytes s. answer_spelled packet_form p bytes s
+
+pub returns-clause-cut : goal.returns-clause-cut
+returns-clause-cut c = λ p front more s some. cut_answer packet_form p front more s some
+
+pub returns-clause-no_prefix : goal.returns-clause-no_prefix
+returns-clause-no_prefix c = λ p q bytes more s t. no_prefix packet_form p q bytes more s t
+
+pub returns-clause-one_fault : goal.returns-clause-one_fault
+returns-clause-one_fault c = λ bytes bad s. refused_answer packet_form bytes bad s
+
+pub returns-clause-longest : goal.returns-clause-longest
+returns-clause-longest c = λ p bytes s. at_most_spelling packet_form 407 p bytes at_most_packet s
+
+pub returns-clause-reached : goal.returns-clause-reached
+returns-clause-reached c = (longest_one, longest_bytes, longest_spelled, refl)

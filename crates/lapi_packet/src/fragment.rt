@@ -1,0 +1,102 @@
+//! A fragment of a message.
+//!
+//! ```text
+//! place  size  field      rule                                             reason
+//! 14     4     length     at most 16,384; 0 with Go of Get, Getv and       Field
+//!                         Rmw, with Note and with Join; 4 with Back of Rmw
+//! 18     2     fragment   below max(1, ceiling of length / 256)            Field
+//! 20           head       (head.rt)
+//!              payload    min(256, length - 256 * fragment) bytes, any
+//! ```
+
+ghost use Rattle.std.specs.Prelude.{◌≡◌, ◌≤◌};
+ghost use Rattle.lapi_base.specs.Form.{bytes_form};
+ghost use Rattle.lapi_base.specs.Layout.{First};
+ghost use Rattle.lapi_base.specs.Spelling.{length_form, fragment_form, is_length, fragments, fragment_size};
+ghost use Rattle.lapi_packet.specs.Codes.{operation_number};
+ghost use Rattle.lapi_packet.specs.Reader.{Reads};
+
+use crate::fault::{Fault, cut_short, refused};
+use crate::number::{read_four, read_two};
+use crate::operation::Operation;
+use lapi_base::{Leg, Payload, Reason};
+
+/// The longest message.
+pub(crate) const LONGEST: u32 = 16_384;
+/// The bytes of each fragment but the last.
+const UNIT: u32 = 256;
+
+#[tactic(auto, unfolding(lapi_base::specs::Spelling::length_form))]
+pub(crate) fn read_length(
+    leg: Leg,
+    operation: Operation,
+    bytes: &[u8],
+) -> Result<(u32, &[u8]), Fault>
+    ensures { Reads (length_form First leg (operation_number operation)) bytes.now result }
+{
+    let (length, rest) = read_four(bytes)?;
+    if !is_length(leg, operation, length) {
+        return Err(refused(bytes, Reason::Field));
+    }
+    Ok((length, rest))
+}
+
+fn is_length(leg: Leg, operation: Operation, length: u32) -> bool
+    ensures { result ≡ is_length First leg (operation_number operation) length }
+{
+    match leg {
+        Leg::Go => match operation {
+            Operation::Get | Operation::Getv | Operation::Rmw => length == 0,
+            _ => length <= LONGEST,
+        },
+        Leg::Back => match operation {
+            Operation::Rmw => length == 4,
+            _ => length <= LONGEST,
+        },
+        Leg::Note | Leg::Join(_) => length == 0,
+    }
+}
+
+#[tactic(auto, unfolding(lapi_base::specs::Spelling::fragment_form))]
+pub(crate) fn read_number(length: u32, bytes: &[u8]) -> Result<(u32, &[u8]), Fault>
+    ensures { Reads (fragment_form First length) bytes.now result }
+{
+    let (fragment, rest) = read_two(bytes)?;
+    if fragment >= fragments(length) {
+        return Err(refused(bytes, Reason::Field));
+    }
+    Ok((fragment, rest))
+}
+
+/// How many fragments a message has.
+fn fragments(length: u32) -> u32
+    ensures { result ≡ fragments First length }
+{
+    length.div_ceil(UNIT).max(1)
+}
+
+/// How many bytes a fragment of a message has.
+fn size_of(length: u32, fragment: u32) -> usize
+    ensures size { result ≡ fragment_size First length fragment }
+    ensures bounded { result ≤ 256 }
+{
+    UNIT.min(length.saturating_sub(fragment.saturating_mul(UNIT))) as usize
+}
+
+#[tactic(auto, using(crate::proofs::Lists::read_bytes))]
+pub(crate) fn read_payload(
+    length: u32,
+    fragment: u32,
+    bytes: &[u8],
+) -> Result<(Payload, &[u8]), Fault>
+    ensures { Reads (bytes_form (fragment_size First length fragment)) bytes.now result }
+{
+    let size = size_of(length, fragment);
+    if bytes.len() < size {
+        return Err(cut_short());
+    }
+    let (front, rest) = bytes.split_at(size);
+    let mut payload = Payload::new();
+    payload.extend_from_slice(front);
+    Ok((payload, rest))
+}

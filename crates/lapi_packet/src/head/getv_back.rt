@@ -1,0 +1,53 @@
+//! The head of Getv with Back.
+//!
+//! ```text
+//! size  field   rule                                        reason
+//! 1     org     below 64, or ff for none                    Field
+//! 1     count   1 to 16                                     Field
+//! 8     dest    each at most what is left of length,        Field
+//!               and the last all of it
+//! ```
+
+ghost use Rattle.std.specs.Prelude.{◌≡◌, ◌↔◌, IsTrue, ◌≤◌, ◌+◌, ◌++◌, length};
+ghost use Rattle.lapi_base.specs.Heads.{getv_back_form};
+ghost use Rattle.lapi_packet.specs.Reader.{Reads};
+ghost use Rattle.lapi_packet.specs.Written as written;
+
+use crate::fault::Fault;
+use crate::number::write_one;
+use crate::{counter, spans};
+use lapi_base::{Frame, Head, Spans};
+
+#[tactic(auto, using(crate::proofs::Forms::read_bind), unfolding(lapi_base::specs::Heads::getv_back_form))]
+pub(crate) fn read(length: u32, bytes: &[u8]) -> Result<(Head, &[u8]), Fault>
+    ensures { Reads (getv_back_form length) bytes.now result }
+{
+    let (org, rest) = counter::read(bytes)?;
+    let (count, rest) = spans::read_count(rest)?;
+    let (dest, rest) = spans::read_covering(length, count, rest)?;
+    Ok((Head::GetvBack { org, dest }, rest))
+}
+
+pub(crate) fn write(org: Option<u32>, dest: &Spans, out: &mut Frame)
+    requires { length out.old + 130 ≤ 640 }
+    ensures bytes { out.new ≡ out.old ++ written.head (Head.GetvBack org dest.now) }
+    ensures room { length out.new ≤ length out.old + 130 }
+{
+    counter::write(org, out);
+    let dest = dest.as_slice();
+    write_one(dest.len() as u32, out);
+    spans::write(dest, out);
+}
+
+/// Whether a head is this one.
+pub(crate) fn is(head: &Head, org: Option<u32>, dest: &Spans) -> bool
+    ensures { IsTrue result ↔ (head.now ≡ Head.GetvBack org dest.now) }
+{
+    match head {
+        Head::GetvBack {
+            org: its_org,
+            dest: its_dest,
+        } => *its_org == org && spans::same(its_dest, dest),
+        _ => false,
+    }
+}

@@ -1,0 +1,83 @@
+//! The head of Getv with Go.
+//!
+//! ```text
+//! size  field   rule                                        reason
+//! 1     tgt     below 64, or ff for none                    Field
+//! 1     org     below 64, or ff for none                    Field
+//! 1     count   1 to 16                                     Field
+//! 8     source  the lengths so far at most 16,384           Field
+//! 8     dest    each as long as the span of source          Field
+//! ```
+
+ghost use Rattle.std.specs.Prelude.{◌≡◌, ◌↔◌, IsTrue, ◌≤◌, ◌+◌, ◌++◌, length};
+ghost use Rattle.lapi_base.specs.Heads.{getv_go_form};
+ghost use Rattle.lapi_base.specs.Layout.{First};
+ghost use Rattle.lapi_packet.specs.Reader.{Reads};
+ghost use Rattle.lapi_packet.specs.Written as written;
+
+use crate::fault::Fault;
+use crate::fragment::LONGEST;
+use crate::number::write_one;
+use crate::{counter, spans};
+use lapi_base::{Frame, Head, Spans};
+
+#[tactic(auto, using(crate::proofs::Forms::read_bind), unfolding(lapi_base::specs::Heads::getv_go_form))]
+pub(crate) fn read(bytes: &[u8]) -> Result<(Head, &[u8]), Fault>
+    ensures { Reads (getv_go_form First) bytes.now result }
+{
+    let (tgt, rest) = counter::read(bytes)?;
+    let (org, rest) = counter::read(rest)?;
+    let (count, rest) = spans::read_count(rest)?;
+    let (source, rest) = spans::read_within(LONGEST, count, rest)?;
+    let (dest, rest) = spans::read_matching(source.as_slice(), rest)?;
+    let head = Head::GetvGo {
+        tgt,
+        org,
+        source,
+        dest,
+    };
+    Ok((head, rest))
+}
+
+pub(crate) fn write(
+    tgt: Option<u32>,
+    org: Option<u32>,
+    source: &Spans,
+    dest: &Spans,
+    out: &mut Frame,
+)
+    requires { length out.old + 259 ≤ 640 }
+    ensures bytes { out.new ≡ out.old ++ written.head (Head.GetvGo tgt org source.now dest.now) }
+    ensures room { length out.new ≤ length out.old + 259 }
+{
+    counter::write(tgt, out);
+    counter::write(org, out);
+    let source = source.as_slice();
+    write_one(source.len() as u32, out);
+    spans::write(source, out);
+    spans::write(dest.as_slice(), out);
+}
+
+/// Whether a head is this one.
+pub(crate) fn is(
+    head: &Head,
+    tgt: Option<u32>,
+    org: Option<u32>,
+    source: &Spans,
+    dest: &Spans,
+) -> bool
+    ensures { IsTrue result ↔ (head.now ≡ Head.GetvGo tgt org source.now dest.now) }
+{
+    match head {
+        Head::GetvGo {
+            tgt: its_tgt,
+            org: its_org,
+            source: its_source,
+            dest: its_dest,
+        } => *its_tgt == tgt
+            && *its_org == org
+            && spans::same(its_source, source)
+            && spans::same(its_dest, dest),
+        _ => false,
+    }
+}

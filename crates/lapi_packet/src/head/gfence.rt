@@ -1,0 +1,55 @@
+//! The head of Gfence with Join.
+//!
+//! ```text
+//! size  field   rule                                        reason
+//! 2     round   at most 511                                 Field
+//! ```
+
+ghost use Rattle.std.specs.Prelude.{◌≡◌, ◌↔◌, IsTrue, ◌≤◌, ◌+◌, ◌++◌, length};
+ghost use Rattle.lapi_base.specs.Heads.{gfence_form, round_form};
+ghost use Rattle.lapi_packet.specs.Reader.{Reads};
+ghost use Rattle.lapi_packet.specs.Written as written;
+
+use crate::fault::{Fault, refused};
+use crate::number::{read_two, write_two};
+use lapi_base::{Frame, Head, Reason};
+
+const LAST_ROUND: u32 = 511;
+
+#[tactic(auto, using(crate::proofs::Forms::read_bind), unfolding(lapi_base::specs::Heads::gfence_form))]
+pub(crate) fn read(bytes: &[u8]) -> Result<(Head, &[u8]), Fault>
+    ensures { Reads gfence_form bytes.now result }
+{
+    let (round, rest) = read_round(bytes)?;
+    Ok((Head::Gfence { round }, rest))
+}
+
+pub(crate) fn write(round: u32, out: &mut Frame)
+    requires { length out.old + 2 ≤ 640 }
+    ensures bytes { out.new ≡ out.old ++ written.head (Head.Gfence round) }
+    ensures room { length out.new ≤ length out.old + 2 }
+{
+    write_two(round, out);
+}
+
+/// The number of a collective call.
+#[tactic(auto, unfolding(lapi_base::specs::Heads::round_form))]
+pub(super) fn read_round(bytes: &[u8]) -> Result<(u32, &[u8]), Fault>
+    ensures { Reads round_form bytes.now result }
+{
+    let (round, rest) = read_two(bytes)?;
+    if round > LAST_ROUND {
+        return Err(refused(bytes, Reason::Field));
+    }
+    Ok((round, rest))
+}
+
+/// Whether a head is this one.
+pub(crate) fn is(head: &Head, round: u32) -> bool
+    ensures { IsTrue result ↔ (head.now ≡ Head.Gfence round) }
+{
+    match head {
+        Head::Gfence { round: its_round } => *its_round == round,
+        _ => false,
+    }
+}

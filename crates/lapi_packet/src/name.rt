@@ -1,0 +1,50 @@
+//! A message's name.
+//!
+//! ```text
+//! place  size  field      rule                 reason
+//! 9      1     origin     equals from or to    Task
+//! 10     2     statement  at most 511          Field
+//! 12     1     leg        (leg.rt)             Kind
+//! ```
+
+ghost use Rattle.std.specs.Prelude.{◌≡◌, ◌≤◌, ◌+◌, ◌++◌, length};
+ghost use Rattle.lapi_base.specs.Spelling.{name_form};
+ghost use Rattle.lapi_packet.specs.Reader.{Reads};
+ghost use Rattle.lapi_packet.specs.Written as written;
+
+use crate::fault::{Fault, refused};
+use crate::leg;
+use crate::number::{read_one, read_two, write_one, write_two};
+use lapi_base::{Frame, MsgName, Reason};
+
+const LAST_STATEMENT: u32 = 511;
+
+#[tactic(auto, using(crate::proofs::Forms::read_bind), unfolding(lapi_base::specs::Spelling::name_form))]
+pub(crate) fn read(from: u32, to: u32, bytes: &[u8]) -> Result<(MsgName, &[u8]), Fault>
+    ensures { Reads (name_form from to) bytes.now result }
+{
+    let (origin, after_origin) = read_one(bytes)?;
+    if origin != from && origin != to {
+        return Err(refused(bytes, Reason::Task));
+    }
+    let (statement, rest) = read_two(after_origin)?;
+    if statement > LAST_STATEMENT {
+        return Err(refused(after_origin, Reason::Field));
+    }
+    let (leg, rest) = leg::read(from, to, origin, rest)?;
+    let name = MsgName {
+        origin,
+        statement,
+        leg,
+    };
+    Ok((name, rest))
+}
+
+pub(crate) fn write(name: MsgName, out: &mut Frame)
+    requires { length out.old + 4 ≤ 640 }
+    ensures { out.new ≡ out.old ++ written.name name }
+{
+    write_one(name.origin, out);
+    write_two(name.statement, out);
+    write_one(leg::number_of(name.leg), out);
+}
