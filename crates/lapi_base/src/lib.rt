@@ -41,7 +41,7 @@ pub use payload::Payload;
 pub use piece::{Piece, PieceList};
 pub use refusal::Refusal;
 pub use reply::{Bad, Reason, Replies, Reply};
-pub use rule::{Choice, CompletionRule, HeaderRule, Place};
+pub use rule::{Choice, CompletionRule, CompletionRules, HeaderRule, HeaderRules, Place, Rules};
 pub use schedule::{Act, Line, Schedule};
 pub use script::Script;
 pub use span::{Span, Spans};

@@ -1,3 +1,9 @@
+ghost use Rattle.std.specs.Prelude.{◌≡◌, [], ◌∷◌, ◌++◌, OnOk, OnErr};
+
+use crate::memory::Memory;
+use std::alloc::Global;
+use std::marker::Model;
+
 /// Where a header handler puts a message.
 #[derive(Clone, Copy, Debug, Eq, PartialEq)]
 pub enum Place {
@@ -33,4 +39,93 @@ pub enum CompletionRule {
     Sum,
     Same,
     Reversed,
+}
+
+/// The rules of the header handlers, by their number.
+#[derive(Debug, Drop)]
+pub struct HeaderRules {
+    items: Vec<HeaderRule>,
+}
+
+impl Model for HeaderRules {
+    ghost use Rattle.std.specs.Prelude.{List};
+    ghost use Rattle.lapi_base.specs.declared.rule.HeaderRule.{HeaderRule};
+
+    ghost Value = { List HeaderRule };
+
+    ghost view = { λ list. list.items.items };
+}
+
+impl HeaderRules {
+    /// The empty list, which takes no memory yet.
+    pub fn new(alloc: Global) -> HeaderRules
+        ensures { result ≡ [] }
+    {
+        HeaderRules {
+            items: Vec::new(alloc),
+        }
+    }
+
+    /// Appends a rule.
+    pub fn push(&mut self, item: HeaderRule) -> Result<(), Memory>
+        ensures ok { OnOk result (self.new ≡ self.old ++ item ∷ []) }
+        ensures err { OnErr result (self.new ≡ self.old) }
+    {
+        self.items.push(item)?;
+        Ok(())
+    }
+
+    pub fn as_slice(&self) -> &[HeaderRule]
+        ensures { result.now ≡ self.now }
+    {
+        self.items.as_slice()
+    }
+}
+
+/// The rules of the completion handlers, by their number.
+#[derive(Debug, Drop)]
+pub struct CompletionRules {
+    items: Vec<CompletionRule>,
+}
+
+impl Model for CompletionRules {
+    ghost use Rattle.std.specs.Prelude.{List};
+    ghost use Rattle.lapi_base.specs.declared.rule.CompletionRule.{CompletionRule};
+
+    ghost Value = { List CompletionRule };
+
+    ghost view = { λ list. list.items.items };
+}
+
+impl CompletionRules {
+    /// The empty list, which takes no memory yet.
+    pub fn new(alloc: Global) -> CompletionRules
+        ensures { result ≡ [] }
+    {
+        CompletionRules {
+            items: Vec::new(alloc),
+        }
+    }
+
+    /// Appends a rule.
+    pub fn push(&mut self, item: CompletionRule) -> Result<(), Memory>
+        ensures ok { OnOk result (self.new ≡ self.old ++ item ∷ []) }
+        ensures err { OnErr result (self.new ≡ self.old) }
+    {
+        self.items.push(item)?;
+        Ok(())
+    }
+
+    pub fn as_slice(&self) -> &[CompletionRule]
+        ensures { result.now ≡ self.now }
+    {
+        self.items.as_slice()
+    }
+}
+
+/// What all handlers answer.
+#[derive(Debug, Drop)]
+pub struct Rules {
+    pub headers: HeaderRules,
+    pub completions: CompletionRules,
 }

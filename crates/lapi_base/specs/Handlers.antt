@@ -1,0 +1,93 @@
+-- What header and completion handlers answer, by their rules, and what follows for an active message: its
+-- buffer, whether it has a completion, and the effect. That a header handler names buffer, completion handler and
+-- user value follows the RSCT LAPI Programming Guide, SA22-7936, in outline; the rules are this project's own.
+use Rattle.std.specs.Prelude.{ℕ, ◌+◌, ◌*◌, ◌%◌, ◌/◌, ◌^◌, nat_le, nat_lt, Bool, cond, ◌&&◌, List, [], ◌∷◌, length, take, drop, reverse, slice_index_or, Option, Some, None, unwrap_or, is_some}
+use Rattle.std.specs.List.{sum, fold}
+use Rattle.lapi_base.specs.declared.span.Span.{Span}
+use Rattle.lapi_base.specs.declared.statement.Statement.{Statement}
+use Rattle.lapi_base.specs.declared.statement.Statement.TheVariants.{Am}
+use Rattle.lapi_base.specs.declared.script.Script.{Script}
+use Rattle.lapi_base.specs.declared.message.Leg.TheVariants.{Go}
+use Rattle.lapi_base.specs.declared.message.MsgName.{MsgName}
+use Rattle.lapi_base.specs.declared.rule.Rules.{Rules}
+use Rattle.lapi_base.specs.declared.rule.HeaderRule.{HeaderRule}
+use Rattle.lapi_base.specs.declared.rule.CompletionRule.{CompletionRule}
+use Rattle.lapi_base.specs.declared.rule.CompletionRule.TheVariants.{Nothing, Sum, Same, Reversed}
+use Rattle.lapi_base.specs.declared.rule.Place.{Place}
+use Rattle.lapi_base.specs.declared.rule.Place.TheVariants.{PerOrigin, Fixed, Nowhere}
+use Rattle.lapi_base.specs.declared.rule.Choice.{Choice}
+use Rattle.lapi_base.specs.declared.rule.Choice.TheVariants.{Never, Always}
+use Rattle.lapi_base.specs.Operations.{statement, is_am, message_length}
+
+-- Words are four bytes, the highest first.
+unfoldable pub number_of : List ℕ → ℕ
+number_of bytes = fold (λ n b. 256 * n + b) 0 bytes
+
+unfoldable pub word_bytes : ℕ → List ℕ
+word_bytes n = n / 2 ^ 24 % 256 ∷ n / 2 ^ 16 % 256 ∷ n / 2 ^ 8 % 256 ∷ n % 256 ∷ []
+
+unfoldable pub header_word : List ℕ → ℕ → Option ℕ
+header_word header i = cond (nat_le (4 * i + 4) (length header)) (Some (number_of (take 4 (drop (4 * i) header)))) None
+
+abbrev pub place_by : Place → (origin : ℕ) → (header : List ℕ) → Option ℕ
+place_by Place.Word origin header = header_word header 0
+place_by (PerOrigin base step) origin header = Some (base + origin * step)
+place_by (Fixed at) origin header = Some at
+place_by Nowhere origin header = None
+
+abbrev pub choice_by : Choice → (header : List ℕ) → Option ℕ
+choice_by Never header = None
+choice_by (Always n) header = Some n
+choice_by Choice.Word header = header_word header 2
+
+-- The answers for an active message.
+abbrev pub handler_of : Statement → ℕ
+handler_of (Am target handler header from len tgt org cmpl) = handler
+handler_of _ = 0
+
+abbrev pub user_header : Statement → List ℕ
+user_header (Am target handler header from len tgt org cmpl) = header
+user_header _ = []
+
+abbrev pub no_rule : HeaderRule
+no_rule = record { place = Nowhere; choice = Never }
+
+abbrev pub rule_of : Rules → Statement → HeaderRule
+rule_of rules s = slice_index_or rules.headers (handler_of s) no_rule
+
+abbrev pub kept_place : (memory length : ℕ) → Option ℕ → List Span
+kept_place memory len None = []
+kept_place memory len (Some at) = cond (nat_le (at + len) memory) (record { at = at; len = len } ∷ []) []
+
+-- the buffer: no piece where the data are discarded
+unfoldable pub buffer : Script → Rules → MsgName → List Span
+buffer script rules m =
+    let s = statement script m.origin m.statement in
+    kept_place script.memory (message_length script m) (place_by (rule_of rules s).place m.origin (user_header s))
+
+abbrev pub kept_choice : (completions : ℕ) → Option ℕ → Option ℕ
+kept_choice count None = None
+kept_choice count (Some n) = cond (nat_lt n count) (Some n) None
+
+-- the completion handler that the header handler names
+unfoldable pub completion : Script → Rules → MsgName → Option ℕ
+completion script rules m =
+    let s = statement script m.origin m.statement in
+    kept_choice (length rules.completions) (choice_by (rule_of rules s).choice (user_header s))
+
+unfoldable pub user : Script → MsgName → ℕ
+user script m = unwrap_or (header_word (user_header (statement script m.origin m.statement)) 1) 0
+
+-- operation a.i has an active message with a completion
+unfoldable pub has_completion : Script → Rules → ℕ → ℕ → Bool
+has_completion script rules a i = is_am (statement script a i) && is_some (completion script rules (record { origin = a; statement = i; leg = Go }))
+
+-- What a completion handler writes for this user value and buffer: a place and bytes.
+abbrev pub effect : CompletionRule → ℕ → List ℕ → List (ℕ × List ℕ)
+effect Nothing at bytes = []
+effect Sum at bytes = (at, word_bytes (sum bytes % 2 ^ 32)) ∷ []
+effect Same at bytes = (at, bytes) ∷ []
+effect Reversed at bytes = (at, reverse bytes) ∷ []
+
+unfoldable pub effect_of : Script → Rules → MsgName → List ℕ → List (ℕ × List ℕ)
+effect_of script rules m bytes = effect (slice_index_or rules.completions (unwrap_or (completion script rules m) 0) Nothing) (user script m) bytes

@@ -1,0 +1,49 @@
+-- What is bounded on a link: how far numbers run ahead, how many messages are there in part, how great numbers
+-- get. These are words of this project for its laws.
+use Rattle.std.specs.Prelude.{◌≡◌, ℕ, ◌+◌, ◌^◌, ◌<◌, ◌≤◌, true, false, List, length, slice_get, Some}
+use Rattle.std.specs.List.{AllByRecursion, IsDistinct}
+use Rattle.lapi_base.specs.declared.script.Script.{Script}
+use Rattle.lapi_base.specs.declared.rule.Rules.{Rules}
+use Rattle.lapi_base.specs.declared.message.MsgName.{MsgName}
+use Rattle.lapi_base.specs.Layout.{window_of}
+use Rattle.lapi_base.specs.Below.{least_missing}
+use Rattle.lapi_base.specs.Names.{name_eq}
+use Rattle.lapi_base.specs.Record.{Run, out, base, is_sent, is_delivered, is_acked}
+use Rattle.lapi_base.specs.Valid.{ValidScript}
+
+module _ (script : Script) (rules : Rules) where
+  -- the least number of the link from a to b that wasn't delivered
+  abbrev pub least_undelivered : Run → (from to : ℕ) → ℕ
+  least_undelivered r a b = least_missing (length (out script r.journal a b)) (is_delivered r a b)
+
+  -- what is acknowledged was delivered
+  abbrev pub AckedAreDelivered : Run → Type 0
+  AckedAreDelivered r = (a b n : ℕ) → is_acked r a b n ≡ true → is_delivered r a b n ≡ true
+
+  -- every number on a wire is below the least that isn't acknowledged, plus the window
+  abbrev pub SentAreInWindow : Run → Type 0
+  SentAreInWindow r = (a b n : ℕ) → is_sent r a b n ≡ true → n < base script r a b + window_of script
+
+  -- number n of the link is one of message m
+  abbrev pub IsNumberOf : Run → (from to : ℕ) → MsgName → ℕ → Type 0
+  IsNumberOf r a b m n = (j : ℕ) × (slice_get (out script r.journal a b) n ≡ Some (m, j))
+
+  -- one number of the message was delivered, and one wasn't
+  abbrev pub IsPartlyDelivered : Run → (from to : ℕ) → MsgName → Type 0
+  IsPartlyDelivered r a b m = (n : ℕ) × (k : ℕ) × IsNumberOf r a b m n × (is_delivered r a b n ≡ true) × IsNumberOf r a b m k × (is_delivered r a b k ≡ false)
+
+  -- every number on a wire is below the least that wasn't delivered, plus the window
+  abbrev pub StaysInWindow : Run → Type 0
+  StaysInWindow r = (a b n : ℕ) → is_sent r a b n ≡ true → n < least_undelivered r a b + window_of script
+
+  -- on each link at most as many different messages are partly delivered as the window has numbers
+  abbrev pub FewArePartial : Run → Type 0
+  FewArePartial r = (a b : ℕ) (ms : List MsgName) → IsDistinct name_eq ms → AllByRecursion (IsPartlyDelivered r a b) ms → length ms ≤ window_of script
+
+  -- every number on a wire of a valid script is below 2^22
+  abbrev pub NumbersAreSmall : Run → Type 0
+  NumbersAreSmall r = ValidScript script → (a b n : ℕ) → is_sent r a b n ≡ true → n < 2 ^ 22
+
+  -- so every number on a wire fits in four bytes
+  abbrev pub NumbersFit : Run → Type 0
+  NumbersFit r = ValidScript script → (a b n : ℕ) → is_sent r a b n ≡ true → n < 2 ^ 32

@@ -1,0 +1,300 @@
+-- The record of a run: the replies, the entries of each wire, what was handed over, and the journal, and what
+-- each schedule line adds to them. What the two fences wait for, windows, acknowledgements and lines are this
+-- project's own; that statements go in order and wait follows the RSCT LAPI Programming Guide, SA22-7936, in outline.
+use Rattle.std.specs.Prelude.{ℕ, ◌+◌, ◌-◌, ◌==◌, nat_le, nat_lt, Bool, true, false, cond, ◌&&◌, ◌||◌, not, List, [], ◌∷◌, ◌++◌, length, map, filter, slice_get, Option, Some, None, is_some, option_to_list}
+use Rattle.std.specs.List.{list_any, flat_map, zip}
+use Rattle.lapi_base.specs.declared.statement.Statement.{Statement}
+use Rattle.lapi_base.specs.declared.statement.Statement.TheVariants.{Wait, Fence, Gfence}
+use Rattle.lapi_base.specs.declared.script.Script.{Script}
+use Rattle.lapi_base.specs.declared.rule.Rules.{Rules}
+use Rattle.lapi_base.specs.declared.message.Leg.TheVariants.{Go, Back, Note, Join}
+use Rattle.lapi_base.specs.declared.message.MsgName.{MsgName}
+use Rattle.lapi_base.specs.declared.event.Event.{Event}
+use Rattle.lapi_base.specs.declared.event.Event.TheVariants.{Issue, Refuse, Enter, Pass, Copy, Head, Land}
+use Rattle.lapi_base.specs.declared.schedule.Act.{Act}
+use Rattle.lapi_base.specs.declared.schedule.Act.TheVariants.{Step, Poll, Tick, Deliver, Cut, Inject}
+use Rattle.lapi_base.specs.declared.reply.Reason.TheVariants.{Short}
+use Rattle.lapi_base.specs.declared.refusal.Refusal.{Refusal}
+use Rattle.lapi_base.specs.declared.reply.Bad.{Bad}
+use Rattle.lapi_base.specs.declared.reply.Reply.{Reply}
+use Rattle.lapi_base.specs.declared.reply.Reply.TheVariants.{Did, Blocked, Absent, Idle, Busy}
+use Rattle.lapi_base.specs.declared.packet.Packet.{Packet}
+use Rattle.lapi_base.specs.declared.packet.Packet.TheVariants.{Data, Ack}
+use Rattle.lapi_base.specs.Layout.{window_of}
+use Rattle.lapi_base.specs.Below.{every_below, below, least_missing, has_bit, bits_of}
+use Rattle.lapi_base.specs.Names.{message, name_eq, leg_eq, Issued, Entered, Copied, Landed, done}
+use Rattle.lapi_base.specs.Operations.{upto, statements, statement, is_data, is_am, has_back, has_join, cmpl_counter, sender, receiver, fragments}
+use Rattle.lapi_base.specs.Handlers.{has_completion}
+use Rattle.lapi_base.specs.Values.{values}
+use Rattle.lapi_base.specs.Counters.{count}
+use Rattle.lapi_base.specs.Refusals.{next, joined, why}
+use Rattle.lapi_base.specs.Jobs.{queue, runs}
+use Rattle.lapi_base.specs.Packets.{data_packet}
+
+-- After some lines: the replies in order, each wire's entries in order, those handed over on each wire (the latest first), and the journal (the latest first).
+pub record Run : Type 0 where
+  pub replies : List Reply
+  pub wire : (from to : ℕ) → List Packet
+  pub handed : (from to : ℕ) → List Packet
+  pub journal : List Event
+
+abbrev pub start : Run
+start = record { replies = []; wire = λ a b. []; handed = λ a b. []; journal = [] }
+
+-- Numbers on a link.
+
+-- the messages that were copied on the link from a to b, with each fragment: the place of a pair is its number
+unfoldable pub out : Script → List Event → (from to : ℕ) → List (MsgName × ℕ)
+out script [] a b = []
+out script (Copy m ∷ J) a b = cond (sender script m == a && receiver script m == b) (out script J a b ++ fragments script m) (out script J a b)
+out script (e ∷ J) a b = out script J a b
+
+abbrev pub is_number : ℕ → Packet → Bool
+is_number n (Data p) = p.seq == n
+is_number n (Ack from to base bits) = false
+
+-- an acknowledgement tells of every number below its base, and of base + i for each bit i that is set
+abbrev pub covers : ℕ → Packet → Bool
+covers n (Data p) = false
+covers n (Ack from to base bits) = nat_lt n base || has_bit bits (n - base)
+
+-- among these packets one has this number; one of them acknowledges it
+unfoldable pub has_number : List Packet → ℕ → Bool
+has_number packets n = list_any (is_number n) packets
+
+unfoldable pub has_ack : List Packet → ℕ → Bool
+has_ack packets n = list_any (covers n) packets
+
+abbrev pub is_sent : Run → (from to : ℕ) → ℕ → Bool
+is_sent r a b = has_number (r.wire a b)
+
+abbrev pub is_delivered : Run → (from to : ℕ) → ℕ → Bool
+is_delivered r a b = has_number (r.handed a b)
+
+abbrev pub is_acked : Run → (from to : ℕ) → ℕ → Bool
+is_acked r a b = has_ack (r.handed b a)
+
+module _ (script : Script) where
+  -- the least number that is not acknowledged to a
+  unfoldable pub base : Run → (from to : ℕ) → ℕ
+  base r a b = least_missing (length (out script r.journal a b)) (is_acked r a b)
+
+  -- the pair with number n is of message m
+  abbrev pub is_of : MsgName → Option (MsgName × ℕ) → Bool
+  is_of m None = false
+  is_of m (Some pair) = name_eq m pair.0
+
+  -- every number of message m is in the set, and some number of it is
+  unfoldable pub all_numbers : List (MsgName × ℕ) → MsgName → (ℕ → Bool) → Bool
+  all_numbers pairs m set = every_below (length pairs) (λ n. not (is_of m (slice_get pairs n)) || set n)
+
+  unfoldable pub some_number : List (MsgName × ℕ) → MsgName → (ℕ → Bool) → Bool
+  some_number pairs m set = not (every_below (length pairs) (λ n. not (is_of m (slice_get pairs n) && set n)))
+
+  -- Data-done: the data were copied and all their numbers are acknowledged; where data come back, they have landed.
+  unfoldable pub data_done : Run → ℕ → ℕ → Bool
+  data_done r a i =
+      cond (has_back (statement script a i))
+      (done (Landed (message a i Back)) r.journal)
+      (let m = message a i Go in done (Copied m) r.journal && all_numbers (out script r.journal a (receiver script m)) m (is_acked r a (receiver script m)))
+
+  -- every issued data operation of a before statement i is data-done
+  unfoldable pub data_clear : Run → ℕ → ℕ → Bool
+  data_clear r a i = every_below i (λ j. not (is_data (statement script a j) && done (Issued a j) r.journal) || data_done r a j)
+
+  -- What a Poll copies: in statement order, and of one statement by the target.
+  abbrev pub joins : ℕ → ℕ → List MsgName
+  joins a i = map (λ d. message a i (Join d)) (filter (λ d. not (d == a)) (upto script.tasks))
+
+  abbrev pub to_copy_of : List Event → ℕ → ℕ → List MsgName
+  to_copy_of J t i =
+      cond (is_data (statement script t i) && done (Issued t i) J)
+      (message t i Go ∷ [])
+      (cond (has_join (statement script t i) && done (Entered t i) J) (joins t i) [])
+
+  -- the messages of t that may be copied, whether they were or not
+  unfoldable pub ready : List Event → ℕ → List MsgName
+  ready J t = flat_map (to_copy_of J t) (upto (length (statements script t)))
+
+-- a Copy of each of these messages that has none, in order
+unfoldable pub copy_each : List Event → List MsgName → List Event
+copy_each J [] = J
+copy_each J (m ∷ ms) = copy_each (cond (done (Copied m) J) J (Copy m ∷ J)) ms
+
+-- a journal with these events after it, in order
+unfoldable pub followed : List Event → List Event → List Event
+followed J [] = J
+followed J (e ∷ es) = followed (e ∷ J) es
+
+module _ (script : Script) (rules : Rules) where
+  -- the packet of number n on the link from a to b
+  abbrev pub packet_of : List Event → ℕ → Option (MsgName × ℕ) → List Packet
+  packet_of J n None = []
+  packet_of J n (Some pair) = data_packet script pair.0 n pair.1 ((values script rules J).bytes pair.0) ∷ []
+
+  unfoldable pub packets : List Event → (from to : ℕ) → List ℕ → List Packet
+  packets J a b numbers = flat_map (λ n. packet_of J n (slice_get (out script J a b) n)) numbers
+
+  -- Poll: the numbers that it sends, the journal being the one with its Copy events.
+  unfoldable pub fresh : Run → List Event → (from to : ℕ) → List ℕ
+  fresh r J a b = below (length (out script J a b)) (λ n. not (is_sent r a b n) && nat_lt n (base script (record r { journal = J }) a b + window_of script))
+
+  abbrev pub reply_with : Run → Reply → Run
+  reply_with r reply = record r { replies = r.replies ++ reply ∷ [] }
+
+  unfoldable pub poll : Run → ℕ → Run
+  poll r t =
+      let J = copy_each r.journal (ready script r.journal t) in record {
+        replies = r.replies ++ Did ∷ [];
+        wire = λ a b. cond (a == t) (r.wire a b ++ packets J a b (fresh r J a b)) (r.wire a b);
+        handed = r.handed;
+        journal = J;
+      }
+
+  -- Tick: the numbers that it sends again.
+  unfoldable pub stale : Run → (from to : ℕ) → List ℕ
+  stale r a b = below (length (out script r.journal a b)) (λ n. is_sent r a b n && not (is_acked r a b n))
+
+  unfoldable pub tick : Run → ℕ → Run
+  tick r t = record {
+    replies = r.replies ++ Did ∷ [];
+    wire = λ a b. cond (a == t) (r.wire a b ++ packets r.journal a b (stale r a b)) (r.wire a b);
+    handed = r.handed;
+    journal = r.journal;
+  }
+
+  -- Deliver: what follows the Land of a message.
+  abbrev pub note_of : MsgName → List Event
+  note_of m = cond (is_some (cmpl_counter (statement script m.origin m.statement))) (Copy (message m.origin m.statement Note) ∷ []) []
+
+  abbrev pub after_land : MsgName → List Event
+  after_land m =
+      cond (leg_eq m.leg Go)
+      (cond (has_back (statement script m.origin m.statement))
+      (Copy (message m.origin m.statement Back) ∷ [])
+      (cond (has_completion script rules m.origin m.statement) [] (note_of m)))
+      []
+
+  -- the events of the first delivery of number n, which is of message m; r is before it
+  unfoldable pub arrival : Run → (from to : ℕ) → MsgName → ℕ → List Event
+  arrival r a b m n =
+      let pairs = out script r.journal a b in
+      cond (is_am (statement script m.origin m.statement) && leg_eq m.leg Go && not (some_number script pairs m (is_delivered r a b))) (Head m ∷ []) []
+      ++ cond (all_numbers script pairs m (λ k. k == n || is_delivered r a b k)) (Land m ∷ after_land m) []
+
+  -- the acknowledgement of what was delivered on the link from a to b
+  unfoldable pub ack : Run → (from to : ℕ) → Packet
+  ack r a b =
+      let least = least_missing (length (out script r.journal a b)) (is_delivered r a b) in
+      Ack b a least (bits_of (window_of script) (λ i. is_delivered r a b (least + i)))
+
+  abbrev pub with_handed : Run → (from to : ℕ) → Packet → Run
+  with_handed r a b p = record r { handed = λ x y. cond (x == a && y == b) (p ∷ r.handed x y) (r.handed x y) }
+
+  abbrev pub with_entry : Run → (from to : ℕ) → Packet → Run
+  with_entry r a b p = record r { wire = λ x y. cond (x == a && y == b) (r.wire x y ++ p ∷ []) (r.wire x y) }
+
+  abbrev pub with_events : Run → List Event → Run
+  with_events r es = record r { journal = followed r.journal es }
+
+  unfoldable pub hand_over : Run → (from to : ℕ) → Packet → Run
+  hand_over r a b (Ack from to least bits) = with_handed r a b (Ack from to least bits)
+  hand_over r a b (Data p) =
+      let s = with_handed r a b (Data p) in
+      let t = with_events s (cond (is_delivered r a b p.seq) [] (arrival r a b p.name p.seq)) in
+      with_entry t b a (ack s a b)
+
+  abbrev pub deliver_entry : Run → (from to : ℕ) → Option Packet → Run
+  deliver_entry r a b None = reply_with r Absent
+  deliver_entry r a b (Some p) = reply_with (hand_over r a b p) Did
+
+  unfoldable pub deliver : Run → (from to : ℕ) → ℕ → Run
+  deliver r a b k = deliver_entry r a b (slice_get (r.wire a b) k)
+
+  -- Step: the event of the next statement, if its condition holds.
+  abbrev pub event_if : Bool → Event → Option Event
+  event_if b e = cond b (Some e) None
+
+  abbrev pub proposed : Run → ℕ → ℕ → Statement → Option Event
+  proposed r a i (Wait counter value) = event_if (nat_le value (count script rules r.journal a counter)) (Pass a i)
+  proposed r a i Fence = event_if (data_clear script r a i) (Pass a i)
+  proposed r a i Gfence =
+      cond (done (Entered a i) r.journal)
+      (event_if (joined script r.journal a i) (Pass a i))
+      (event_if (data_clear script r a i) (Enter a i))
+  proposed r a i (Statement.Addr at) =
+      cond (done (Entered a i) r.journal)
+      (event_if (joined script r.journal a i) (Pass a i))
+      (Some (Enter a i))
+  proposed r a i s = Some (Issue a i)
+
+  abbrev pub unless_refused : Run → ℕ → ℕ → Option Refusal → Option Event
+  unless_refused r a i (Some reason) = Some (Refuse a i reason)
+  unless_refused r a i None = proposed r a i (statement script a i)
+
+  abbrev pub add_event : Run → Option Event → Run
+  add_event r None = reply_with r Blocked
+  add_event r (Some e) = reply_with (with_events r (e ∷ [])) Did
+
+  unfoldable pub step : Run → ℕ → Run
+  step r a =
+      let i = next r.journal a in
+      cond (nat_lt i (length (statements script a)))
+      (add_event r (unless_refused r a i (why script rules r.journal a i)))
+      (reply_with r Idle)
+
+  -- Begin and End.
+  abbrev pub begin_first : Run → (task worker : ℕ) → List MsgName → Run
+  begin_first r t w [] = reply_with r Idle
+  begin_first r t w (m ∷ ms) = reply_with (with_events r (Event.Begin m t w ∷ [])) Did
+
+  abbrev pub begin_at : Run → (task worker : ℕ) → Option MsgName → Run
+  begin_at r t w (Some m) = reply_with r Busy
+  begin_at r t w None = begin_first r t w (queue script rules r.journal t)
+
+  unfoldable pub begin : Run → (task worker : ℕ) → Run
+  begin r t w = begin_at r t w (runs r.journal t w)
+
+  abbrev pub end_at : Run → (task worker : ℕ) → Option MsgName → Run
+  end_at r t w None = reply_with r Idle
+  end_at r t w (Some m) = reply_with (with_events r (Event.End m t w ∷ note_of m)) Did
+
+  unfoldable pub end : Run → (task worker : ℕ) → Run
+  end r t w = end_at r t w (runs r.journal t w)
+
+  -- Cut and Inject add nothing. `size` is the length of a packet's spelling, `refusal` why bytes spell none.
+  abbrev pub cut_entry : (size : Packet → ℕ) → Run → (n : ℕ) → Option Packet → Run
+  cut_entry size r n None = reply_with r Absent
+  cut_entry size r n (Some p) = reply_with r (cond (nat_lt n (size p)) (Reply.Bad (record { place = n; reason = Short })) Absent)
+
+  module _ (size : Packet → ℕ) (refusal : List ℕ → Bad) where
+    unfoldable pub perform : Run → Act → Run
+    perform r (Step t) = step r t
+    perform r (Poll t) = poll r t
+    perform r (Tick t) = tick r t
+    perform r (Deliver a b k) = deliver r a b k
+    perform r (Cut a b k n) = cut_entry size r n (slice_get (r.wire a b) k)
+    perform r (Inject a b bytes) = reply_with r (Reply.Bad (refusal bytes))
+    perform r (Act.Begin t w) = begin r t w
+    perform r (Act.End t w) = end r t w
+
+    -- the run of these lines, from r on
+    unfoldable pub after : Run → List Act → Run
+    after r [] = r
+    after r (act ∷ acts) = after (perform r act) acts
+
+    unfoldable pub run_of : List Act → Run
+    run_of acts = after start acts
+
+-- What was handed over on the wire from a to b: the entry that a line delivers, where its reply was Did.
+abbrev pub is_did : Reply → Bool
+is_did Did = true
+is_did _ = false
+
+abbrev pub handed_by : (wire : List Packet) → (from to : ℕ) → Act → Reply → List Packet
+handed_by wire a b (Deliver x y k) reply = cond (is_did reply && (a == x && b == y)) (option_to_list (slice_get wire k)) []
+handed_by wire a b _ reply = []
+
+-- and of all lines, in order
+unfoldable pub deliveries : (wire : List Packet) → (from to : ℕ) → List Act → List Reply → List Packet
+deliveries wire a b acts replies = flat_map (λ (line : Act × Reply). handed_by wire a b line.0 line.1) (zip acts replies)
