@@ -1,0 +1,111 @@
+-- A quiet record is final, and stays as it is while no task takes a step.
+use Rattle.std.proofs.Common.{◌≡◌, ℕ, ◌<◌, ◌==◌, true, false, cond, ◌&&◌, not, [], ◌∷◌, ◌++◌, length, Some, refl, sym, ap, ◌∙◌, subst, ⊎_elim}
+use Rattle.std.specs.Prelude.{is_some}
+use Rattle.std.specs.List.{AllByRecursion, list_all}
+use Rattle.std.proofs.lemmas.Bool.{true≢false, false≢true, and_parts, and_from, both_ways, cond_both, cond-true, cond-false, eqb-true, eq-eqb, ltb-true, or_right, false_from_ne_true}
+use Rattle.lapi_base.specs.declared.script.Script.{Script}
+use Rattle.lapi_base.specs.declared.rule.Rules.{Rules}
+use Rattle.lapi_base.specs.declared.message.Leg.TheVariants.{Go, Back, Note, Join}
+use Rattle.lapi_base.specs.declared.event.Event.TheVariants.{Copy}
+use Rattle.lapi_base.specs.Names.{Deed, Issued, Entered, Copied, Landed, Begun, Ended, done, message}
+use Rattle.lapi_base.specs.Operations.{statements, statement, is_data, has_back, has_join, has_leg, cmpl_counter, target}
+use Rattle.lapi_base.specs.Handlers.{has_completion}
+use Rattle.lapi_base.specs.Jobs.{is_job, runs}
+use Rattle.lapi_base.specs.Record.{Run, joins, to_copy_of, ready, after_land, note_of}
+use Rattle.lapi_base.specs.Atomic.{only_if, to_land, to_follow, chain, join_chain}
+use Rattle.lapi_base.specs.Final.{Quiet, Final}
+use Rattle.lapi_laws.proofs.NumberLaws.{all-append, list_all-at}
+use Rattle.lapi_laws.proofs.Deeds.{eqb-refl}
+use Rattle.lapi_laws.proofs.Backward.{there}
+use Rattle.lapi_laws.proofs.Workers.{begun}
+use Rattle.lapi_laws.proofs.Lines.{SoundRun, to-land}
+use Rattle.lapi_laws.proofs.Follows.{Stand, Owes}
+use Rattle.lapi_laws.proofs.Quiet.{upto-each, joins-each, cmpl-no_back, join-no_data, copied-landed, target-room, all-begun, goes}
+
+module _ (script : Script) (rules : Rules) where
+  -- what may be copied was
+  each-copied : (r : Run) → Quiet script rules r → (t i : ℕ) → t < script.tasks → i < length (statements script t) → list_all (λ m. done (Copied m) r.journal) (to_copy_of script r.journal t i) ≡ true
+  unfolding ready
+  each-copied r q t i room l = upto-each (λ m. done (Copied m) r.journal) (to_copy_of script r.journal t) (length (statements script t)) i (q.resting.no_copy t room) l
+
+  module _ (r : Run) (s : SoundRun script rules r) (o : Owes script rules r.journal) (q : Quiet script rules r) where
+    module _ (a i : ℕ) (d : is_data (statement script a i) ≡ true) (issued : done (Issued a i) r.journal ≡ true) where
+      room : (a < script.tasks) × (i < length (statements script a))
+      room =
+          let is = and_parts _ _ (and_parts _ _ (there script rules (Issued a i) r.journal s.atomic issued)).0 in
+          (ltb-true _ _ is.0, ltb-true _ _ is.1)
+
+      target-in : target script a i < script.tasks
+      target-in = target-room script rules r.journal a i s.atomic issued d
+
+      go-copied : done (Copied (message a i Go)) r.journal ≡ true
+      go-copied =
+          let h = subst (λ ms. list_all (λ m. done (Copied m) r.journal) ms ≡ true) (cond-true (is_data (statement script a i) && done (Issued a i) r.journal) (message a i Go ∷ []) _ (and_from _ _ d issued)) (each-copied r q a i room.0 room.1) in
+          (and_parts _ _ h).0
+
+      go-landed : done (Landed (message a i Go)) r.journal ≡ true
+      go-landed = copied-landed script rules r s q (message a i Go) room.0 target-in go-copied
+
+      job : has_completion script rules a i ≡ true → is_job script rules (target script a i) (message a i Go) ≡ true
+      unfolding is_job
+      job c = and_from _ _ c (eqb-refl (target script a i))
+
+      job-begun : has_completion script rules a i ≡ true → done (Begun (message a i Go)) r.journal ≡ true
+      job-begun c = all-begun script rules r.journal (target script a i) (message a i Go) (q.resting.none_waits (target script a i) target-in) (job c) go-landed
+
+      job-ended : has_completion script rules a i ≡ true → done (Ended (message a i Go)) r.journal ≡ true
+      job-ended c =
+          ⊎_elim
+          (λ (x : done (Ended (message a i Go)) r.journal ≡ true). x)
+          (λ (x : (t : ℕ) × ((w : ℕ) × (runs r.journal t w ≡ Some (message a i Go)))).
+          let ends = and_parts _ _ (begun script rules r.journal x.0 x.1.0 (message a i Go) s.atomic x.1.1).1 in
+          let place = and_parts _ _ (and_parts _ _ ends.1).1 in
+          let free = q.resting.none_runs x.0 x.1.0 (ltb-true _ _ place.0) (ltb-true _ _ place.1) in
+          absurd (false≢true (ap is_some (sym free ∙ x.1.1))))
+          (goes script rules r.journal (message a i Go) s.atomic (job-begun c))
+
+      land-stands : Stand r.journal (after_land script rules (message a i Go))
+      land-stands = o.lands (message a i Go) go-landed
+
+      back-copied : has_back (statement script a i) ≡ true → done (Copied (message a i Back)) r.journal ≡ true
+      back-copied b = (subst (λ x. Stand r.journal (cond x (Copy (message a i Back) ∷ []) (cond (has_completion script rules a i) [] (note_of script rules (message a i Go))))) b land-stands).0
+
+      note-stands : is_some (cmpl_counter (statement script a i)) ≡ true → Stand r.journal (note_of script rules (message a i Go))
+      note-stands c =
+          elim (has_completion script rules a i) as (λ x. has_completion script rules a i ≡ x → Stand r.journal (note_of script rules (message a i Go))) [
+            | true ↦ λ e. o.ends (message a i Go) (job-ended e)
+            | false ↦ λ e.
+                subst (λ x. Stand r.journal (cond x [] (note_of script rules (message a i Go)))) e
+                (subst (λ x. Stand r.journal (cond x (Copy (message a i Back) ∷ []) (cond (has_completion script rules a i) [] (note_of script rules (message a i Go))))) (cmpl-no_back (statement script a i) c) land-stands)
+          ] refl
+
+      note-copied : is_some (cmpl_counter (statement script a i)) ≡ true → done (Copied (message a i Note)) r.journal ≡ true
+      note-copied c = (subst (λ x. Stand r.journal (cond x (Copy (message a i Note) ∷ []) [])) c (note-stands c)).0
+
+      whole : list_all (λ x. done x r.journal) (chain script rules a i) ≡ true
+      whole =
+          let P = λ (x : Deed). done x r.journal ≡ true in
+          list_all-at (λ x. done x r.journal) (chain script rules a i)
+          (all-append P (to_follow script rules a i ++ only_if (has_back (statement script a i)) (Copied (message a i Back) ∷ Landed (message a i Back) ∷ [])) (only_if (is_some (cmpl_counter (statement script a i))) (Copied (message a i Note) ∷ Landed (message a i Note) ∷ []))
+          (all-append P (to_follow script rules a i) (only_if (has_back (statement script a i)) (Copied (message a i Back) ∷ Landed (message a i Back) ∷ []))
+          (all-append P (only_if (has_completion script rules a i) (Begun (message a i Go) ∷ Ended (message a i Go) ∷ [])) (Landed (message a i Go) ∷ to_land script rules a i)
+          (cond_both (has_completion script rules a i) (Begun (message a i Go) ∷ Ended (message a i Go) ∷ []) [] (AllByRecursion P) (λ e. (job-begun e, (job-ended e, tt))) (λ _. tt))
+          (go-landed, to-land script rules r.journal a i s.atomic go-landed))
+          (cond_both (has_back (statement script a i)) (Copied (message a i Back) ∷ Landed (message a i Back) ∷ []) [] (AllByRecursion P) (λ e. (back-copied e, (copied-landed script rules r s q (message a i Back) target-in room.0 (back-copied e), tt))) (λ _. tt)))
+          (cond_both (is_some (cmpl_counter (statement script a i))) (Copied (message a i Note) ∷ Landed (message a i Note) ∷ []) [] (AllByRecursion P) (λ e. (note-copied e, (copied-landed script rules r s q (message a i Note) target-in room.0 (note-copied e), tt))) (λ _. tt)))
+
+    joined-whole : (a i d : ℕ) → done (Entered a i) r.journal ≡ true → has_leg script a (Join d) (statement script a i) ≡ true → list_all (λ x. done x r.journal) (join_chain a i d) ≡ true
+    joined-whole a i d entered leg =
+        let is = and_parts _ _ (there script rules (Entered a i) r.journal s.atomic entered) in
+        let parts = and_parts _ _ leg in
+        let ends = and_parts _ _ parts.1 in
+        let no_data = join-no_data (statement script a i) parts.0 in
+        let h = subst (λ ms. list_all (λ m. done (Copied m) r.journal) ms ≡ true)
+        (cond-false (is_data (statement script a i) && done (Issued a i) r.journal) (message a i Go ∷ []) (cond (has_join (statement script a i) && done (Entered a i) r.journal) (joins script a i) []) (Rattle.std.proofs.lemmas.Bool.and_left _ _ no_data) ∙ cond-true (has_join (statement script a i) && done (Entered a i) r.journal) (joins script a i) [] (and_from _ _ parts.0 entered))
+        (each-copied r q a i (ltb-true _ _ is.0) (ltb-true _ _ is.1)) in
+        let copied = joins-each (λ m. done (Copied m) r.journal) (λ e. message a i (Join e)) (λ e. not (e == a)) script.tasks d h (ltb-true _ _ ends.0) ends.1 in
+        let landed = copied-landed script rules r s q (message a i (Join d)) (ltb-true _ _ is.0) (ltb-true _ _ ends.0) copied in
+        and_from _ _ entered (and_from _ _ copied (and_from _ _ landed refl))
+
+    pub quiet-final : Final script rules r.journal
+    quiet-final = record { operations = whole; entered = joined-whole }

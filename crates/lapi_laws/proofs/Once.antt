@@ -1,0 +1,83 @@
+-- In an atomic journal each deed stands once, and what an event needs stands before it.
+use Rattle.std.proofs.Common.{◌≡◌, ℕ, ◌+◌, ◌≤◌, true, false, cond, List, [], ◌∷◌, ◌++◌, refl, sym, ap, ◌∙◌, subst, arith}
+use Rattle.std.specs.List.{AllByRecursion}
+use Rattle.std.proofs.lemmas.Bool.{or_parts}
+use Rattle.std.proofs.lemmas.List.Sums.{sum_by-cons}
+use Rattle.lapi_base.specs.declared.script.Script.{Script}
+use Rattle.lapi_base.specs.declared.rule.Rules.{Rules}
+use Rattle.lapi_base.specs.declared.message.Leg.TheVariants.{Go}
+use Rattle.lapi_base.specs.declared.event.Event.{Event}
+use Rattle.lapi_base.specs.Names.{message, Deed, Headed, Landed, Begun, Ended, deed, deed_eq, done}
+use Rattle.lapi_base.specs.Operations.{statement, is_am}
+use Rattle.lapi_base.specs.Atomic.{Atomic, Keeps, needs, land_needs, only_if}
+use Rattle.lapi_base.specs.Headline.{times, StandsAfter, LandsOnce, HandlersOnce, HandlersInOrder, HoldsOfAtomic, HoldsOfJournals}
+use Rattle.lapi_laws.proofs.NumberLaws.{list_all-each}
+use Rattle.lapi_laws.proofs.Deeds.{done-cons, deed_eq-true}
+use Rattle.lapi_laws.proofs.Backward.{Atomic-head, Atomic-tail}
+use Rattle.lapi_laws.proofs.Runs.{run-sound}
+
+-- how often a deed stands, with one more event
+times-cons : (d : Deed) (e : Event) (J : List Event) → times d (e ∷ J) ≡ cond (deed_eq d (deed e)) 1 0 + times d J
+times-cons d e J = sum_by-cons (λ x. cond (deed_eq d (deed x)) 1 0) e J
+
+-- what doesn't stand stands no time
+times-none : (d : Deed) (J : List Event) → done d J ≡ false → times d J ≡ 0
+times-none d [] h = refl
+times-none d (e ∷ J) h =
+    let parts = or_parts (deed_eq d (deed e)) (done d J) (sym (done-cons d e J) ∙ h) in
+    times-cons d e J ∙ ap (λ b. cond b 1 0 + times d J) parts.0 ∙ ap (λ n. 0 + n) (times-none d J parts.1)
+
+-- what holds of every atomic journal holds of every run's
+pub of-journals : (P : Script → Rules → List Event → Type 0) → HoldsOfAtomic P → HoldsOfJournals P
+of-journals P h = λ script rules spells size refusal acts v. h script rules _ (run-sound script rules spells size refusal acts v).atomic
+
+module _ (script : Script) (rules : Rules) where
+  -- what a journal's end keeps
+  pub atomic-end : (later J : List Event) → Atomic script rules (later ++ J) → Atomic script rules J
+  atomic-end [] J h = h
+  atomic-end (e ∷ later) J h = atomic-end later J (Atomic-tail script rules e (later ++ J) h)
+
+  -- an event keeps its rule where it stands
+  pub keeps-at : (J before : List Event) (e : Event) → Atomic script rules J → StandsAfter before e J → Keeps script rules before e
+  keeps-at J before e h at = Atomic-head script rules e before (atomic-end at.0 (e ∷ before) (subst (Atomic script rules) at.1 h))
+
+  -- each deed stands at most once
+  times-one : (d : Deed) (J : List Event) → Atomic script rules J → times d J ≤ 1
+  times-one d [] h = omega arith
+  times-one d (e ∷ J) h =
+      elim (deed_eq d (deed e)) as (λ b. deed_eq d (deed e) ≡ b → times d (e ∷ J) ≡ cond b 1 0 + times d J → times d (e ∷ J) ≤ 1) [
+        | true ↦ λ same sum.
+            let none = times-none d J (subst (λ x. done x J ≡ false) (sym (deed_eq-true d (deed e) same)) (Atomic-head script rules e J h).once) in
+            omega arith
+        | false ↦ λ _ sum. let rest = times-one d J (Atomic-tail script rules e J h) in omega arith
+      ] refl (times-cons d e J)
+
+  -- what an event needs stands before it
+  needed : (J before : List Event) (e : Event) (d : Deed) → Atomic script rules J → deed e ≡ d → StandsAfter before e J → AllByRecursion (λ x. done x before ≡ true) (needs script rules d)
+  needed J before e d h same at = subst (λ x. AllByRecursion (λ y. done y before ≡ true) (needs script rules x)) same (list_all-each (λ y. done y before) (needs script rules (deed e)) (keeps-at J before e h at).after)
+
+  -- an active message needs its head to land
+  head-needed : (a i : ℕ) (before : List Event) → is_am (statement script a i) ≡ true → AllByRecursion (λ x. done x before ≡ true) (land_needs script rules a i Go) → done (Headed (message a i Go)) before ≡ true
+  head-needed a i before am all = (subst (λ b. AllByRecursion (λ x. done x before ≡ true) (only_if b (Headed (message a i Go) ∷ []))) am all.1.1).0
+
+  -- what each handler needs stands before it
+  in-order : (J : List Event) → Atomic script rules J → HandlersInOrder script rules J
+  unfolding needs
+  in-order J h = (
+    λ m before e same at. (needed J before e (Headed m) h same at).1.0,
+    λ a i am before e same at. head-needed a i before am (needed J before e (Landed (message a i Go)) h same at),
+    λ m before e same at. (needed J before e (Begun m) h same at).0,
+    λ m before e same at. (needed J before e (Ended m) h same at).0,
+  )
+
+-- the laws, of every atomic journal
+pub lands-once : HoldsOfAtomic LandsOnce
+lands-once script rules J h = λ m. times-one script rules (Landed m) J h
+
+-- a handler is called once for a message
+pub handlers-once : HoldsOfAtomic HandlersOnce
+handlers-once script rules J h = λ m. (times-one script rules (Headed m) J h, times-one script rules (Begun m) J h, times-one script rules (Ended m) J h)
+
+-- and in order
+pub handlers-in-order : HoldsOfAtomic HandlersInOrder
+handlers-in-order script rules J h = in-order script rules J h

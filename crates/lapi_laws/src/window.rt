@@ -1,0 +1,21 @@
+//! What is bounded on every link.
+ghost use Rattle.lapi_base.specs.Headline.{HoldsOfRuns};
+ghost use Rattle.lapi_base.specs.Links.{AckedAreDelivered, SentAreInWindow, StaysInWindow, FewArePartial, NumbersAreSmall, NumbersFit};
+
+/// What is acknowledged was delivered, and what was sent lies in the window of the sender, and of the receiver.
+pub fn window_is_kept()
+    ensures delivered { HoldsOfRuns AckedAreDelivered }
+    ensures sent { HoldsOfRuns SentAreInWindow }
+    ensures reach { HoldsOfRuns StaysInWindow }
+{}
+
+/// At most as many messages of a link are there in part as the window has numbers.
+pub fn few_are_partial()
+    ensures { HoldsOfRuns FewArePartial }
+{}
+
+/// The numbers of a valid script's packets stay small, so they fit in four bytes.
+pub fn numbers_are_small()
+    ensures small { HoldsOfRuns NumbersAreSmall }
+    ensures fit { HoldsOfRuns NumbersFit }
+{}
