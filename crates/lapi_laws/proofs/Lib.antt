@@ -25,3 +25,4 @@ pub mod Counts
 pub mod Reach
 pub mod Partial
 pub mod Shorts
+pub mod MoreRows

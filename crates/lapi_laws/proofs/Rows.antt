@@ -40,57 +40,57 @@ use Rattle.lapi_base.specs.Packets.{data_packet}
 use Rattle.lapi_base.specs.Record.{Run, out, has_number, has_ack, base, all_numbers, some_number, data_done, data_clear, ready, copy_each, followed, packets, fresh, poll, stale, tick, arrival, ack, hand_over, deliver, step, begin, end, perform, after, run_of}
 
 -- the built-in handlers
-abbrev builtin : Rules
+abbrev pub builtin : Rules
 builtin = record {
   headers = record { place = Place.Word; choice = Never } ∷ record { place = Place.Word; choice = Choice.Word } ∷ record { place = PerOrigin 0 256; choice = Always 3 } ∷ record { place = Nowhere; choice = Always 1 } ∷ [];
   completions = Nothing ∷ Sum ∷ Same ∷ Reversed ∷ [];
 }
 
 -- a script and the lines of a run of it
-record Row : Type 0 where
-  script : Script
-  lines : List Act
+pub record Row : Type 0 where
+  pub script : Script
+  pub lines : List Act
 
 -- two tasks with memories of this size and these statements, and the lines of a run
-abbrev two_tasks : (memory : ℕ) → List Statement → List Statement → List Act → Row
+abbrev pub two_tasks : (memory : ℕ) → List Statement → List Statement → List Act → Row
 two_tasks memory xs ys lines = record { script = record { layout = 1; tasks = 2; memory = memory; counters = 4; workers = 1; lists = xs ∷ ys ∷ [] }; lines = lines }
 
 -- The run of a row. No line cuts a packet or injects bytes, so it doesn't matter what is passed for those.
 -- A proof with the line `unfolding run` computes with all definitions.
-run : Row → Run
+unfoldable pub run : Row → Run
 unfolding unit_of window_of longest_of longest_active_of every_below below least_missing has_bit bits_of name_eq done upto statement table_rounds entry address pieces_of message_length fragment_count fragments number_of word_bytes header_word buffer completion user has_completion effect_of gathered scattered byte_after rmw_word values tells count next gfence_rounds round_of partner joined first_reason why_by why is_job landed_jobs queue runs data_packet out has_number has_ack base all_numbers some_number data_done data_clear ready copy_each followed packets fresh poll stale tick arrival ack hand_over deliver step begin end perform after run_of reads
 run row = run_of row.script builtin (λ p. 0) (λ bytes. record { place = 0; reason = Short }) row.lines
 
 -- the events in the order of time
-abbrev journal_of : Row → List Event
+abbrev pub journal_of : Row → List Event
 journal_of row = reverse (run row).journal
 
-abbrev replies_of : Row → List Reply
+abbrev pub replies_of : Row → List Reply
 replies_of row = (run row).replies
 
-abbrev wire_of : Row → (from to : ℕ) → List Packet
+abbrev pub wire_of : Row → (from to : ℕ) → List Packet
 wire_of row a b = (run row).wire a b
 
 -- the 16 bytes of a task's memory from x on
-abbrev bytes_of : Row → (task x : ℕ) → List ℕ
+abbrev pub bytes_of : Row → (task x : ℕ) → List ℕ
 bytes_of row t x = let v = values row.script builtin (run row).journal in map (λ k. v.memory t (x + k)) (upto 16)
 
 -- all counters of a task
-abbrev counters_of : Row → (task : ℕ) → List ℕ
+abbrev pub counters_of : Row → (task : ℕ) → List ℕ
 counters_of row t = map (λ c. count row.script builtin (run row).journal t c) (upto row.script.counters)
 
 -- the number and the answer of each Read of a task
 abbrev reads_of : Row → (task : ℕ) → List (ℕ × ℕ)
 reads_of row t = reads row.script builtin (run row).journal t
 
-abbrev piece : (at len : ℕ) → Piece
+abbrev pub piece : (at len : ℕ) → Piece
 piece at len = record { at = Plain at; len = len }
 
-abbrev zeros : ℕ → List ℕ
+abbrev pub zeros : ℕ → List ℕ
 zeros n = replicate n 0
 
 -- A task stores eight bytes and puts them; the put lands and is acknowledged.
-abbrev smallest_run : Row
+abbrev pub smallest_run : Row
 smallest_run =
     two_tasks 64
     (Store 0 (0x61 ∷ 0x62 ∷ 0x63 ∷ 0x64 ∷ 0x65 ∷ 0x66 ∷ 0x67 ∷ 0x68 ∷ []) ∷ Put 1 (Plain 16) 0 8 None None None ∷ [])
@@ -118,7 +118,7 @@ unfolding run
 smallest_run-acks = refl
 
 -- A put of no bytes to the end of the memory, which tells three counters, one of them by a notice.
-abbrev no_bytes_three_counters : Row
+abbrev pub no_bytes_three_counters : Row
 no_bytes_three_counters =
     two_tasks 64
     (Put 1 (Plain 64) 64 0 (Some 0) (Some 0) (Some 0) ∷ [])
