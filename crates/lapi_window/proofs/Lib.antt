@@ -1,0 +1,6 @@
+pub mod BitLaws
+pub mod Covered
+pub mod Flags
+pub mod MemberLaws
+pub mod SendLaws
+pub mod Sets

@@ -1,0 +1,4 @@
+pub mod Flags
+pub mod NumberSet
+pub mod RecvWindow
+pub mod SendWindow
