@@ -1,0 +1,8 @@
+pub mod Lists
+pub mod Own
+pub mod Rights
+pub mod Pigeons
+pub mod Views
+pub mod Keeps
+pub mod Turned
+pub mod Shares
