@@ -1,4 +1,5 @@
--- Formats as data: fields in order, each with its size and its rule.
+-- Formats as data: fields in order, each with its size and its rule, what bytes spell such a format, and where
+-- bytes that don't are refused first. All laws of a format are proved over these words. They are this project's own.
 use Rattle.std.specs.Prelude.{◌≡◌, ℕ, zero, suc, ◌+◌, ◌-◌, ◌^◌, ◌<◌, Bool, true, IsTrue, IsFalse, ◌⊎◌, List, [], ◌∷◌, ◌++◌, length, take, drop, Result, Ok, Err, nat_lt, if◌then◌else◌}
 use Rattle.std.specs.Int.{Width, w8, w16, w32, byte_len, to_be_bytes, from_be_bytes}
 use Rattle.lapi_base.specs.declared.reply.Bad.{Bad}

@@ -1,4 +1,4 @@
--- What each message carries before its payload, by leg and operation.
+-- What each message carries before its payload, by leg and operation, field by field. This is the project's own.
 use Rattle.std.specs.Prelude.{ℕ, ◌%◌, Bool, ◌&&◌, ◌||◌, nat_lt, nat_le, ◌==◌, if◌then◌else◌}
 use Rattle.lapi_base.specs.declared.reply.Reason.TheVariants as reasons
 use Rattle.lapi_base.specs.declared.message.Leg.{Leg}

@@ -1,4 +1,4 @@
--- Parts that several heads have.
+-- Parts that several heads have: counters, ranges, words and lists of spans. This is the project's own.
 use Rattle.std.specs.Prelude.{ℕ, ◌+◌, ◌-◌, ◌%◌, Bool, ◌&&◌, ◌||◌, List, [], ◌∷◌, length, Option, Some, None, nat_lt, nat_le, ◌==◌, if◌then◌else◌}
 use Rattle.lapi_base.specs.declared.reply.Reason.TheVariants as reasons
 use Rattle.lapi_base.specs.declared.span.Span.{Span}

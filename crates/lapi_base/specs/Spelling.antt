@@ -1,4 +1,5 @@
--- Packets and their spellings.
+-- Packets and their spellings: which bytes are a packet, and the first fault of all others. The layout of packets
+-- is this project's own.
 use Rattle.std.specs.Prelude.{ℕ, ◌-◌, ◌*◌, ◌%◌, min, max, Bool, not, ◌&&◌, ◌||◌, List, Result, nat_lt, nat_le, ◌==◌, if◌then◌else◌}
 use Rattle.std.specs.Int.{div_ceil}
 use Rattle.lapi_base.specs.declared.reply.Bad.{Bad}
