@@ -4,7 +4,7 @@ use crate::kept::Kept;
 use atomic_table::{Seat, TableRule};
 use std::snapshot::Snapshot;
 
-/// What a seat is about.
+/// Where a seat stands.
 pub(crate) enum Stage {
     /// It has no ticket.
     Rests,
