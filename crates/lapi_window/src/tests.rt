@@ -193,17 +193,7 @@ fn try_send(
             let all = (from..to).all(|n| plain.acked.contains(&n));
             assert_eq!(rt; window.all_acked(from, to), all);
         }
-        3 => {
-            let unacked = plain.sent.iter().filter(|(n, _)| !plain.acked.contains(n));
-            assert_eq!(rt; window.unacked_len(), unacked.count());
-            let unacked = plain.sent.iter().filter(|(n, _)| !plain.acked.contains(n));
-            for (i, (number, byte)) in unacked.enumerate() {
-                assert!(rt; i < window.unacked_len());
-                let (n, frame) = window.unacked(i);
-                assert_eq!(rt; n, *number);
-                assert_eq!(rt; frame.as_slice(), [*byte].as_slice());
-            }
-        }
+        3 => see_unacked(rt, window, plain),
         _ => {
             let next = window.next();
             assert_eq!(rt; next, plain.next());
@@ -217,6 +207,18 @@ fn try_send(
         }
     }
     Ok(())
+}
+
+fn see_unacked(rt: &impl Abort, window: &SendWindow, plain: &PlainSend) {
+    let unacked = plain.sent.iter().filter(|(n, _)| !plain.acked.contains(n));
+    assert_eq!(rt; window.unacked_len(), unacked.count());
+    let unacked = plain.sent.iter().filter(|(n, _)| !plain.acked.contains(n));
+    for (i, (number, byte)) in unacked.enumerate() {
+        assert!(rt; i < window.unacked_len());
+        let (n, frame) = window.unacked(i);
+        assert_eq!(rt; n, *number);
+        assert_eq!(rt; frame.as_slice(), [*byte].as_slice());
+    }
 }
 
 fn try_acknowledge(
