@@ -1,5 +1,8 @@
 use crate::run;
-use lapi_base::Status;
+use lapi_base::{
+    Bytes, Choice, CompletionRule, CompletionRules, Entries, HeaderRule, HeaderRules, Place,
+    Status, WireEntry,
+};
 use lapi_io::{MemSink, MemSource};
 use std::alloc::Global;
 use std::test::Fail;
@@ -202,5 +205,24 @@ fn every_failing_read_or_write_ends_the_run(rt: HostRuntime) -> Result<(), Fail>
         writes = k + 1;
     }
     assert!(rt; writes >= report.len() as u64 / 16);
+    Ok(())
+}
+
+/// The lists that no run fills yet.
+#[test]
+fn lists_take_items(rt: HostRuntime) -> Result<(), Fail> {
+    let alloc = rt.alloc();
+    let mut bytes = Bytes::new(alloc);
+    assert_eq!(rt; bytes.push(7), Ok(()));
+    let mut entries = Entries::new(alloc);
+    assert_eq!(rt; entries.push(WireEntry { to: 1, bytes }), Ok(()));
+    let mut headers = HeaderRules::new(alloc);
+    let rule = HeaderRule {
+        place: Place::Nowhere,
+        choice: Choice::Never,
+    };
+    assert_eq!(rt; headers.push(rule), Ok(()));
+    let mut completions = CompletionRules::new(alloc);
+    assert_eq!(rt; completions.push(CompletionRule::Sum), Ok(()));
     Ok(())
 }
