@@ -17,6 +17,10 @@ use Rattle.lapi_base.specs.declared.rule.Place.{Place}
 use Rattle.lapi_base.specs.declared.rule.Place.TheVariants.{PerOrigin, Fixed, Nowhere}
 use Rattle.lapi_base.specs.declared.rule.Choice.{Choice}
 use Rattle.lapi_base.specs.declared.rule.Choice.TheVariants.{Never, Always}
+use Rattle.lapi_base.specs.declared.handler.HeaderIn.{HeaderIn}
+use Rattle.lapi_base.specs.declared.handler.HeaderOut.{HeaderOut}
+use Rattle.lapi_base.specs.declared.handler.Effect.{Effect}
+use Rattle.lapi_base.specs.declared.handler.Effect.TheVariants as effects
 use Rattle.lapi_base.specs.Operations.{statement, is_am, message_length}
 
 -- Words are four bytes, the highest first.
@@ -40,6 +44,35 @@ choice_by Never header = None
 choice_by (Always n) header = Some n
 choice_by Choice.Word header = header_word header 2
 
+abbrev pub user_by : (header : List ℕ) → ℕ
+user_by header = unwrap_or (header_word header 1) 0
+
+-- what a header handler answers, by its rule
+abbrev pub header_answer : HeaderRule → HeaderIn → HeaderOut
+header_answer rule given =
+    record {
+      place = place_by rule.place given.origin given.header;
+      completion = choice_by rule.choice given.header;
+      user = user_by given.header;
+    }
+
+-- what a completion handler answers, by its rule, for a user value and a buffer
+abbrev pub completion_answer : CompletionRule → (user : ℕ) → (buffer : List ℕ) → Effect
+completion_answer Nothing at bytes = effects.Nothing
+completion_answer Sum at bytes = effects.Word at (sum bytes % 2 ^ 32)
+completion_answer Same at bytes = effects.Same at
+completion_answer Reversed at bytes = effects.Reversed at
+
+-- the rules by the handlers' numbers
+abbrev pub no_rule : HeaderRule
+no_rule = record { place = Nowhere; choice = Never }
+
+abbrev pub header_rule : Rules → ℕ → HeaderRule
+header_rule rules n = slice_index_or rules.headers n no_rule
+
+abbrev pub completion_rule : Rules → ℕ → CompletionRule
+completion_rule rules n = slice_index_or rules.completions n Nothing
+
 -- The answers for an active message.
 abbrev pub handler_of : Statement → ℕ
 handler_of (Am target handler header from len tgt org cmpl) = handler
@@ -49,11 +82,15 @@ abbrev pub user_header : Statement → List ℕ
 user_header (Am target handler header from len tgt org cmpl) = header
 user_header _ = []
 
-abbrev pub no_rule : HeaderRule
-no_rule = record { place = Nowhere; choice = Never }
-
 abbrev pub rule_of : Rules → Statement → HeaderRule
-rule_of rules s = slice_index_or rules.headers (handler_of s) no_rule
+rule_of rules s = header_rule rules (handler_of s)
+
+-- what its header handler is given, and answers
+abbrev pub header_in : Script → MsgName → HeaderIn
+header_in script m = record { origin = m.origin; header = user_header (statement script m.origin m.statement); length = message_length script m }
+
+abbrev pub header_out : Script → Rules → MsgName → HeaderOut
+header_out script rules m = header_answer (rule_of rules (statement script m.origin m.statement)) (header_in script m)
 
 abbrev pub kept_place : (memory length : ℕ) → Option ℕ → List Span
 kept_place memory len None = []
@@ -61,9 +98,7 @@ kept_place memory len (Some at) = cond (nat_le (at + len) memory) (record { at =
 
 -- the buffer: no piece where the data are discarded
 unfoldable pub buffer : Script → Rules → MsgName → List Span
-buffer script rules m =
-    let s = statement script m.origin m.statement in
-    kept_place script.memory (message_length script m) (place_by (rule_of rules s).place m.origin (user_header s))
+buffer script rules m = kept_place script.memory (message_length script m) (header_out script rules m).place
 
 abbrev pub kept_choice : (completions : ℕ) → Option ℕ → Option ℕ
 kept_choice count None = None
@@ -71,23 +106,25 @@ kept_choice count (Some n) = cond (nat_lt n count) (Some n) None
 
 -- the completion handler that the header handler names
 unfoldable pub completion : Script → Rules → MsgName → Option ℕ
-completion script rules m =
-    let s = statement script m.origin m.statement in
-    kept_choice (length rules.completions) (choice_by (rule_of rules s).choice (user_header s))
+completion script rules m = kept_choice (length rules.completions) (header_out script rules m).completion
 
 unfoldable pub user : Script → MsgName → ℕ
-user script m = unwrap_or (header_word (user_header (statement script m.origin m.statement)) 1) 0
+user script m = user_by (user_header (statement script m.origin m.statement))
 
 -- operation a.i has an active message with a completion
 unfoldable pub has_completion : Script → Rules → ℕ → ℕ → Bool
 has_completion script rules a i = is_am (statement script a i) && is_some (completion script rules (record { origin = a; statement = i; leg = Go }))
 
--- What a completion handler writes for this user value and buffer: a place and bytes.
-abbrev pub effect : CompletionRule → ℕ → List ℕ → List (ℕ × List ℕ)
-effect Nothing at bytes = []
-effect Sum at bytes = (at, word_bytes (sum bytes % 2 ^ 32)) ∷ []
-effect Same at bytes = (at, bytes) ∷ []
-effect Reversed at bytes = (at, reverse bytes) ∷ []
+-- What an effect writes, with the buffer of its completion handler: a place and bytes.
+abbrev pub written : Effect → (buffer : List ℕ) → List (ℕ × List ℕ)
+written effects.Nothing bytes = []
+written (effects.Word at value) bytes = (at, word_bytes value) ∷ []
+written (effects.Same at) bytes = (at, bytes) ∷ []
+written (effects.Reversed at) bytes = (at, reverse bytes) ∷ []
+
+-- what a completion handler writes, by its rule
+abbrev pub effect : CompletionRule → (user : ℕ) → (buffer : List ℕ) → List (ℕ × List ℕ)
+effect rule at bytes = written (completion_answer rule at bytes) bytes
 
 unfoldable pub effect_of : Script → Rules → MsgName → List ℕ → List (ℕ × List ℕ)
-effect_of script rules m bytes = effect (slice_index_or rules.completions (unwrap_or (completion script rules m) 0) Nothing) (user script m) bytes
+effect_of script rules m bytes = effect (completion_rule rules (unwrap_or (completion script rules m) 0)) (user script m) bytes

@@ -1,12 +1,13 @@
 -- Jobs of completion handlers, after a journal: which wait, in the order of their landings, and which runs at
 -- a worker. The order and the workers are this project's own.
-use Rattle.std.specs.Prelude.{ℕ, ◌==◌, Bool, cond, ◌&&◌, not, List, [], ◌∷◌, ◌++◌, filter, Option, Some, None}
+use Rattle.std.specs.Prelude.{ℕ, ◌==◌, Bool, cond, ◌&&◌, not, List, [], ◌∷◌, ◌++◌, filter, Option, Some, None, is_some}
 use Rattle.lapi_base.specs.declared.script.Script.{Script}
 use Rattle.lapi_base.specs.declared.rule.Rules.{Rules}
 use Rattle.lapi_base.specs.declared.message.Leg.TheVariants.{Go}
 use Rattle.lapi_base.specs.declared.message.MsgName.{MsgName}
 use Rattle.lapi_base.specs.declared.event.Event.{Event}
 use Rattle.lapi_base.specs.declared.event.Event.TheVariants.{Land, Begin, End}
+use Rattle.lapi_base.specs.Below.{below}
 use Rattle.lapi_base.specs.Names.{Begun, done, leg_eq}
 use Rattle.lapi_base.specs.Operations.{receiver}
 use Rattle.lapi_base.specs.Handlers.{has_completion}
@@ -31,3 +32,7 @@ runs [] t w = None
 runs (Begin m a v ∷ J) t w = cond (a == t && v == w) (Some m) (runs J t w)
 runs (End m a v ∷ J) t w = cond (a == t && v == w) None (runs J t w)
 runs (e ∷ J) t w = runs J t w
+
+-- the workers of a task that run a job, rising
+unfoldable pub busy : Script → List Event → (task : ℕ) → List ℕ
+busy script J t = below script.workers (λ w. is_some (runs J t w))

@@ -16,6 +16,7 @@ use Rattle.lapi_base.specs.declared.message.Leg.TheVariants.{Go, Back, Note, Joi
 use Rattle.lapi_base.specs.declared.message.MsgName.{MsgName}
 use Rattle.lapi_base.specs.Below.{below}
 use Rattle.lapi_base.specs.Layout.{unit_of}
+use Rattle.lapi_base.specs.Fragments.{fragments_in}
 
 -- the numbers below n
 unfoldable pub upto : ℕ → List ℕ
@@ -200,7 +201,7 @@ unfoldable pub message_length : Script → MsgName → ℕ
 message_length script m = length_by m.leg (statement script m.origin m.statement)
 
 unfoldable pub fragment_count : Script → MsgName → ℕ
-fragment_count script m = max 1 ((message_length script m + (unit_of script - 1)) / unit_of script)
+fragment_count script m = fragments_in (unit_of script) (message_length script m)
 
 -- the pairs of this message and each of its fragments
 unfoldable pub fragments : Script → MsgName → List (MsgName × ℕ)

@@ -1,6 +1,6 @@
 -- What packets carry: the head of a message, and the packet of one fragment with its part of the bytes. This
 -- is the project's own.
-use Rattle.std.specs.Prelude.{ℕ, ◌*◌, List, take, drop, unwrap_or}
+use Rattle.std.specs.Prelude.{ℕ, List, unwrap_or}
 use Rattle.lapi_base.specs.declared.statement.Statement.{Statement}
 use Rattle.lapi_base.specs.declared.statement.Statement.TheVariants.{Put, Get, Putv, Getv, Rmw, Am, Gfence}
 use Rattle.lapi_base.specs.declared.script.Script.{Script}
@@ -12,6 +12,7 @@ use Rattle.lapi_base.specs.declared.head.NoteOp.{NoteOp}
 use Rattle.lapi_base.specs.declared.packet.Packet.{Packet}
 use Rattle.lapi_base.specs.declared.packet.Packet.TheVariants.{Data}
 use Rattle.lapi_base.specs.Layout.{unit_of}
+use Rattle.lapi_base.specs.Fragments.{fragment_bytes}
 use Rattle.lapi_base.specs.Operations.{statement, address, spans, pieces_of, target, sender, receiver, message_length, cmpl_counter}
 use Rattle.lapi_base.specs.Refusals.{round_of}
 
@@ -56,5 +57,5 @@ module _ (script : Script) (m : MsgName) where
         head = head_by m.leg (statement script m.origin m.statement);
         length = message_length script m;
         fragment = j;
-        payload = take (unit_of script) (drop (unit_of script * j) bytes);
+        payload = fragment_bytes (unit_of script) j bytes;
       })

@@ -133,3 +133,9 @@ why_by script rules known a i =
 -- and after this journal
 unfoldable pub why : Script → Rules → List Event → ℕ → ℕ → Option Refusal
 why script rules J a i = why_by script rules (is_known script J a) a i
+
+-- what was refused of a task: the number of each statement, and the reason, in order
+unfoldable pub refusals : List Event → (task : ℕ) → List (ℕ × Refusal)
+refusals [] t = []
+refusals (Refuse a i reason ∷ J) t = refusals J t ++ cond (a == t) ((i, reason) ∷ []) []
+refusals (e ∷ J) t = refusals J t

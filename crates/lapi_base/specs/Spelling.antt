@@ -1,6 +1,6 @@
 -- Packets and their spellings: which bytes are a packet, and the first fault of all others. The layout of packets
 -- is this project's own.
-use Rattle.std.specs.Prelude.{ℕ, ◌-◌, ◌*◌, ◌%◌, min, max, Bool, not, ◌&&◌, ◌||◌, List, Result, nat_lt, nat_le, ◌==◌, if◌then◌else◌}
+use Rattle.std.specs.Prelude.{ℕ, ◌-◌, ◌*◌, ◌%◌, min, max, Bool, not, ◌&&◌, ◌||◌, List, Result, Ok, Err, is_ok, nat_lt, nat_le, ◌==◌, if◌then◌else◌}
 use Rattle.std.specs.Int.{div_ceil}
 use Rattle.lapi_base.specs.declared.reply.Bad.{Bad}
 use Rattle.lapi_base.specs.declared.reply.Reason.TheVariants as reasons
@@ -118,3 +118,15 @@ Refuses bytes bad = IsRefused packet_form bytes bad.place bad.reason
 -- the packet that the bytes spell, or their first fault
 abbrev pub decoded : List ℕ → Result Packet Bad
 decoded bytes = answer packet_form bytes
+
+-- whether bytes spell a packet at all
+unfoldable pub spells_packet : List ℕ → Bool
+spells_packet bytes = is_ok (decoded bytes)
+
+-- why they spell none; of bytes that spell a packet nothing is said
+abbrev pub fault_or : Bad → Result Packet Bad → Bad
+fault_or none (Ok p) = none
+fault_or none (Err bad) = bad
+
+unfoldable pub refusal : List ℕ → Bad
+refusal bytes = fault_or (record { place = 0; reason = reasons.Short }) (decoded bytes)

@@ -126,3 +126,7 @@ module _ (script : Script) (rules : Rules) where
         bytes = bytes_after v e;
         held = held_after v e;
       }
+
+  -- the bytes of a task's memory
+  unfoldable pub memory_bytes : List Event → (task : ℕ) → List ℕ
+  memory_bytes J t = map ((values J).memory t) (upto script.memory)

@@ -28,6 +28,15 @@ pub enum Which {
     Unbuilt,
 }
 
+/// What is wrong with a line.
+#[derive(Clone, Copy, Debug, Eq, PartialEq)]
+pub enum Why {
+    /// It isn't of a form that may stand there.
+    Syntax,
+    /// It has its form, and a quantity passes its limit there.
+    Limit(Which),
+}
+
 /// Why a text is no input. Lines are counted from 1; line 0 stands for the whole text.
 #[derive(Clone, Copy, Debug, Eq, PartialEq)]
 pub enum ReadFault {

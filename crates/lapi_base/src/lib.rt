@@ -3,6 +3,7 @@
 
 mod address;
 mod bytes;
+mod command;
 mod event;
 mod frame;
 mod handler;
@@ -28,11 +29,12 @@ mod wire;
 
 pub use address::Addr;
 pub use bytes::Bytes;
+pub use command::{Command, View};
 pub use event::{Event, Events};
 pub use frame::Frame;
 pub use handler::{Effect, HeaderIn, HeaderOut};
 pub use head::{Head, NoteOp};
-pub use input::{Input, ReadFault, Which};
+pub use input::{Input, ReadFault, Which, Why};
 pub use memory::Memory;
 pub use message::{Leg, MsgName};
 pub use numbers::Numbers;

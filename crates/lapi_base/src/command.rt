@@ -1,0 +1,25 @@
+use crate::bytes::Bytes;
+
+/// What is written of an input.
+#[derive(Clone, Copy, Debug, Eq, PartialEq)]
+pub enum View {
+    /// How far the lines have come: counts, tasks with counters and memory, and quiet.
+    Report,
+    /// What happened, in order.
+    Journal,
+    /// The entries of every wire.
+    Wires,
+    /// Each line with its reply.
+    Trace,
+    /// How many tasks, statements and lines there are; no line is performed.
+    Counts,
+}
+
+/// What the words of a command ask for.
+#[derive(Debug, Drop)]
+pub enum Command {
+    /// To read an input, and to write this of it.
+    Read(View),
+    /// To show the packet that these bytes spell.
+    Show(Bytes),
+}
