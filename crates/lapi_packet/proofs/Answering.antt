@@ -4,7 +4,7 @@ use Rattle.std.specs.Prelude.{IfOk, IfErr}
 use Rattle.lapi_base.specs.declared.packet.Packet.{Packet}
 use Rattle.lapi_base.specs.declared.reply.Bad.{Bad}
 use Rattle.lapi_base.specs.Spelling.{packet_form, Spells, HasSpelling, Refuses, decoded}
-use Rattle.lapi_packet.specs.Written as written
+use Rattle.lapi_base.specs.Written as written
 use Rattle.lapi_packet.proofs.Spellings.{spelling_is}
 use Rattle.lapi_packet.proofs.Forms.{found, refused}
 use Rattle.lapi_packet.proofs.Numbers.{IsBytes}

@@ -14,8 +14,8 @@ use Rattle.lapi_base.specs.Layout.{Layout, First, longest}
 use Rattle.lapi_base.specs.Parts.{counter_form, range_form, word_form, count_form, span_form, within_span, covering_span, matching_span, left_behind, behind, within_form, covering_form, matching_form}
 use Rattle.lapi_base.specs.Heads.{put_form, get_go_form, get_back_form, putv_form, getv_go_form, getv_back_form, update_of, update_form, rmw_go_form, rmw_back_form, header_count_form, am_form, note_of, note_form, round_form, gfence_form, addr_form, is_operation, operation_form, head_form}
 use Rattle.lapi_base.specs.Spelling.{task_form, kind_form, front_form, acknowledgement_form, is_leg, leg_of, leg_form, name_form, length_form, fragment_form, fragment_size, data_form, packet_form, Spells}
-use Rattle.lapi_packet.specs.Codes.{leg_number, head_number, note_number, update_number}
-use Rattle.lapi_packet.specs.Written as written
+use Rattle.lapi_base.specs.Written.{leg_number, head_number, note_number, update_number}
+use Rattle.lapi_base.specs.Written as written
 use Rattle.lapi_packet.proofs.Forms.{Written, written_bind, written_spelling, Always, always_bind, always_spelled}
 use Rattle.lapi_packet.proofs.Lists.{as_is, written_bytes, count_bytes, written_repeated, count_repeated}
 use Rattle.lapi_packet.proofs.Choices.{written_if, always_if}

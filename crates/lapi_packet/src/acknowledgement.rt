@@ -10,7 +10,7 @@ ghost use Rattle.std.specs.Prelude.{◌≡◌, ◌≤◌, ◌+◌, ◌++◌, len
 ghost use Rattle.lapi_base.specs.Layout.{First};
 ghost use Rattle.lapi_base.specs.Spelling.{acknowledgement_form};
 ghost use Rattle.lapi_packet.specs.Reader.{Reads};
-ghost use Rattle.lapi_packet.specs.Written.{acknowledgement};
+ghost use Rattle.lapi_base.specs.Written.{acknowledgement};
 
 use crate::fault::{Fault, refused};
 use crate::number::{read_four, write_four};

@@ -1,7 +1,7 @@
 ghost use Rattle.std.specs.Prelude.{◌≡◌, ◌≤◌, ◌+◌, ◌++◌, length};
 ghost use Rattle.lapi_base.specs.Parts.{counter_form};
 ghost use Rattle.lapi_packet.specs.Reader.{Reads};
-ghost use Rattle.lapi_packet.specs.Written.{counter};
+ghost use Rattle.lapi_base.specs.Written.{counter};
 
 use crate::fault::{Fault, refused};
 use crate::number::{read_one, write_one};

@@ -14,7 +14,7 @@ ghost use Rattle.lapi_base.specs.Form.{reading, One, field};
 ghost use Rattle.lapi_base.specs.Spelling.{front_form, task_form, kind_form};
 ghost use Rattle.lapi_packet.specs.Codes.{kind_number, front_of};
 ghost use Rattle.lapi_packet.specs.Reader.{Gives, Reads};
-ghost use Rattle.lapi_packet.specs.Written as written;
+ghost use Rattle.lapi_base.specs.Written as written;
 
 use crate::fault::{Fault, refused};
 use crate::number::{read_one, write_one};

@@ -5,7 +5,7 @@ ghost use Rattle.lapi_base.specs.Heads.{head_form};
 ghost use Rattle.lapi_base.specs.Layout.{First};
 ghost use Rattle.lapi_packet.specs.Codes.{operation_number};
 ghost use Rattle.lapi_packet.specs.Reader.{Reads};
-ghost use Rattle.lapi_packet.specs.Written as written;
+ghost use Rattle.lapi_base.specs.Written as written;
 
 mod addr;
 mod am;

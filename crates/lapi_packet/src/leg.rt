@@ -10,7 +10,7 @@
 
 ghost use Rattle.std.specs.Prelude.{◌≡◌};
 ghost use Rattle.lapi_base.specs.Spelling.{leg_form, is_leg, leg_of};
-ghost use Rattle.lapi_packet.specs.Codes.{leg_number};
+ghost use Rattle.lapi_base.specs.Written.{leg_number};
 ghost use Rattle.lapi_packet.specs.Reader.{Reads};
 
 use crate::fault::{Fault, refused};

@@ -1,7 +1,7 @@
 ghost use Rattle.std.specs.Prelude.{◌≡◌, ◌≤◌, ◌+◌, ◌++◌, length};
 ghost use Rattle.lapi_base.specs.Form.{One, Two, Four, number_at};
 ghost use Rattle.lapi_packet.specs.Reader.{Gives};
-ghost use Rattle.lapi_packet.specs.Written.{one, two, four};
+ghost use Rattle.lapi_base.specs.Written.{one, two, four};
 
 use crate::fault::{Fault, cut_short};
 use lapi_base::Frame;

@@ -10,7 +10,8 @@
 ghost use Rattle.std.specs.Prelude.{◌≡◌};
 ghost use Rattle.lapi_base.specs.Form.{reading};
 ghost use Rattle.lapi_base.specs.Heads.{operation_form, is_operation};
-ghost use Rattle.lapi_packet.specs.Codes.{operation_number, head_number, note_number};
+ghost use Rattle.lapi_base.specs.Written.{head_number, note_number};
+ghost use Rattle.lapi_packet.specs.Codes.{operation_number};
 ghost use Rattle.lapi_packet.specs.Reader.{Gives};
 
 use crate::fault::{Fault, refused};

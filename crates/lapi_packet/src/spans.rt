@@ -12,7 +12,7 @@
 ghost use Rattle.std.specs.Prelude.{◌≡◌, ◌↔◌, IsTrue, ◌≤◌, ◌+◌, ◌*◌, ◌++◌, ◌==◌, length, if◌then◌else◌, IfOk};
 ghost use Rattle.lapi_base.specs.Parts.{count_form, span_form, within_form, covering_form, matching_form};
 ghost use Rattle.lapi_packet.specs.Reader.{Reads};
-ghost use Rattle.lapi_packet.specs.Written as written;
+ghost use Rattle.lapi_base.specs.Written as written;
 
 use crate::fault::{Fault, refused};
 use crate::number::{read_four, read_one, write_four};

@@ -13,7 +13,7 @@ ghost use Rattle.std.specs.Prelude.{◌≡◌, ◌↔◌, IsTrue, ◌≤◌, ◌
 ghost use Rattle.lapi_base.specs.Form.{bytes_form};
 ghost use Rattle.lapi_base.specs.Heads.{am_form, header_count_form};
 ghost use Rattle.lapi_packet.specs.Reader.{Reads};
-ghost use Rattle.lapi_packet.specs.Written as written;
+ghost use Rattle.lapi_base.specs.Written as written;
 
 use crate::counter;
 use crate::fault::{Fault, cut_short, refused};

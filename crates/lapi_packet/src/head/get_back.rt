@@ -9,7 +9,7 @@
 ghost use Rattle.std.specs.Prelude.{◌≡◌, ◌↔◌, IsTrue, ◌≤◌, ◌+◌, ◌++◌, length};
 ghost use Rattle.lapi_base.specs.Heads.{get_back_form};
 ghost use Rattle.lapi_packet.specs.Reader.{Reads};
-ghost use Rattle.lapi_packet.specs.Written as written;
+ghost use Rattle.lapi_base.specs.Written as written;
 
 use crate::counter;
 use crate::fault::Fault;

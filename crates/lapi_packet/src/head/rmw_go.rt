@@ -12,9 +12,9 @@
 
 ghost use Rattle.std.specs.Prelude.{◌≡◌, ◌↔◌, IsTrue, ◌≤◌, ◌+◌, ◌++◌, length};
 ghost use Rattle.lapi_base.specs.Heads.{rmw_go_form, update_form, update_of};
-ghost use Rattle.lapi_packet.specs.Codes.{update_number};
+ghost use Rattle.lapi_base.specs.Written.{update_number};
 ghost use Rattle.lapi_packet.specs.Reader.{Reads};
-ghost use Rattle.lapi_packet.specs.Written as written;
+ghost use Rattle.lapi_base.specs.Written as written;
 
 use crate::counter;
 use crate::fault::{Fault, refused};
