@@ -26,3 +26,4 @@ pub mod Reach
 pub mod Partial
 pub mod Shorts
 pub mod MoreRows
+pub mod TextRows

@@ -60,11 +60,11 @@ module _ (script : Script) (rules : Rules) where
   -- A link whose delivered numbers stay in the window.
   module _ (r : Run) (a b : ℕ) (h : Atomic script rules r.journal) (reach : (n : ℕ) → is_delivered r a b n ≡ true → n < least_undelivered script rules r a b + window_of script) where
     -- the least number that wasn't delivered
-    abbrev least : ℕ
+    abbrev pub least : ℕ
     least = least_undelivered script rules r a b
 
     -- a message that is partly delivered has a number in the window
-    inside : (m : MsgName) → IsPartlyDelivered script rules r a b m → (i : ℕ) × (i < window_of script) × IsNumberOf script rules r a b m (least + i)
+    pub inside : (m : MsgName) → IsPartlyDelivered script rules r a b m → (i : ℕ) × (i < window_of script) × IsNumberOf script rules r a b m (least + i)
     inside m (n, k, at, got, other, lacks) =
         ⊎_elim
         (λ (low : n < least).
@@ -75,24 +75,24 @@ module _ (script : Script) (rules : Rules) where
         (cases_lt n least)
 
     -- such a number of each message: they are as many, below the window, and different
-    offsets : (ms : List MsgName) → AllByRecursion (IsPartlyDelivered script rules r a b) ms → List ℕ
+    pub offsets : (ms : List MsgName) → AllByRecursion (IsPartlyDelivered script rules r a b) ms → List ℕ
     offsets [] x = []
     offsets (m ∷ ms) x = (inside m x.0).0 ∷ offsets ms x.1
 
     -- they are as many as the messages
-    offsets-length : (ms : List MsgName) (x : AllByRecursion (IsPartlyDelivered script rules r a b) ms) → length (offsets ms x) ≡ length ms
+    pub offsets-length : (ms : List MsgName) (x : AllByRecursion (IsPartlyDelivered script rules r a b) ms) → length (offsets ms x) ≡ length ms
     unfolding offsets
     offsets-length [] x = refl
     offsets-length (m ∷ ms) x = ap suc (offsets-length ms x.1)
 
     -- they are below the window
-    offsets-below : (ms : List MsgName) (x : AllByRecursion (IsPartlyDelivered script rules r a b) ms) → AllByRecursion (λ n. n < window_of script) (offsets ms x)
+    pub offsets-below : (ms : List MsgName) (x : AllByRecursion (IsPartlyDelivered script rules r a b) ms) → AllByRecursion (λ n. n < window_of script) (offsets ms x)
     unfolding offsets
     offsets-below [] x = tt
     offsets-below (m ∷ ms) x = ((inside m x.0).1, offsets-below ms x.1)
 
     -- that of another message is another
-    offsets-new : (m : MsgName) (i : ℕ) → IsNumberOf script rules r a b m (least + i) → (ms : List MsgName) (x : AllByRecursion (IsPartlyDelivered script rules r a b) ms) → AllByRecursion (λ c. name_eq m c ≡ false) ms → AllByRecursion (λ k. eqb i k ≡ false) (offsets ms x)
+    pub offsets-new : (m : MsgName) (i : ℕ) → IsNumberOf script rules r a b m (least + i) → (ms : List MsgName) (x : AllByRecursion (IsPartlyDelivered script rules r a b) ms) → AllByRecursion (λ c. name_eq m c ≡ false) ms → AllByRecursion (λ k. eqb i k ≡ false) (offsets ms x)
     unfolding offsets
     offsets-new m i at [] x d = tt
     offsets-new m i at (c ∷ ms) x d =
@@ -104,7 +104,7 @@ module _ (script : Script) (rules : Rules) where
         )
 
     -- so those of different messages are different
-    offsets-apart : (ms : List MsgName) (x : AllByRecursion (IsPartlyDelivered script rules r a b) ms) → IsDistinct name_eq ms → IsDistinct eqb (offsets ms x)
+    pub offsets-apart : (ms : List MsgName) (x : AllByRecursion (IsPartlyDelivered script rules r a b) ms) → IsDistinct name_eq ms → IsDistinct eqb (offsets ms x)
     unfolding offsets IsDistinct
     offsets-apart [] x d = tt
     offsets-apart (m ∷ ms) x d = let s = inside m x.0 in (offsets-new m s.0 s.2 ms x.1 d.0, offsets-apart ms x.1 d.1)

@@ -104,7 +104,7 @@ module _ (script : Script) (rules : Rules) where
     after-sent (act ∷ acts) r h = after-sent acts (perform script rules size refusal r act) (perform-sent r act h)
 
     -- and from the start
-    run-sent : (acts : List Act) → SentRun (run_of script rules size refusal acts)
+    pub run-sent : (acts : List Act) → SentRun (run_of script rules size refusal acts)
     unfolding run_of has_number
     run-sent acts = after-sent acts start (λ a b n h. absurd (false≢true h))
 

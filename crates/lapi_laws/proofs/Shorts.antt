@@ -34,7 +34,7 @@ use Rattle.lapi_laws.proofs.Runs.{run-sound}
 use Rattle.lapi_laws.proofs.Places.{upto-length}
 
 -- a number for each name
-leg_code : Leg → ℕ
+pub leg_code : Leg → ℕ
 leg_code Go = 0
 leg_code Back = 1
 leg_code Note = 2
@@ -54,7 +54,7 @@ leg-one (Join d) (Join e) h = ap Join (omega arith)
 leg-one _ _ h = absurd (omega arith)
 
 -- what a message of a valid script is below
-InRange : MsgName → Type 0
+pub InRange : MsgName → Type 0
 InRange m = (m.origin < 8) × (m.statement < 512) × (leg_code m.leg < 16)
 
 -- different messages have different numbers
@@ -84,7 +84,7 @@ copies (e ∷ J) = copies J
 
 module _ (script : Script) (rules : Rules) (valid : ValidScript script) where
   -- a task has few statements
-  statements-few : (a : ℕ) → length (statements script a) ≤ 512
+  pub statements-few : (a : ℕ) → length (statements script a) ≤ 512
   statements-few a = index script.lists a valid.lists
     where
       index : (ls : List (List Statement)) (k : ℕ) → AllByRecursion (λ (s : List Statement). (length s ≤ 512) × AllByRecursion ValidStatement s) ls → length (slice_index_or ls k []) ≤ 512
@@ -99,7 +99,7 @@ module _ (script : Script) (rules : Rules) (valid : ValidScript script) where
   leg-range a _ s h = omega arith
 
   -- a message that is there is in range
-  in-range : (m : MsgName) → has_message script rules m ≡ true → InRange m
+  pub in-range : (m : MsgName) → has_message script rules m ≡ true → InRange m
   unfolding InRange
   in-range m h =
       let both = and_parts _ _ h in
@@ -171,7 +171,7 @@ module _ (script : Script) (rules : Rules) (valid : ValidScript script) where
       omega arith
 
 -- where no reason is found, no test holds
-none-tests : (lines : List (Bool × Refusal)) → first_reason lines ≡ None → AllByRecursion (λ (l : Bool × Refusal). l.0 ≡ false) lines
+pub none-tests : (lines : List (Bool × Refusal)) → first_reason lines ≡ None → AllByRecursion (λ (l : Bool × Refusal). l.0 ≡ false) lines
 unfolding first_reason
 none-tests [] h = tt
 none-tests (l ∷ ls) h =
@@ -207,7 +207,7 @@ module _ (script : Script) (rules : Rules) where
   short-now e J k = tt
 
   -- what holds of all of two lists holds of the second's
-  last-of : (P : Deed → Type 0) (xs ys : List Deed) → AllByRecursion P (xs ++ ys) → AllByRecursion P ys
+  pub last-of : (P : Deed → Type 0) (xs ys : List Deed) → AllByRecursion P (xs ++ ys) → AllByRecursion P ys
   last-of P [] ys h = h
   last-of P (x ∷ xs) ys h = last-of P xs ys h.1
 
