@@ -1,0 +1,12 @@
+pub mod Numbers
+pub mod Values
+pub mod Rules
+pub mod Bounds
+pub mod Sound
+pub mod Complete
+pub mod Canon
+pub mod First
+pub mod Outcome
+pub mod Told
+pub mod Whole
+pub mod Worked
