@@ -1,0 +1,273 @@
+-- The numbers of a link go out in order: those that were sent are all below some bound.
+use Rattle.std.proofs.Common.{◌≡◌, ℕ, zero, suc, ◌+◌, ◌-◌, min, map, ◌<◌, ◌≤◌, ◌==◌, Bool, true, false, ◌&&◌, ◌||◌, not, List, [], ◌∷◌, ◌++◌, length, Option, Some, None, refl, sym, ap, ◌∙◌, subst, ⊎_elim, arith, inl, inr}
+use Rattle.std.specs.Prelude.{slice_get, nat_lt}
+use Rattle.std.specs.List.{AllByRecursion, list_any, flat_map}
+use Rattle.std.proofs.lemmas.Bool.{false≢true, and_parts, and_from, cond_both, eqb-true, eq-eqb, or_cases, or_left, or_right, lt-ltb, ltb-true, cases_lt, cases_Bool, cond-true, cond-false, le-ltb, ltb-false, both_ways, false_from_ne_true}
+use Rattle.std.proofs.lemmas.List.Folds.{list_any-append}
+use Rattle.std.proofs.lemmas.List.Concat.{flat_map-cons}
+use Rattle.std.proofs.lemmas.List.{map-append}
+use Rattle.lapi_base.specs.declared.script.Script.{Script}
+use Rattle.lapi_base.specs.declared.rule.Rules.{Rules}
+use Rattle.lapi_base.specs.declared.message.MsgName.{MsgName}
+use Rattle.lapi_base.specs.declared.event.Event.{Event}
+use Rattle.lapi_base.specs.declared.schedule.Act.{Act}
+use Rattle.lapi_base.specs.declared.schedule.Act.TheVariants.{Step, Poll, Tick, Deliver, Cut, Inject}
+use Rattle.lapi_base.specs.declared.reply.Bad.{Bad}
+use Rattle.lapi_base.specs.declared.reply.Reply.TheVariants.{Idle}
+use Rattle.lapi_base.specs.declared.packet.Packet.{Packet}
+use Rattle.lapi_base.specs.declared.packet.Packet.TheVariants.{Data, Ack}
+use Rattle.lapi_base.specs.Layout.{window_of}
+use Rattle.lapi_base.specs.Below.{below, least_missing}
+use Rattle.lapi_base.specs.Operations.{upto, statements}
+use Rattle.lapi_base.specs.Refusals.{next, why}
+use Rattle.lapi_base.specs.Jobs.{queue, runs}
+use Rattle.lapi_base.specs.Packets.{data_packet}
+use Rattle.lapi_base.specs.Record.{Run, start, out, is_number, has_number, is_sent, is_acked, base, packet_of, packets, ready, fresh, stale, copy_each, ack, with_handed, hand_over, deliver_entry, deliver, reply_with, unless_refused, add_event, step, poll, tick, begin_first, begin_at, begin, end_at, end, cut_entry, perform, after, run_of}
+use Rattle.lapi_base.specs.Seen.{HoldsOfRecords}
+use Rattle.lapi_base.specs.Sending.{SentAreFront, SentHaveBound, PollsSendNext}
+use Rattle.lapi_laws.proofs.NumberLaws.{any-all, below-all, least_missing-below, least_missing-not}
+use Rattle.lapi_laws.proofs.Lines.{all-flat_map}
+use Rattle.lapi_parts.proofs.Records.{of-runs}
+use Rattle.lapi_parts.proofs.Receivable.{sent-numbers}
+
+-- ---- sets of numbers that packets have
+
+number-append : (xs ys : List Packet) (n : ℕ) → has_number (xs ++ ys) n ≡ (has_number xs n || has_number ys n)
+unfolding has_number
+number-append xs ys n = list_any-append (is_number n) xs ys
+
+get-some : {X : Type 0} (xs : List X) (n : ℕ) → n < length xs → (x : X) × (slice_get xs n ≡ Some x)
+get-some [] n l = absurd (omega arith)
+get-some (x ∷ xs) zero l = (x, refl)
+get-some (x ∷ xs) (suc n) l = get-some xs n (let q : n < length xs = omega arith in q)
+
+-- a number among those below a bound that pass
+below-has : (n : ℕ) (p : ℕ → Bool) (k : ℕ) → k < n → p k ≡ true → list_any (λ x. x == k) (below n p) ≡ true
+unfolding below
+below-has zero p k l h = absurd (omega arith)
+below-has (suc n) p k l h =
+    cond_both (p n) (below n p ++ n ∷ []) (below n p) (λ xs. list_any (λ x. x == k) xs ≡ true)
+    (λ e. list_any-append (λ x. x == k) (below n p) (n ∷ [])
+    ∙ ⊎_elim
+    (λ (lt : k < n). or_left (list_any (λ x. x == k) (below n p)) (list_any (λ x. x == k) (n ∷ [])) (below-has n p k lt h))
+    (λ (ge : n ≤ k). or_right (list_any (λ x. x == k) (below n p)) (list_any (λ x. x == k) (n ∷ [])) (or_left (n == k) false (eq-eqb n k (let q : n ≡ k = omega arith in q))))
+    (cases_lt k n))
+    (λ e. ⊎_elim
+    (λ (lt : k < n). below-has n p k lt h)
+    (λ (ge : n ≤ k). absurd (false≢true (sym e ∙ subst (λ x. p x ≡ true) (let q : k ≡ n = omega arith in q) h)))
+    (cases_lt k n))
+
+module _ (script : Script) (rules : Rules) where
+  -- the packets of a list of numbers have these numbers, as far as the link has them
+  packet-number : (J : List Event) (n : ℕ) (o : Option (MsgName × ℕ)) → AllByRecursion (λ p. (k : ℕ) → is_number k p ≡ true → n ≡ k) (packet_of script rules J n o)
+  unfolding data_packet
+  packet-number J n None = tt
+  packet-number J n (Some pair) = (λ k h. eqb-true n k h, tt)
+
+  packet-there : (J : List Event) (n : ℕ) (o : Option (MsgName × ℕ)) (x : MsgName × ℕ) → o ≡ Some x → has_number (packet_of script rules J n o) n ≡ true
+  unfolding data_packet has_number
+  packet-there J n None x e = absurd (cc)
+  packet-there J n (Some pair) x e = or_left (n == n) false (eq-eqb n n refl)
+
+  packets-have : (J : List Event) (a b : ℕ) (numbers : List ℕ) (k : ℕ) → list_any (λ x. x == k) numbers ≡ true → k < length (out script J a b) → has_number (packets script rules J a b numbers) k ≡ true
+  unfolding packets
+  packets-have J a b [] k h l = absurd (false≢true h)
+  packets-have J a b (n ∷ ns) k h l =
+      let first = packet_of script rules J n (slice_get (out script J a b) n) in
+      let rest = flat_map (λ m. packet_of script rules J m (slice_get (out script J a b) m)) ns in
+      let split : has_number (flat_map (λ m. packet_of script rules J m (slice_get (out script J a b) m)) (n ∷ ns)) k ≡ (has_number first k || has_number rest k) = ap (λ ps. has_number ps k) (flat_map-cons (λ m. packet_of script rules J m (slice_get (out script J a b) m)) n ns) ∙ number-append first rest k in
+      split
+      ∙ ⊎_elim
+      (λ (here : (n == k) ≡ true).
+      let x = get-some (out script J a b) k l in
+      let same = eqb-true n k here in
+      or_left (has_number first k) (has_number rest k) (subst (λ (m : ℕ). has_number (packet_of script rules J m (slice_get (out script J a b) m)) k ≡ true) (sym same) (packet-there J k (slice_get (out script J a b) k) x.0 x.1)))
+      (λ (later : list_any (λ x. x == k) ns ≡ true). or_right (has_number first k) (has_number rest k) (packets-have J a b ns k later l))
+      (or_cases (n == k) (list_any (λ x. x == k) ns) h)
+
+  packets-only : (J : List Event) (a b : ℕ) (P : ℕ → Type 0) (numbers : List ℕ) → AllByRecursion P numbers → (k : ℕ) → has_number (packets script rules J a b numbers) k ≡ true → P k
+  unfolding packets has_number
+  packets-only J a b P numbers all k h =
+      let each = all-flat_map P (λ p. (j : ℕ) → is_number j p ≡ true → P j) (λ n. packet_of script rules J n (slice_get (out script J a b) n)) numbers all (λ n pn. weaker (packet_of script rules J n (slice_get (out script J a b) n)) n pn (packet-number J n (slice_get (out script J a b) n))) in
+      let q = any-all (is_number k) (λ p. (j : ℕ) → is_number j p ≡ true → P j) (flat_map (λ n. packet_of script rules J n (slice_get (out script J a b) n)) numbers) each h in
+      q.1 k q.2
+    where
+      weaker : (ps : List Packet) (n : ℕ) → P n → AllByRecursion (λ p. (j : ℕ) → is_number j p ≡ true → n ≡ j) ps → AllByRecursion (λ p. (j : ℕ) → is_number j p ≡ true → P j) ps
+      weaker [] n pn h' = tt
+      weaker (p ∷ ps) n pn h' = (λ j e. subst P (h'.0 j e) pn, weaker ps n pn h'.1)
+
+  -- ---- the sent numbers of a link are those below a bound
+
+  abbrev pub IsFront : List Packet → Type 0
+  IsFront ps = (n k : ℕ) → has_number ps n ≡ true → k < n → has_number ps k ≡ true
+
+  abbrev pub FrontRun : Run → Type 0
+  FrontRun r = (a b : ℕ) → IsFront (r.wire a b)
+
+  -- with numbers below a bound that aren't there yet
+  poll-front : (r : Run) (J : List Event) (a b : ℕ) → IsFront (r.wire a b) → IsFront (r.wire a b ++ packets script rules J a b (fresh script rules r J a b))
+  unfolding fresh
+  poll-front r J a b front n k h l =
+      let old = r.wire a b in
+      let count = length (out script J a b) in
+      let edge = base script (record r { journal = J }) a b + window_of script in
+      let test = λ (m : ℕ). not (is_sent r a b m) && nat_lt m edge in
+      let new = packets script rules J a b (below count test) in
+      number-append old new k
+      ∙ ⊎_elim
+      (λ (sent : has_number old n ≡ true). or_left (has_number old k) (has_number new k) (front n k sent l))
+      (λ (now : has_number new n ≡ true).
+      let room = packets-only J a b (λ m. (m < count) × (test m ≡ true)) (below count test) (below-all count test) n now in
+      let near : n < edge = ltb-true n edge (and_parts (not (is_sent r a b n)) (nat_lt n edge) room.1).1 in
+      let inside : n < count = room.0 in
+      elim (cases_Bool (is_sent r a b k)) [
+        | inl there ↦ or_left (has_number old k) (has_number new k) there
+        | inr absent ↦
+            let passes : test k ≡ true = and_from (not (is_sent r a b k)) (nat_lt k edge) (ap not absent) (lt-ltb k edge (omega arith)) in
+            let within : k < count = omega arith in
+            or_right (has_number old k) (has_number new k) (packets-have J a b (below count test) k (below-has count test k within passes) within)
+      ])
+      (or_cases (has_number old n) (has_number new n) (sym (number-append old new n) ∙ h))
+
+  -- with numbers that are there
+  tick-front : (r : Run) (a b : ℕ) → IsFront (r.wire a b) → IsFront (r.wire a b ++ packets script rules r.journal a b (stale script rules r a b))
+  unfolding stale
+  tick-front r a b front n k h l =
+      let old = r.wire a b in
+      let count = length (out script r.journal a b) in
+      let test = λ (m : ℕ). is_sent r a b m && not (is_acked r a b m) in
+      let new = packets script rules r.journal a b (below count test) in
+      number-append old new k
+      ∙ or_left (has_number old k) (has_number new k)
+      (⊎_elim
+      (λ (sent : has_number old n ≡ true). front n k sent l)
+      (λ (again : has_number new n ≡ true).
+      let room = packets-only r.journal a b (λ m. (m < count) × (test m ≡ true)) (below count test) (below-all count test) n again in
+      front n k (and_parts (is_sent r a b n) (not (is_acked r a b n)) room.1).0 l)
+      (or_cases (has_number old n) (has_number new n) (sym (number-append old new n) ∙ h)))
+
+  -- with an acknowledgement
+  ack-front : (r : Run) (x y a b : ℕ) → IsFront (r.wire x y) → IsFront (r.wire x y ++ ack script rules r a b ∷ [])
+  unfolding ack has_number
+  ack-front r x y a b front n k h l =
+      list_any-append (is_number k) (r.wire x y) (ack script rules r a b ∷ [])
+      ∙ or_left (has_number (r.wire x y) k) false
+      (⊎_elim
+      (λ (sent : has_number (r.wire x y) n ≡ true). front n k sent l)
+      (λ (none : false ≡ true). absurd (false≢true none))
+      (or_cases (has_number (r.wire x y) n) false (sym (list_any-append (is_number n) (r.wire x y) (ack script rules r a b ∷ [])) ∙ h)))
+
+  hand_over-front : (r : Run) (a b : ℕ) (p : Packet) → FrontRun r → FrontRun (hand_over script rules r a b p)
+  unfolding hand_over
+  hand_over-front r a b (Ack from to least bits) h x y = h x y
+  hand_over-front r a b (Data p) h x y =
+      let q = with_handed script rules r a b (Data p) in
+      cond_both (x == b && y == a) (r.wire x y ++ ack script rules q a b ∷ []) (r.wire x y) IsFront (λ _. ack-front q x y a b (h x y)) (λ _. h x y)
+
+  module _ (size : Packet → ℕ) (refusal : List ℕ → Bad) where
+    perform-front : (r : Run) (act : Act) → FrontRun r → FrontRun (perform script rules size refusal r act)
+    unfolding perform step poll tick deliver begin end
+    perform-front r (Step a) h =
+        let i = next r.journal a in
+        cond_both (nat_lt i (length (statements script a))) (add_event script rules r (unless_refused script rules r a i (why script rules r.journal a i))) (reply_with script rules r Idle) FrontRun
+        (λ _. elim (unless_refused script rules r a i (why script rules r.journal a i)) as (λ o. FrontRun (add_event script rules r o)) [ None ↦ h | Some e ↦ h ])
+        (λ _. h)
+    perform-front r (Poll t) h = λ a b.
+        let J = copy_each r.journal (ready script r.journal t) in
+        cond_both (a == t) (r.wire a b ++ packets script rules J a b (fresh script rules r J a b)) (r.wire a b) IsFront (λ _. poll-front r J a b (h a b)) (λ _. h a b)
+    perform-front r (Tick t) h = λ a b. cond_both (a == t) (r.wire a b ++ packets script rules r.journal a b (stale script rules r a b)) (r.wire a b) IsFront (λ _. tick-front r a b (h a b)) (λ _. h a b)
+    perform-front r (Deliver a b k) h = elim (slice_get (r.wire a b) k) as (λ o. FrontRun (deliver_entry script rules r a b o)) [ None ↦ h | Some p ↦ hand_over-front r a b p h ]
+    perform-front r (Cut a b k n) h = elim (slice_get (r.wire a b) k) as (λ o. FrontRun (cut_entry script rules size r n o)) [ Some p ↦ h | None ↦ h ]
+    perform-front r (Inject a b bytes) h = h
+    perform-front r (Act.Begin t w) h =
+        elim (runs r.journal t w) as (λ o. FrontRun (begin_at script rules r t w o)) [
+          | Some m ↦ h
+          | None ↦ elim (queue script rules r.journal t) as (λ ms. FrontRun (begin_first script rules r t w ms)) [ [] ↦ h | m ∷ ms ↦ h ]
+        ]
+    perform-front r (Act.End t w) h = elim (runs r.journal t w) as (λ o. FrontRun (end_at script rules r t w o)) [ None ↦ h | Some m ↦ h ]
+
+    after-front : (acts : List Act) (r : Run) → FrontRun r → FrontRun (after script rules size refusal r acts)
+    unfolding after
+    after-front [] r h = h
+    after-front (act ∷ acts) r h = after-front acts (perform script rules size refusal r act) (perform-front r act h)
+
+    run-front : (acts : List Act) → FrontRun (run_of script rules size refusal acts)
+    unfolding run_of has_number
+    run-front acts = after-front acts start (λ a b n k h l. absurd (false≢true h))
+
+-- the law
+pub sent-front : HoldsOfRecords SentAreFront
+sent-front = of-runs SentAreFront (λ script rules spells size refusal acts v. run-front script rules size refusal acts)
+
+-- ---- the bound
+
+module _ (script : Script) (rules : Rules) (r : Run) (a b : ℕ) (front : (n k : ℕ) → is_sent r a b n ≡ true → k < n → is_sent r a b k ≡ true) (within : (n : ℕ) → is_sent r a b n ≡ true → n < length (out script r.journal a b)) where
+  edge : ℕ
+  edge = least_missing (length (out script r.journal a b)) (is_sent r a b)
+
+  sent-below : (n : ℕ) → n < edge → is_sent r a b n ≡ true
+  unfolding edge
+  sent-below n l = least_missing-below (length (out script r.journal a b)) (is_sent r a b) n l
+
+  not-above : (n : ℕ) → edge ≤ n → is_sent r a b n ≡ true → ⊥
+  unfolding edge
+  not-above n l h =
+      let count = length (out script r.journal a b) in
+      let room : n < count = within n h in
+      let first : is_sent r a b edge ≡ true = ⊎_elim (λ (lt : edge < n). front n edge h lt) (λ (ge : n ≤ edge). subst (λ k. is_sent r a b k ≡ true) (let q : n ≡ edge = omega arith in q) h) (cases_lt edge n) in
+      both_ways _ (least_missing-not count (is_sent r a b) (let q : edge < count = omega arith in q)) first
+
+  bound-is : (n : ℕ) → is_sent r a b n ≡ nat_lt n edge
+  bound-is n =
+      ⊎_elim
+      (λ (lt : n < edge). sent-below n lt ∙ sym (lt-ltb n edge lt))
+      (λ (ge : edge ≤ n). false_from_ne_true _ (not-above n ge) ∙ sym (le-ltb n edge ge))
+      (cases_lt n edge)
+
+pub sent-bound : HoldsOfRecords SentHaveBound
+sent-bound script rules r is = λ a b. let front = sent-front script rules r is a b in let within = sent-numbers script rules r is a b in (edge script rules r a b front within, bound-is script rules r a b front within)
+
+-- the numbers from one bound to another
+below-range : (count bound limit : ℕ) (p : ℕ → Bool) → ((n : ℕ) → p n ≡ (not (nat_lt n bound) && nat_lt n limit)) → below count p ≡ map (λ i. bound + i) (upto (min count limit - bound))
+unfolding below upto
+below-range zero bound limit p h = ap (λ k. map (λ i. bound + i) (upto k)) (let q : 0 ≡ min 0 limit - bound = omega arith in q)
+below-range (suc count) bound limit p h =
+    let old = below-range count bound limit p h in
+    elim (cases_Bool (p count)) [
+      | inl takes ↦
+          let both = and_parts (not (nat_lt count bound)) (nat_lt count limit) (sym (h count) ∙ takes) in
+          let low : bound ≤ count = ltb-false count bound (not-true (nat_lt count bound) both.0) in
+          let high : count < limit = ltb-true count limit both.1 in
+          let size : min (suc count) limit - bound ≡ suc (count - bound) = omega arith in
+          let before : min count limit - bound ≡ count - bound = omega arith in
+          let here : bound + (count - bound) ≡ count = omega arith in
+          cond-true (p count) (below count p ++ count ∷ []) (below count p) takes
+          ∙ ap (λ xs. xs ++ count ∷ []) (old ∙ ap (λ k. map (λ i. bound + i) (upto k)) before)
+          ∙ ap (λ k. map (λ i. bound + i) (upto (count - bound)) ++ k ∷ []) (sym here)
+          ∙ sym (map-append (λ i. bound + i) (upto (count - bound)) ((count - bound) ∷ []))
+          ∙ ap (λ k. map (λ i. bound + i) (upto k)) (sym size)
+      | inr leaves ↦
+          let same : min count limit - bound ≡ min (suc count) limit - bound = outside count bound limit (sym (h count) ∙ leaves) in
+          cond-false (p count) (below count p ++ count ∷ []) (below count p) leaves ∙ old ∙ ap (λ k. map (λ i. bound + i) (upto k)) same
+    ]
+  where
+    not-true : (x : Bool) → not x ≡ true → x ≡ false
+    not-true false g = refl
+    not-true true g = absurd (false≢true g)
+
+    outside : (n low high : ℕ) → (not (nat_lt n low) && nat_lt n high) ≡ false → min n high - low ≡ min (suc n) high - low
+    outside n low high g =
+        ⊎_elim
+        (λ (lt : n < low). omega arith)
+        (λ (ge : low ≤ n).
+        ⊎_elim
+        (λ (lt : n < high). absurd (false≢true (sym g ∙ and_from (not (nat_lt n low)) (nat_lt n high) (ap not (le-ltb n low ge)) (lt-ltb n high lt))))
+        (λ (far : high ≤ n). omega arith)
+        (cases_lt n high))
+        (cases_lt n low)
+
+pub polls-next : HoldsOfRecords PollsSendNext
+unfolding fresh
+polls-next script rules r is = λ J a b bound sent.
+    below-range (length (out script J a b)) bound (base script (record r { journal = J }) a b + window_of script) (λ n. not (is_sent r a b n) && nat_lt n (base script (record r { journal = J }) a b + window_of script))
+    (λ n. ap (λ x. not x && nat_lt n (base script (record r { journal = J }) a b + window_of script)) (sent n))

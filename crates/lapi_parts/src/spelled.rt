@@ -1,0 +1,11 @@
+//! The spellings of the packets on the wires of a record.
+ghost use Rattle.lapi_base.specs.Entries.{PacketsArePlaced, PacketsAreSpelled, PacketsAreWritten};
+ghost use Rattle.lapi_base.specs.Seen.{HoldsOfRecords};
+
+/// Each packet on a wire of a valid script's record goes from the wire's one end to its other, and has a spelling: the
+/// bytes that are written for it.
+pub fn packets_are_spelled()
+    ensures placed { HoldsOfRecords PacketsArePlaced }
+    ensures spelled { HoldsOfRecords PacketsAreSpelled }
+    ensures written { HoldsOfRecords PacketsAreWritten }
+{}
