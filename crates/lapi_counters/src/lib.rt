@@ -1,0 +1,9 @@
+//! The counters of one task.
+#![tactic(auto)]
+
+mod counters;
+
+pub use counters::Counters;
+
+#[cfg(test)]
+mod tests;
