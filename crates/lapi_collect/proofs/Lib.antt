@@ -1,0 +1,5 @@
+pub mod Bits
+pub mod Flags
+pub mod Joining
+pub mod Open
+pub mod Upto

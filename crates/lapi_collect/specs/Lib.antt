@@ -1,0 +1,3 @@
+pub mod FlagWords
+pub mod Outstanding
+pub mod Rounds

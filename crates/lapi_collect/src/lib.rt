@@ -1,0 +1,13 @@
+//! What the collective calls and fences of one task wait for: statements that were begun and are not done, and
+//! the rounds that the tasks joined.
+#![tactic(auto)]
+
+mod flag_words;
+mod outstanding;
+mod rounds;
+
+pub use outstanding::Outstanding;
+pub use rounds::{AddressTable, Rounds};
+
+#[cfg(test)]
+mod tests;
