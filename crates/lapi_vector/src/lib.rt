@@ -1,0 +1,9 @@
+//! The pieces of a vector: bytes that lie apart in a memory and are read and written in order.
+#![tactic(auto)]
+
+mod pieces;
+
+pub use pieces::Pieces;
+
+#[cfg(test)]
+mod tests;
