@@ -1,0 +1,4 @@
+pub mod BuiltInHeader
+pub mod CompletionFn
+pub mod Handlers
+pub mod HeaderFn
