@@ -1,19 +1,44 @@
-use crate::link::{Ack, Link};
-use crate::memory::{read, write};
-use lapi_base::{
-    Addr, DataPacket, Event, Events, Head, Leg, Memory, MsgName, Packet, Payload, Reply, Script,
-    Statement,
-};
-use lapi_packet::decode;
-use std::alloc::Global;
-use std::cmp;
+ghost use Rattle.std.specs.Prelude.{◌≡◌, ◌+◌, ◌*◌, ◌<◌, ◌≤◌, true, List, ◌++◌, ◌∷◌, [], length, map, option_map, slice_get, Some, OnOk, IfOk};
+ghost use Rattle.std.specs.List.{AllByRecursion};
+ghost use Rattle.lapi_base.specs.declared.event.Event.{Event};
+ghost use Rattle.lapi_base.specs.declared.event.Event.TheVariants.{Issue, Refuse, Land};
+ghost use Rattle.lapi_base.specs.declared.message.Leg.TheVariants.{Go};
+ghost use Rattle.lapi_base.specs.Names.{message, done, Issued, Copied};
+ghost use Rattle.lapi_base.specs.Operations.{statements};
+ghost use Rattle.lapi_base.specs.declared.script.Script.{Script};
+ghost use Rattle.lapi_base.specs.Below.{every_below};
+ghost use Rattle.lapi_base.specs.Counters.{count, reads};
+ghost use Rattle.lapi_base.specs.Final.{is_idle, is_settled, is_quiet};
+ghost use Rattle.lapi_base.specs.Jobs.{queue, busy};
+ghost use Rattle.lapi_base.specs.Refusals.{next, refusals};
+ghost use Rattle.lapi_base.specs.Values.{memory_bytes};
+ghost use Rattle.lapi_base.specs.Written as written;
+ghost use Rattle.lapi_base.specs.Record.{Run, start, copy_each, to_copy_of, ready, ack, with_entry, hand_over, step, poll, deliver};
+ghost use Rattle.lapi_base.specs.declared.packet.Packet.TheVariants.{Data};
+ghost use Rattle.lapi_world.specs.Arrivals.{Arrives, accepted};
+ghost use Rattle.lapi_base.specs.Built.{is_built_act};
+ghost use Rattle.lapi_base.specs.Seen.{no_rules, IsRecord, performed};
+ghost use Rattle.lapi_base.specs.Spelling.{HasSpelling, spells_packet};
+ghost use Rattle.lapi_base.specs.Valid.{ValidAct};
+ghost use Rattle.lapi_world.specs.declared.link.Link.{Link};
+ghost use Rattle.lapi_world.specs.declared.task.TaskState.{TaskState};
+ghost use Rattle.lapi_world.specs.Built.{IsPerformed};
+ghost use Rattle.lapi_world.specs.LinkParts.{IsEmpty, IsTaken, IsTold};
+ghost use Rattle.lapi_world.specs.Stands.{Stands, StandsForOne, IsUntouched};
+ghost use Rattle.lapi_world.specs.Steps.{FitsIn, IsBefore, IsGrown, IsRefused, IsIssued, IsLanded, LandsWithin, IsLinked, IsSentWhole, IsPutOn, AllSpelled, IsCopied, ReadsWithin, uncopied, put_packet, statement_copied};
 
-/// One task: its next statement, and its memory.
-#[derive(Drop)]
-struct TaskState {
-    next: u32,
-    memory: Vec<u8>,
-}
+use crate::ack::Ack;
+use crate::link::Link;
+use crate::memory::read;
+use crate::name::{is_copy, is_issue};
+use crate::put::{Put, put_of, reason_of, statement_count, statement_of};
+use crate::task::TaskState;
+use crate::wire::packet_at;
+use lapi_base::{
+    Act, Bytes, DataPacket, Event, Events, Head, Leg, Memory, MsgName, Packet, Payload, Refusal,
+    Reply, Script, Statement,
+};
+use std::alloc::Global;
 
 /// All that happened so far, and what it left.
 #[derive(Drop)]
@@ -25,228 +50,529 @@ pub struct Record {
 }
 
 impl Record {
-    pub fn new(alloc: Global, script: &Script) -> Result<Record, Memory> {
-        let mut record = Record {
-            tasks: Vec::new(alloc),
-            links: Vec::new(alloc),
+    /// Nothing happened yet.
+    pub fn new(alloc: Global, script: &Script) -> Result<Record, Memory>
+        requires { IsPerformed script.now }
+        ensures { IfOk result (λ kept. Stands script.now kept start) }
+    {
+        let tasks = empty_tasks(alloc, script.tasks, script.memory)?;
+        let links = empty_links(alloc, script.tasks * script.tasks)?;
+        Ok(Record {
+            tasks,
+            links,
             journal: Events::new(alloc),
-        };
-        for _ in 0..script.tasks {
-            let memory = vec![in alloc; 0u8; script.memory as usize]?;
-            record.tasks.push(TaskState { next: 0, memory })?;
-        }
-        for _ in 0..script.tasks as u64 * script.tasks as u64 {
-            record.links.push(Link::new(alloc))?;
-        }
-        Ok(record)
+        })
     }
 
-    pub fn journal(&self) -> &[Event] {
+    pub fn journal(&self) -> &[Event]
+        ensures { result.now ≡ self.now.journal }
+    {
         self.journal.as_slice()
     }
 
-    pub fn link(&self, a: u32, b: u32) -> Option<&Link> {
-        self.links.get(self.place(a, b)?)
+    fn task(&self, t: u32) -> Option<&TaskState>
+        ensures { option_map (λ x. x.now) result ≡ slice_get self.now.tasks.items t }
+    {
+        self.tasks.as_slice().get(t as usize)
     }
 
-    pub fn next(&self, t: u32) -> u32 {
-        self.tasks.get(t as usize).map_or(0, |task| task.next)
+    fn link(&self, tasks: u32, a: u32, b: u32) -> Option<&Link>
+        requires { (a < tasks) × (b < tasks) × (tasks ≤ 8) }
+        ensures { option_map (λ x. x.now) result ≡ slice_get self.now.links.items (a * tasks + b) }
+    {
+        self.links.as_slice().get(place(tasks, a, b))
     }
 
-    pub fn memory(&self, t: u32) -> &[u8] {
-        match self.tasks.get(t as usize) {
+    /// What stands on the wire from `a` to `b`.
+    pub fn entries(&self, tasks: u32, a: u32, b: u32) -> &[Bytes]
+        requires { (a < tasks) × (b < tasks) × (tasks ≤ 8) }
+        ensures { (script : Script) (r : Run) → script.tasks ≡ tasks → Stands script self.now r → result.now ≡ map written.packet (r.wire a b) }
+    {
+        match self.link(tasks, a, b) {
+            Some(link) => link.entries(),
+            None => &[],
+        }
+    }
+
+    pub fn next(&self, t: u32) -> u32
+        ensures { (script : Script) (r : Run) → t < script.tasks → Stands script self.now r → result ≡ next r.journal t }
+    {
+        match self.task(t) {
+            Some(task) => task.next,
+            None => 0,
+        }
+    }
+
+    pub fn refusals(&self, t: u32) -> &[(u32, Refusal)]
+        ensures { (script : Script) (r : Run) → t < script.tasks → Stands script self.now r → result.now ≡ refusals r.journal t }
+    {
+        match self.task(t) {
+            Some(task) => task.refusals.as_slice(),
+            None => &[],
+        }
+    }
+
+    pub fn memory(&self, t: u32) -> &[u8]
+        ensures { (script : Script) (r : Run) → t < script.tasks → Stands script self.now r → result.now ≡ memory_bytes script no_rules r.journal t }
+    {
+        match self.task(t) {
             Some(task) => task.memory.as_slice(),
             None => &[],
         }
     }
 
-    /// The task's next statement. Forms that are not built yet block; no input has them.
-    pub fn step(&mut self, script: &Script, t: u32) -> Result<Reply, Memory> {
-        let statement = self.next(t);
-        let Some(form) = statement_of(script, t, statement) else {
+    /// No form that is performed reads a counter.
+    pub fn reads(&self, t: u32) -> &[(u32, u64)]
+        ensures { (script : Script) (r : Run) → IsPerformed script → Stands script self.now r → result.now ≡ reads script no_rules r.journal t }
+    {
+        let _ = t;
+        &[]
+    }
+
+    /// No form that is performed announces or sets a counter.
+    pub fn counter(&self, t: u32, c: u32) -> u64
+        ensures { (script : Script) (r : Run) → IsPerformed script → Stands script self.now r → result ≡ count script no_rules r.journal t c }
+    {
+        let _ = (t, c);
+        0
+    }
+
+    /// No form that is performed has a completion handler.
+    pub fn queued(&self, t: u32) -> u32
+        ensures { (script : Script) (r : Run) → IsPerformed script → Stands script self.now r → result ≡ length (queue script no_rules r.journal t) }
+    {
+        let _ = t;
+        0
+    }
+
+    pub fn running(&self, t: u32) -> u32
+        ensures { (script : Script) (r : Run) → IsPerformed script → Stands script self.now r → result ≡ length (busy script r.journal t) }
+    {
+        let _ = t;
+        0
+    }
+
+    /// What a schedule line of these forms does.
+    pub fn perform(&mut self, alloc: Global, script: &Script, act: &Act) -> Result<Reply, Memory>
+        requires script { IsPerformed script.now }
+        requires act { ValidAct script.now spells_packet act.now × (is_built_act act.now ≡ true) }
+        requires stands { StandsForOne script.now self.old }
+        ensures ok { OnOk result ((r : Run) → IsRecord script.now no_rules r → Stands script.now self.old r → Stands script.now self.new (performed script.now no_rules r act.now)) }
+        ensures reply { IfOk result (λ reply. (r : Run) → IsRecord script.now no_rules r → Stands script.now self.old r → (performed script.now no_rules r act.now).replies ≡ r.replies ++ reply ∷ []) }
+    {
+        match act {
+            Act::Step(t) => self.step(script, *t),
+            Act::Poll(t) => self.poll(alloc, script, *t),
+            Act::Deliver { a, b, k } => self.deliver(alloc, script, *a, *b, *k),
+            _ => Ok(Reply::Idle),
+        }
+    }
+
+    /// The task's next statement.
+    fn step(&mut self, script: &Script, t: u32) -> Result<Reply, Memory>
+        requires script { IsPerformed script.now }
+        requires task { t < script.now.tasks }
+        requires stands { StandsForOne script.now self.old }
+        ensures ok { OnOk result ((r : Run) → Stands script.now self.old r → Stands script.now self.new (step script.now no_rules r t)) }
+        ensures reply { IfOk result (λ reply. (r : Run) → Stands script.now self.old r → (step script.now no_rules r t).replies ≡ r.replies ++ reply ∷ []) }
+    {
+        let i = self.tasks[t as usize].next;
+        let Some(statement) = statement_of(script, t, i) else {
             return Ok(Reply::Idle);
         };
-        match form {
-            Statement::Store { at, bytes } => self.write(t, *at, bytes.as_slice()),
-            Statement::Put { .. } => {}
-            _ => return Ok(Reply::Blocked),
+        match reason_of(script, statement) {
+            Some(why) => self.refuse(t, i, why)?,
+            None => self.issue(t, i, statement)?,
         }
-        if let Some(task) = self.tasks.get_mut(t as usize) {
-            task.next = statement.saturating_add(1);
-        }
-        self.journal.push(Event::Issue { task: t, statement })?;
         Ok(Reply::Did)
+    }
+
+    fn refuse(&mut self, t: u32, i: u32, why: Refusal) -> Result<(), Memory>
+        requires { IsBefore self.old t i }
+        ensures { OnOk result (IsGrown self.old self.new t (Refuse t i why) (IsRefused why)) }
+    {
+        let task = &mut self.tasks[t as usize];
+        task.refuse(why)?;
+        self.journal.push(Event::Refuse {
+            task: t,
+            statement: i,
+            why,
+        })?;
+        Ok(())
+    }
+
+    fn issue(&mut self, t: u32, i: u32, statement: &Statement) -> Result<(), Memory>
+        requires task { IsBefore self.old t i }
+        requires fits { (task : TaskState) → slice_get self.old.tasks.items t ≡ Some task → FitsIn statement.now task.memory.items }
+        ensures { OnOk result (IsGrown self.old self.new t (Issue t i) (IsIssued statement.now)) }
+    {
+        let task = &mut self.tasks[t as usize];
+        task.issue(statement);
+        self.journal.push(Event::Issue {
+            task: t,
+            statement: i,
+        })?;
+        Ok(())
     }
 
     /// Copies what the task issued, and sends what its windows allow.
-    pub fn poll(&mut self, alloc: Global, script: &Script, t: u32) -> Result<Reply, Memory> {
-        for statement in 0..self.next(t) {
-            if let Some(put) = put_of(script, t, statement) {
-                if !self.is_copied(put.name) {
-                    self.copy(t, &put)?;
-                }
-            }
-        }
+    fn poll(&mut self, alloc: Global, script: &Script, t: u32) -> Result<Reply, Memory>
+        requires script { IsPerformed script.now }
+        requires task { t < script.now.tasks }
+        requires stands { StandsForOne script.now self.old }
+        ensures ok { OnOk result ((r : Run) → IsRecord script.now no_rules r → Stands script.now self.old r → Stands script.now self.new (poll script.now no_rules r t)) }
+        ensures reply { IfOk result (λ reply. (r : Run) → (poll script.now no_rules r t).replies ≡ r.replies ++ reply ∷ []) }
+    {
+        self.copy_all(script, t)?;
         for b in 0..script.tasks {
-            if let Some(link) = self.link_mut(t, b) {
-                link.send(alloc)?;
-            }
+            self.send(alloc, place(script.tasks, t, b))?;
         }
         Ok(Reply::Did)
     }
 
-    /// Hands entry `k` of wire (`a`, `b`) to task `b`.
-    pub fn deliver(&mut self, alloc: Global, a: u32, b: u32, k: u32) -> Result<Reply, Memory> {
-        let Some(entry) = self.entry(a, b, k) else {
-            return Ok(Reply::Absent);
-        };
-        match decode(entry) {
-            Ok(Packet::Data(packet)) => self.arrive(alloc, a, b, &packet)?,
-            Ok(Packet::Ack { base, bits, .. }) => {
-                if let Some(link) = self.link_mut(b, a) {
-                    link.acked(Ack { base, bits })?;
-                }
-            }
-            Err(bad) => return Ok(Reply::Bad(bad)),
+    fn copy_all(&mut self, script: &Script, t: u32) -> Result<(), Memory>
+        requires script { IsPerformed script.now }
+        requires task { t < script.now.tasks }
+        requires stands { StandsForOne script.now self.old }
+        ensures { OnOk result ((r : Run) → Stands script.now self.old r → Stands script.now self.new (record r { journal = copy_each r.journal (ready script.now r.journal t) })) }
+    {
+        for i in 0..statement_count(script, t) {
+            self.copy_next(script, t, i)?;
         }
-        Ok(Reply::Did)
+        Ok(())
     }
 
-    /// Whether all that was sent is acknowledged, and no poll would add anything.
-    pub fn is_quiet(&self, script: &Script) -> bool {
-        self.links.iter().all(|link| link.is_quiet())
-            && (0..script.tasks).all(|t| !self.has_uncopied(script, t))
+    /// Copies statement `i` of task `t`, if it was issued and not copied.
+    fn copy_next(&mut self, script: &Script, t: u32, i: u32) -> Result<(), Memory>
+        requires script { IsPerformed script.now }
+        requires statement { (t < script.now.tasks) × (i < length (statements script.now t)) }
+        requires stands { (r : Run) × Stands script.now self.old r }
+        ensures { OnOk result ((r : Run) (J : List Event) → Stands script.now self.old r → done (Issued t i) r.journal ≡ done (Issued t i) J → Stands script.now self.new (record r { journal = copy_each r.journal (to_copy_of script.now J t i) })) }
+    {
+        match self.uncopied(script, t, i) {
+            Some(put) => self.copy(script.tasks, t, i, put),
+            None => Ok(()),
+        }
     }
 
-    fn has_uncopied(&self, script: &Script, t: u32) -> bool {
-        (0..self.next(t)).any(|statement| {
-            put_of(script, t, statement).is_some_and(|put| !self.is_copied(put.name))
-        })
+    /// The put that statement `i` of task `t` is, if it was issued and not copied.
+    fn uncopied(&self, script: &Script, t: u32, i: u32) -> Option<Put>
+        ensures { result ≡ uncopied self.now.journal t i (slice_get (statements script.now t) i) }
+    {
+        let put = put_of(statement_of(script, t, i)?)?;
+        let name = go(t, i);
+        (self.is_issued(t, i) && !self.is_copied(name)).then_some(put)
     }
 
-    fn is_copied(&self, name: MsgName) -> bool {
-        self.journal.as_slice().contains(&Event::Copy(name))
+    #[tactic(auto, unfolding(lapi_base::specs::Names::done))]
+    fn is_issued(&self, t: u32, i: u32) -> bool
+        ensures { result ≡ done (Issued t i) self.now.journal }
+    {
+        self.journal
+            .as_slice()
+            .iter()
+            .any(|event| is_issue(event, t, i))
+    }
+
+    #[tactic(auto, unfolding(lapi_base::specs::Names::done))]
+    fn is_copied(&self, name: MsgName) -> bool
+        ensures { result ≡ done (Copied name) self.now.journal }
+    {
+        self.journal
+            .as_slice()
+            .iter()
+            .any(|event| is_copy(event, name))
     }
 
     /// Reads the bytes of a put, which is one packet on its link from then on.
-    fn copy(&mut self, t: u32, put: &Put) -> Result<(), Memory> {
-        let payload = payload_of(read(self.memory(t), put.from, put.len));
-        if let Some(link) = self.link_mut(t, put.target) {
-            let packet = DataPacket {
-                from: t,
-                to: put.target,
-                seq: link.next_number()?,
-                name: put.name,
-                head: Head::Put {
-                    at: put.to,
-                    tgt: None,
-                    cmpl: None,
-                },
-                length: put.len,
-                fragment: 0,
-                payload,
-            };
-            link.append(Packet::Data(packet))?;
-        }
-        self.journal.push(Event::Copy(put.name))
+    fn copy(&mut self, tasks: u32, t: u32, i: u32, put: Put) -> Result<(), Memory>
+        requires place { (t < tasks) × (put.target < tasks) × (tasks ≤ 8) }
+        requires link { (t * tasks + put.target) < length self.old.links.items }
+        requires source { ReadsWithin self.old t put }
+        ensures { OnOk result (IsCopied self.old self.new tasks t i put) }
+    {
+        let mut payload = Payload::new();
+        let task = &self.tasks[t as usize];
+        payload.extend_from_slice(read(task.memory.as_slice(), put.from, put.len));
+        let link = &mut self.links[place(tasks, t, put.target)];
+        let packet = packet_of(put, t, i, link.count(), payload);
+        link.append(Packet::Data(packet))?;
+        self.journal.push(Event::Copy(go(t, i)))?;
+        Ok(())
     }
 
-    /// A data packet of link (`a`, `b`) arrives. Every message has one packet, so it lands at once.
-    fn arrive(&mut self, alloc: Global, a: u32, b: u32, packet: &DataPacket) -> Result<(), Memory> {
-        let Some(link) = self.link_mut(a, b) else {
-            return Ok(());
-        };
-        let is_new = !link.is_delivered(packet.seq);
-        if is_new {
-            link.deliver(packet.seq)?;
-        }
-        let Ack { base, bits } = link.ack();
-        if is_new {
-            if let Head::Put { at, .. } = packet.head {
-                self.write(b, at, packet.payload.as_slice());
+    /// Sends what the window of the link at this place allows.
+    fn send(&mut self, alloc: Global, place: usize) -> Result<(), Memory>
+        requires place { place < length self.old.links.items }
+        requires spelled { (link : Link) → slice_get self.old.links.items place ≡ Some link → AllSpelled link }
+        ensures { OnOk result (IsLinked self.old self.new place IsSentWhole) }
+    {
+        let link = &mut self.links[place];
+        let end = link.end();
+        link.send_below(alloc, end)?;
+        Ok(())
+    }
+
+    /// Hands entry `k` of wire (`a`, `b`) to task `b`.
+    fn deliver(
+        &mut self,
+        alloc: Global,
+        script: &Script,
+        a: u32,
+        b: u32,
+        k: u32,
+    ) -> Result<Reply, Memory>
+        requires script { IsPerformed script.now }
+        requires tasks { (a < script.now.tasks) × (b < script.now.tasks) }
+        requires stands { StandsForOne script.now self.old }
+        ensures ok { OnOk result ((r : Run) → IsRecord script.now no_rules r → Stands script.now self.old r → Stands script.now self.new (deliver script.now no_rules r a b k)) }
+        ensures reply { IfOk result (λ reply. (r : Run) → IsRecord script.now no_rules r → Stands script.now self.old r → (deliver script.now no_rules r a b k).replies ≡ r.replies ++ reply ∷ []) }
+    {
+        let there = place(script.tasks, a, b);
+        match packet_at(self.links[there].entries(), k) {
+            Err(bad) => Ok(Reply::Bad(bad)),
+            Ok(None) => Ok(Reply::Absent),
+            Ok(Some(Packet::Ack { base, bits, .. })) => {
+                self.tell(place(script.tasks, b, a), Ack { base, bits })?;
+                Ok(Reply::Did)
             }
-            self.journal.push(Event::Land(packet.name))?;
+            Ok(Some(Packet::Data(packet))) => {
+                self.arrive(alloc, script, a, b, &packet)?;
+                Ok(Reply::Did)
+            }
         }
+    }
+
+    /// A data packet of link (`a`, `b`) arrives, and is acknowledged.
+    fn arrive(
+        &mut self,
+        alloc: Global,
+        script: &Script,
+        a: u32,
+        b: u32,
+        packet: &DataPacket,
+    ) -> Result<(), Memory>
+        requires script { IsPerformed script.now }
+        requires tasks { (a < script.now.tasks) × (b < script.now.tasks) }
+        requires stands { (r : Run) × Stands script.now self.old r × Arrives script.now r a b packet.now }
+        ensures { OnOk result ((r : Run) → Stands script.now self.old r → Arrives script.now r a b packet.now → Stands script.now self.new (hand_over script.now no_rules r a b (Data packet.now))) }
+    {
+        self.accept(script, a, b, packet)?;
+        self.acknowledge(alloc, script, a, b)
+    }
+
+    /// The number of a packet was handed over; its message lands with the last of its numbers.
+    fn accept(&mut self, script: &Script, a: u32, b: u32, packet: &DataPacket) -> Result<(), Memory>
+        requires script { IsPerformed script.now }
+        requires tasks { (a < script.now.tasks) × (b < script.now.tasks) }
+        requires stands { (r : Run) × Stands script.now self.old r × Arrives script.now r a b packet.now }
+        ensures { OnOk result ((r : Run) → Stands script.now self.old r → Arrives script.now r a b packet.now → Stands script.now self.new (accepted script.now r a b packet.now)) }
+    {
+        let there = place(script.tasks, a, b);
+        if self.links[there].is_taken(u64::from(packet.seq)) {
+            return self.take(there, packet.seq);
+        }
+        self.take(there, packet.seq)?;
+        if !self.links[there].has_whole(packet.name) {
+            return Ok(());
+        }
+        self.land(b, packet)
+    }
+
+    /// Tells `a` what was handed over of link (`a`, `b`).
+    fn acknowledge(&mut self, alloc: Global, script: &Script, a: u32, b: u32) -> Result<(), Memory>
+        requires script { IsPerformed script.now }
+        requires tasks { (a < script.now.tasks) × (b < script.now.tasks) }
+        requires stands { (r : Run) × Stands script.now self.old r × HasSpelling (ack script.now no_rules r a b) }
+        ensures { OnOk result ((r : Run) → Stands script.now self.old r → Stands script.now self.new (with_entry script.now no_rules r b a (ack script.now no_rules r a b))) }
+    {
+        let Ack { base, bits } = self.links[place(script.tasks, a, b)].ack();
         let ack = Packet::Ack {
             from: b,
             to: a,
             base,
             bits,
         };
-        match self.link_mut(b, a) {
-            Some(back) => back.acknowledge(alloc, &ack),
-            None => Ok(()),
+        self.put_on(alloc, place(script.tasks, b, a), &ack)
+    }
+
+    /// A message's bytes are written where it goes.
+    fn land(&mut self, t: u32, packet: &DataPacket) -> Result<(), Memory>
+        requires { LandsWithin self.old t packet.now }
+        ensures { OnOk result (IsGrown self.old self.new t (Land packet.now.name) (IsLanded packet.now)) }
+    {
+        let task = &mut self.tasks[t as usize];
+        task.land(packet);
+        self.journal.push(Event::Land(packet.name))?;
+        Ok(())
+    }
+
+    /// Whether everything sent is acknowledged, and no poll would add anything.
+    #[tactic(auto, unfolding(lapi_base::specs::Final::is_quiet))]
+    pub fn is_quiet(&self, script: &Script) -> bool
+        requires { IsPerformed script.now }
+        ensures { (r : Run) → Stands script.now self.now r → result ≡ is_quiet script.now no_rules r }
+    {
+        self.all_idle(script) && self.all_settled(script)
+    }
+
+    fn all_idle(&self, script: &Script) -> bool
+        requires { IsPerformed script.now }
+        ensures { (r : Run) → Stands script.now self.now r → result ≡ every_below script.now.tasks (is_idle script.now no_rules r) }
+    {
+        for t in 0..script.tasks {
+            if !self.is_idle(script, t) {
+                return false;
+            }
+        }
+        true
+    }
+
+    /// Whether a poll of task `t` would copy nothing.
+    fn is_idle(&self, script: &Script, t: u32) -> bool
+        requires { IsPerformed script.now }
+        ensures { (r : Run) → Stands script.now self.now r → result ≡ is_idle script.now no_rules r t }
+    {
+        for i in 0..statement_count(script, t) {
+            if !self.has_copied(script, t, i) {
+                return false;
+            }
+        }
+        true
+    }
+
+    fn has_copied(&self, script: &Script, t: u32, i: u32) -> bool
+        requires script { IsPerformed script.now }
+        requires statement { i < length (statements script.now t) }
+        ensures { (r : Run) → Stands script.now self.now r → result ≡ statement_copied script.now r.journal t i }
+    {
+        match self.uncopied(script, t, i) {
+            Some(_) => false,
+            None => true,
         }
     }
 
-    fn entry(&self, a: u32, b: u32, k: u32) -> Option<&[u8]> {
-        let entry = self.link(a, b)?.entries().get(k as usize)?;
-        Some(entry.as_slice())
+    fn all_settled(&self, script: &Script) -> bool
+        requires { IsPerformed script.now }
+        ensures { (r : Run) → Stands script.now self.now r → result ≡ every_below script.now.tasks (λ a. every_below script.now.tasks (is_settled script.now no_rules r a)) }
+    {
+        for a in 0..script.tasks {
+            if !self.are_settled_from(script, a) {
+                return false;
+            }
+        }
+        true
     }
 
-    fn write(&mut self, t: u32, at: u32, bytes: &[u8]) {
-        if let Some(task) = self.tasks.get_mut(t as usize) {
-            write(&mut task.memory, at, bytes);
+    fn are_settled_from(&self, script: &Script, a: u32) -> bool
+        requires script { IsPerformed script.now }
+        requires task { a < script.now.tasks }
+        ensures { (r : Run) → Stands script.now self.now r → result ≡ every_below script.now.tasks (is_settled script.now no_rules r a) }
+    {
+        for b in 0..script.tasks {
+            if !self.is_settled(script, a, b) {
+                return false;
+            }
+        }
+        true
+    }
+
+    fn is_settled(&self, script: &Script, a: u32, b: u32) -> bool
+        requires script { IsPerformed script.now }
+        requires tasks { (a < script.now.tasks) × (b < script.now.tasks) }
+        ensures { (r : Run) → Stands script.now self.now r → result ≡ is_settled script.now no_rules r a b }
+    {
+        match self.link(script.tasks, a, b) {
+            Some(link) => link.is_settled(),
+            None => false,
         }
     }
 
-    fn link_mut(&mut self, a: u32, b: u32) -> Option<&mut Link> {
-        let place = self.place(a, b)?;
-        self.links.get_mut(place)
+    fn tell(&mut self, place: usize, ack: Ack) -> Result<(), Memory>
+        requires { place < length self.old.links.items }
+        ensures { OnOk result (IsLinked self.old self.new place (λ before after. IsTold before after ack)) }
+    {
+        let link = &mut self.links[place];
+        link.told(ack)?;
+        Ok(())
     }
 
-    fn place(&self, a: u32, b: u32) -> Option<usize> {
-        let tasks = self.tasks.len();
-        if b as usize >= tasks {
-            return None;
-        }
-        (a as usize).checked_mul(tasks)?.checked_add(b as usize)
+    fn take(&mut self, place: usize, number: u32) -> Result<(), Memory>
+        requires { place < length self.old.links.items }
+        ensures { OnOk result (IsLinked self.old self.new place (λ before after. IsTaken before after number)) }
+    {
+        let link = &mut self.links[place];
+        link.take(number)?;
+        Ok(())
+    }
+
+    fn put_on(&mut self, alloc: Global, place: usize, packet: &Packet) -> Result<(), Memory>
+        requires place { place < length self.old.links.items }
+        requires spelled { HasSpelling packet.now }
+        ensures { OnOk result (IsLinked self.old self.new place (IsPutOn packet.now)) }
+    {
+        let link = &mut self.links[place];
+        link.put_on(alloc, packet)?;
+        Ok(())
     }
 }
 
-/// A put to a plain address.
-#[derive(Clone, Copy)]
-struct Put {
-    name: MsgName,
-    target: u32,
-    to: u32,
-    from: u32,
-    len: u32,
+fn empty_tasks(alloc: Global, count: u32, size: u32) -> Result<Vec<TaskState>, Memory>
+    ensures { IfOk result (λ tasks. (length tasks.items ≡ count) × AllByRecursion (IsUntouched size) tasks.items) }
+{
+    let mut tasks = Vec::new(alloc);
+    for _task in 0..count {
+        let task = TaskState::new(alloc, size)?;
+        tasks.push(task)?;
+    }
+    Ok(tasks)
 }
 
-fn statement_of(script: &Script, t: u32, statement: u32) -> Option<&Statement> {
-    let statements = script.lists.as_slice().get(t as usize)?;
-    statements.as_slice().get(statement as usize)
+fn empty_links(alloc: Global, count: u32) -> Result<Vec<Link>, Memory>
+    ensures { IfOk result (λ links. (length links.items ≡ count) × AllByRecursion IsEmpty links.items) }
+{
+    let mut links = Vec::new(alloc);
+    for _link in 0..count {
+        links.push(Link::new(alloc))?;
+    }
+    Ok(links)
 }
 
-fn put_of(script: &Script, t: u32, statement: u32) -> Option<Put> {
-    let Statement::Put {
-        target,
-        to: Addr::Plain(to),
-        from,
-        len,
-        ..
-    } = statement_of(script, t, statement)?
-    else {
-        return None;
-    };
-    Some(Put {
-        name: MsgName {
-            origin: t,
-            statement,
-            leg: Leg::Go,
+/// The place of the link from `a` to `b`.
+fn place(tasks: u32, a: u32, b: u32) -> usize
+    requires { (a < tasks) × (b < tasks) × (tasks ≤ 8) }
+    ensures { result ≡ a * tasks + b }
+{
+    (a * tasks + b) as usize
+}
+
+/// The message of a put.
+fn go(origin: u32, statement: u32) -> MsgName
+    ensures { result ≡ message origin statement Go }
+{
+    MsgName {
+        origin,
+        statement,
+        leg: Leg::Go,
+    }
+}
+
+/// The one packet of a put.
+fn packet_of(put: Put, t: u32, i: u32, seq: u32, payload: Payload) -> DataPacket
+    ensures { result ≡ put_packet put t i seq payload }
+{
+    DataPacket {
+        from: t,
+        to: put.target,
+        seq,
+        name: go(t, i),
+        head: Head::Put {
+            at: put.to,
+            tgt: None,
+            cmpl: None,
         },
-        target: *target,
-        to: *to,
-        from: *from,
-        len: *len,
-    })
-}
-
-/// The first 256 of these bytes.
-fn payload_of(bytes: &[u8]) -> Payload {
-    let (front, _) = bytes.split_at(cmp::min(bytes.len(), 256));
-    let mut payload = Payload::new();
-    payload.extend_from_slice(front);
-    payload
+        length: put.len,
+        fragment: 0,
+        payload,
+    }
 }

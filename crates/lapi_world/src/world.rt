@@ -1,106 +1,206 @@
+ghost use Rattle.std.specs.Prelude.{◌≡◌, ◌<◌, true, false, ◌∷◌, [], ◌++◌, length, map, reverse, OnOk, OnErr, IfOk, Some};
+ghost use Rattle.lapi_base.specs.Atomic.{AtomicInTime};
+ghost use Rattle.lapi_base.specs.Final.{is_quiet};
+ghost use Rattle.lapi_base.specs.Counters.{count, reads};
+ghost use Rattle.lapi_base.specs.Jobs.{queue, busy};
+ghost use Rattle.lapi_base.specs.Refusals.{next, refusals};
+ghost use Rattle.lapi_base.specs.Seen.{seen_record, no_rules, act_at};
+ghost use Rattle.lapi_base.specs.Built.{IsBuilt};
+ghost use Rattle.lapi_base.specs.Spelling.{spells_packet};
+ghost use Rattle.lapi_base.specs.Valid.{ValidScript, ValidSchedule};
+ghost use Rattle.lapi_base.specs.Values.{memory_bytes};
+ghost use Rattle.lapi_base.specs.Written as written;
+
 use crate::record::Record;
-use lapi_base::{Act, Bytes, Event, Line, Memory, Numbers, Replies, Reply, Schedule, Script};
+use lapi_base::{
+    Act, Bytes, Event, Line, Memory, Numbers, Refusal, Replies, Reply, Schedule, Script,
+};
+use lapi_laws::journal_is_atomic;
 use std::alloc::Global;
+use std::marker::Model;
 
 /// A script, a schedule, and what became of the lines taken so far.
 ///
-/// Once a call has answered Memory, the world is spent: every later line answers Memory too.
+/// Once a call has answered Memory, the world is spent: every later line answers Memory too, and of its parts
+/// nothing is said but for the script, the schedule and the lines taken.
 #[derive(Drop)]
 pub struct World {
     script: Script,
     schedule: Schedule,
-    record: Record,
+    kept: Record,
     taken: Numbers,
     replies: Replies,
     spent: bool,
 }
 
+impl Model for World {
+    ghost use Rattle.lapi_base.specs.Seen.{Seen, no_rules};
+    ghost use Rattle.lapi_world.specs.Stands.{IsWorld};
+
+    ghost Value = { Seen };
+
+    ghost view = { λ w. record { script = w.script; rules = no_rules; schedule = w.schedule; taken = w.taken; spent = w.spent } };
+
+    ghost invariant = { λ w. IsWorld w.script w.schedule w.kept w.taken w.replies w.spent };
+}
+
 impl World {
-    /// The world of a script and a schedule before the first line. They are those of an input that was read.
-    pub fn new(alloc: Global, script: Script, schedule: Schedule) -> Result<World, Memory> {
-        let record = Record::new(alloc, &script)?;
+    /// The world of a script and a schedule before the first line.
+    pub fn new(alloc: Global, script: Script, schedule: Schedule) -> Result<World, Memory>
+        requires script { ValidScript script }
+        requires schedule { ValidSchedule script spells_packet schedule }
+        requires built { IsBuilt (record { script = script; schedule = schedule }) }
+        ensures { IfOk result (λ w. w ≡ record { script = script; rules = no_rules; schedule = schedule; taken = []; spent = false }) }
+    {
+        let kept = Record::new(alloc, &script)?;
         Ok(World {
             script,
             schedule,
-            record,
+            kept,
             taken: Numbers::new(alloc),
             replies: Replies::new(alloc),
             spent: false,
         })
     }
 
-    /// Performs schedule line `n`, from 0. A line that isn't there, or whose form is not built yet, is Idle.
-    pub fn line(&mut self, alloc: Global, n: u32) -> Result<Reply, Memory> {
+    /// Performs schedule line `n`, from 0.
+    pub fn line(&mut self, alloc: Global, n: u32) -> Result<Reply, Memory>
+        requires { n < length self.old.schedule }
+        ensures ok { OnOk result ((self.old.spent ≡ false) × (self.new ≡ record self.old { taken = self.old.taken ++ n ∷ [] })) }
+        ensures reply { IfOk result (λ reply. (seen_record self.new).replies ≡ (seen_record self.old).replies ++ reply ∷ []) }
+        ensures err { OnErr result (self.new ≡ record self.old { spent = true }) }
+    {
         if self.spent {
             return Err(Memory);
         }
         self.spent = true;
-        let reply = self.perform(alloc, n)?;
+        let act = act_at(self.schedule.as_slice(), n);
+        let reply = self.kept.perform(alloc, &self.script, act)?;
         self.replies.push(reply)?;
         self.taken.push(n)?;
         self.spent = false;
         Ok(reply)
     }
 
-    fn perform(&mut self, alloc: Global, n: u32) -> Result<Reply, Memory> {
-        let Some(line) = self.schedule.as_slice().get(n as usize) else {
-            return Ok(Reply::Idle);
-        };
-        match &line.act {
-            Act::Step(t) => self.record.step(&self.script, *t),
-            Act::Poll(t) => self.record.poll(alloc, &self.script, *t),
-            Act::Deliver { a, b, k } => self.record.deliver(alloc, *a, *b, *k),
-            _ => Ok(Reply::Idle),
-        }
-    }
-
-    pub fn script(&self) -> &Script {
+    pub fn script(&self) -> &Script
+        ensures { result.now ≡ self.now.script }
+    {
         &self.script
     }
 
-    pub fn schedule(&self) -> &[Line] {
+    pub fn schedule(&self) -> &[Line]
+        ensures { result.now ≡ self.now.schedule }
+    {
         self.schedule.as_slice()
     }
 
     /// The numbers of the lines performed, in order.
-    pub fn taken(&self) -> &[u32] {
+    pub fn taken(&self) -> &[u32]
+        ensures { result.now ≡ self.now.taken }
+    {
         self.taken.as_slice()
     }
 
     /// The reply of each line taken.
-    pub fn replies(&self) -> &[Reply] {
+    pub fn replies(&self) -> &[Reply]
+        ensures { self.now.spent ≡ false → result.now ≡ (seen_record self.now).replies }
+    {
         self.replies.as_slice()
     }
 
-    pub fn journal(&self) -> &[Event] {
-        self.record.journal()
+    /// What happened so far, in order.
+    pub fn journal(&self) -> &[Event]
+        ensures same { self.now.spent ≡ false → result.now ≡ reverse (seen_record self.now).journal }
+        ensures atomic { self.now.spent ≡ false → AtomicInTime self.now.script self.now.rules result.now }
+    {
+        journal_is_atomic();
+        self.kept.journal()
     }
 
     /// The entries on the wire from task `a` to task `b`, in order.
-    pub fn wire(&self, a: u32, b: u32) -> &[Bytes] {
-        match self.record.link(a, b) {
-            Some(link) => link.entries(),
-            None => &[],
-        }
+    pub fn wire(&self, a: u32, b: u32) -> &[Bytes]
+        requires a { a < self.now.script.tasks }
+        requires b { b < self.now.script.tasks }
+        ensures { self.now.spent ≡ false → result.now ≡ map written.packet ((seen_record self.now).wire a b) }
+    {
+        self.kept.entries(self.script.tasks, a, b)
     }
 
-    /// How many statements of task `t` are done.
-    pub fn next(&self, t: u32) -> u32 {
-        self.record.next(t)
+    /// How many statements of task `t` were issued, refused or passed.
+    pub fn next(&self, t: u32) -> u32
+        requires { t < self.now.script.tasks }
+        ensures { self.now.spent ≡ false → result ≡ next (seen_record self.now).journal t }
+    {
+        self.kept.next(t)
+    }
+
+    /// The statements of task `t` that were refused, each with the reason, in order.
+    pub fn refusals(&self, t: u32) -> &[(u32, Refusal)]
+        requires { t < self.now.script.tasks }
+        ensures { self.now.spent ≡ false → result.now ≡ refusals (seen_record self.now).journal t }
+    {
+        self.kept.refusals(t)
+    }
+
+    /// The counters that task `t` read, each with the number of the statement, in order.
+    pub fn reads(&self, t: u32) -> &[(u32, u64)]
+        requires { t < self.now.script.tasks }
+        ensures { self.now.spent ≡ false → result.now ≡ reads self.now.script self.now.rules (seen_record self.now).journal t }
+    {
+        self.kept.reads(t)
+    }
+
+    /// The value of counter `c` of task `t`.
+    pub fn counter(&self, t: u32, c: u32) -> u64
+        requires t { t < self.now.script.tasks }
+        requires c { c < self.now.script.counters }
+        ensures { self.now.spent ≡ false → result ≡ count self.now.script self.now.rules (seen_record self.now).journal t c }
+    {
+        self.kept.counter(t, c)
+    }
+
+    /// How many jobs of task `t` wait for a worker.
+    pub fn queued(&self, t: u32) -> u32
+        requires { t < self.now.script.tasks }
+        ensures { self.now.spent ≡ false → result ≡ length (queue self.now.script self.now.rules (seen_record self.now).journal t) }
+    {
+        self.kept.queued(t)
+    }
+
+    /// How many workers of task `t` run a job.
+    pub fn running(&self, t: u32) -> u32
+        requires { t < self.now.script.tasks }
+        ensures { self.now.spent ≡ false → result ≡ length (busy self.now.script (seen_record self.now).journal t) }
+    {
+        self.kept.running(t)
     }
 
     /// The memory of task `t`.
-    pub fn bytes(&self, t: u32) -> &[u8] {
-        self.record.memory(t)
+    pub fn bytes(&self, t: u32) -> &[u8]
+        requires { t < self.now.script.tasks }
+        ensures { self.now.spent ≡ false → result.now ≡ memory_bytes self.now.script self.now.rules (seen_record self.now).journal t }
+    {
+        self.kept.memory(t)
     }
 
-    /// Whether everything sent is acknowledged, and nothing is left to copy or to send.
-    pub fn quiet(&self) -> bool {
-        self.record.is_quiet(&self.script)
+    /// Whether everything sent is acknowledged, no job waits or runs, and nothing is left to copy or to send.
+    pub fn quiet(&self) -> bool
+        ensures { self.now.spent ≡ false → result ≡ is_quiet self.now.script self.now.rules (seen_record self.now) }
+    {
+        self.kept.is_quiet(&self.script)
     }
 
     /// Whether an earlier call answered Memory.
-    pub fn spent(&self) -> bool {
+    pub fn spent(&self) -> bool
+        ensures { result ≡ self.now.spent }
+    {
         self.spent
     }
+}
+
+fn act_at(schedule: &[Line], n: u32) -> &Act
+    requires { n < length schedule.now }
+    ensures { act_at schedule.now n ≡ Some result.now }
+{
+    &schedule[n as usize].act
 }

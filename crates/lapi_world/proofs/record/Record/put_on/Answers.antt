@@ -1,0 +1,14 @@
+use Rattle.std.proofs.Common.{refl, subst}
+use Rattle.lapi_world.specs.declared.link.Link.{Link}
+use Rattle.lapi_world.specs.Steps.{IsPutOn}
+use Rattle.lapi_world.proofs.Lists.{at-place}
+use Rattle.lapi_world.proofs.record.Record.put_on.Goals as goal
+
+pub returns : goal.returns
+returns c = record {
+  link = c.put_on.new.self;
+  journal = refl;
+  tasks = refl;
+  links = refl;
+  change = λ before at. let there = at-place c.args.self.now.links.items c.args.place before c.index_mut-link.result.now at c.index_mut-link.ensures.value in subst (λ (x : Link). IsPutOn c.args.packet.now x c.put_on.new.self) there (record { sent = c.in_ok-put_on.ensures });
+}
