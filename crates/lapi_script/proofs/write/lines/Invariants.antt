@@ -1,0 +1,7 @@
+use Rattle.std.proofs.Common.{◌≡◌, ◌++◌, map, take}
+use Rattle.std.specs.List.{flat_map}
+use Rattle.lapi_base.specs.Rows.{row_text, line_row}
+use Rattle.lapi_script.proofs.write.lines.Given as goal
+
+abbrev pub invariant-loop-each : goal.invariant-loop-each
+invariant-loop-each l = l.out.items ≡ l.fn.out.items ++ flat_map row_text (map line_row (take l.each-index l.schedule))

@@ -1,0 +1,10 @@
+pub mod Left
+pub mod Gives
+pub mod Listed
+pub mod Vectors
+pub mod ReadLines
+pub mod TaskLines
+pub mod States
+pub mod Answers
+pub mod Inputs
+pub mod Operations

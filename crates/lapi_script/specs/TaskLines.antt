@@ -1,0 +1,29 @@
+-- The lines of tasks as they are held while they are read.
+use Rattle.std.specs.Prelude.{◌≡◌, false, Result, Ok, Err}
+use Rattle.lapi_base.specs.declared.input.Why.{Why}
+use Rattle.lapi_base.specs.Reading.{keeps_pieces}
+use Rattle.lapi_base.specs.Forms as forms
+use Rattle.lapi_script.specs.declared.fault.LineFault.{LineFault}
+use Rattle.lapi_script.specs.declared.statements.ReadStatement.{ReadStatement}
+use Rattle.lapi_script.specs.declared.statements.ReadStatement.TheVariants as read_statement
+use Rattle.lapi_script.specs.declared.task_lines.TaskLine.{TaskLine}
+use Rattle.lapi_script.specs.declared.task_lines.TaskLine.TheVariants.{Task, Schedule, Does, Crowded}
+use Rattle.lapi_script.specs.Gives.{Fails}
+
+-- a statement with more pieces than a vector may have
+abbrev pub IsCrowdedLine : Result forms.TaskLine Why → Type 0
+IsCrowdedLine (Ok (forms.Does s)) = keeps_pieces s ≡ false
+IsCrowdedLine (Ok _) = ⊥
+IsCrowdedLine (Err why) = ⊥
+
+abbrev pub HoldsTaskLine : Result TaskLine LineFault → Result forms.TaskLine Why → Type 0
+HoldsTaskLine (Ok (Task t)) read = read ≡ Ok (forms.Task t)
+HoldsTaskLine (Ok Schedule) read = read ≡ Ok forms.Schedule
+HoldsTaskLine (Ok (Does s)) read = read ≡ Ok (forms.Does s)
+HoldsTaskLine (Ok Crowded) read = IsCrowdedLine read
+HoldsTaskLine (Err fault) read = Fails fault read
+
+-- a line that is a statement
+abbrev pub IsDone : ReadStatement → TaskLine → Type 0
+IsDone (read_statement.Held s) line = line ≡ Does s
+IsDone read_statement.Crowded line = line ≡ Crowded

@@ -1,0 +1,47 @@
+ghost use Rattle.std.specs.Prelude.{◌≡◌};
+ghost use Rattle.lapi_script.specs.declared.fault.LineFault.TheVariants as LineFault;
+ghost use Rattle.lapi_base.specs.declared.input.Why.TheVariants as Why;
+
+use lapi_base::{Memory, Which, Why};
+use std::alloc::AllocError;
+
+/// Why a line isn't taken.
+#[derive(Clone, Copy, Debug, Eq, PartialEq)]
+pub(crate) enum LineFault {
+    Memory,
+    Wrong(Why),
+}
+
+impl From<AllocError> for LineFault {
+    ghost use Rattle.lapi_script.specs.declared.fault.LineFault.TheVariants as LineFault;
+
+    ghost from_gives = { λ _ fault. fault ≡ LineFault.Memory };
+
+    fn from(_error: AllocError) -> LineFault {
+        LineFault::Memory
+    }
+}
+
+impl From<Memory> for LineFault {
+    ghost use Rattle.lapi_script.specs.declared.fault.LineFault.TheVariants as LineFault;
+
+    ghost from_gives = { λ _ fault. fault ≡ LineFault.Memory };
+
+    fn from(_error: Memory) -> LineFault {
+        LineFault::Memory
+    }
+}
+
+/// The line is of no form that may stand there.
+pub(crate) fn syntax() -> LineFault
+    ensures { result ≡ LineFault.Wrong Why.Syntax }
+{
+    LineFault::Wrong(Why::Syntax)
+}
+
+/// The line has its form, and passes this limit.
+pub(crate) fn limit(which: Which) -> LineFault
+    ensures { result ≡ LineFault.Wrong (Why.Limit which) }
+{
+    LineFault::Wrong(Why::Limit(which))
+}

@@ -1,0 +1,135 @@
+//! What is judged of a line that has its form.
+
+ghost use Rattle.std.specs.Prelude.{◌≡◌};
+ghost use Rattle.lapi_base.specs.Reading.{checked_sizes, has_few_pieces, keeps_pieces, keeps_bytes, keeps_injected, names_known};
+ghost use Rattle.lapi_base.specs.Built.{is_plain, is_built_statement, is_built_act};
+ghost use Rattle.lapi_base.specs.Spelling.{spells_packet};
+ghost use Rattle.lapi_script.specs.Gives.{Gives};
+
+use crate::fault::{LineFault, limit};
+use lapi_base::{Act, Addr, Script, Statement, Vector, Which};
+use lapi_packet::decode;
+
+pub(crate) fn checked_sizes(script: Script) -> Result<Script, LineFault>
+    ensures { Gives (λ script. script) result (checked_sizes script) }
+{
+    if script.tasks < 2 || script.tasks > 8 {
+        return Err(limit(Which::Tasks));
+    }
+    if script.memory < 64 || script.memory > 65_536 || script.memory % 4 != 0 {
+        return Err(limit(Which::Memory));
+    }
+    if script.counters > 64 {
+        return Err(limit(Which::Counters));
+    }
+    if script.workers < 1 || script.workers > 4 {
+        return Err(limit(Which::Workers));
+    }
+    Ok(script)
+}
+
+/// Whether statements of this form are performed yet.
+#[tactic(auto, unfolding(lapi_base::specs::Built::is_built_statement))]
+pub(crate) fn is_built_statement(statement: &Statement) -> bool
+    ensures { result ≡ is_built_statement statement.now }
+{
+    match statement {
+        Statement::Store { .. } => true,
+        Statement::Put {
+            to,
+            len,
+            tgt,
+            org,
+            cmpl,
+            ..
+        } => { is_plain(*to) && *len <= 256 && tgt.is_none() && org.is_none() && cmpl.is_none() }
+        _ => false,
+    }
+}
+
+fn is_plain(at: Addr) -> bool
+    ensures { result ≡ is_plain at }
+{
+    match at {
+        Addr::Plain(_) => true,
+        Addr::Table { .. } => false,
+    }
+}
+
+/// Whether lines of this form are performed yet.
+#[tactic(auto, unfolding(lapi_base::specs::Built::is_built_act))]
+pub(crate) fn is_built_act(act: &Act) -> bool
+    ensures { result ≡ is_built_act act.now }
+{
+    match act {
+        Act::Step(_) | Act::Poll(_) | Act::Deliver { .. } => true,
+        _ => false,
+    }
+}
+
+fn has_few_pieces(vector: &Vector) -> bool
+    ensures { result ≡ has_few_pieces vector.now }
+{
+    match vector {
+        Vector::List(pieces) => pieces.as_slice().len() <= 16,
+        Vector::Stride { count, .. } => *count <= 16,
+    }
+}
+
+#[tactic(auto, unfolding(lapi_base::specs::Reading::keeps_pieces))]
+pub(crate) fn keeps_pieces(statement: &Statement) -> bool
+    ensures { result ≡ keeps_pieces statement.now }
+{
+    match statement {
+        Statement::Putv { to, from, .. } => has_few_pieces(to) && has_few_pieces(from),
+        Statement::Getv { from, to, .. } => has_few_pieces(from) && has_few_pieces(to),
+        _ => true,
+    }
+}
+
+#[tactic(auto, unfolding(lapi_base::specs::Reading::keeps_bytes))]
+pub(crate) fn keeps_bytes(statement: &Statement) -> bool
+    ensures { result ≡ keeps_bytes statement.now }
+{
+    match statement {
+        Statement::Store { bytes, .. } => bytes.as_slice().len() <= 1024,
+        Statement::Am { header, .. } => header.as_slice().len() <= 128,
+        _ => true,
+    }
+}
+
+#[tactic(auto, unfolding(lapi_base::specs::Reading::keeps_injected))]
+pub(crate) fn keeps_injected(script: &Script, act: &Act) -> bool
+    ensures { result ≡ keeps_injected script.now act.now }
+{
+    match act {
+        Act::Inject { bytes, .. } => bytes.as_slice().len() <= 640,
+        _ => true,
+    }
+}
+
+#[tactic(auto, unfolding(lapi_base::specs::Spelling::spells_packet))]
+fn spells_packet(bytes: &[u8]) -> bool
+    ensures { result ≡ spells_packet bytes.now }
+{
+    decode(bytes).is_ok()
+}
+
+/// Whether the tasks and the worker that a line names are there, and what it injects spells no
+/// packet.
+#[tactic(auto, unfolding(lapi_base::specs::Reading::names_known))]
+pub(crate) fn names_known(script: &Script, act: &Act) -> bool
+    ensures { result ≡ names_known script.now act.now }
+{
+    let tasks = script.tasks;
+    match act {
+        Act::Step(t) | Act::Poll(t) | Act::Tick(t) => *t < tasks,
+        Act::Deliver { a, b, .. } | Act::Cut { a, b, .. } => *a < tasks && *b < tasks,
+        Act::Inject { a, b, bytes } => {
+            *a < tasks && *b < tasks && !spells_packet(bytes.as_slice())
+        }
+        Act::Begin { task, worker } | Act::End { task, worker } => {
+            *task < tasks && *worker < script.workers
+        }
+    }
+}

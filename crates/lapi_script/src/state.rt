@@ -1,0 +1,183 @@
+//! What was read so far, and what a line adds to it.
+//!
+//! ```text
+//! First -> Second -> Start -> Tasks (each task and its statements) -> Lines (each schedule line) -> Finished
+//! ```
+
+ghost use Rattle.std.specs.Prelude.{◌≡◌, Result, Ok};
+ghost use Rattle.lapi_base.specs.declared.input.Why.{Why};
+ghost use Rattle.lapi_base.specs.Lines.{words_of};
+ghost use Rattle.lapi_base.specs.Forms.{and_then};
+ghost use Rattle.lapi_base.specs.Forms as forms;
+ghost use Rattle.lapi_base.specs.Reading.{step, after, on_first_task, on_task_line, on_statement, on_line};
+ghost use Rattle.lapi_script.specs.Gives.{Gives};
+ghost use Rattle.lapi_script.specs.TaskLines.{HoldsTaskLine};
+ghost use Rattle.lapi_script.specs.States.{state_of};
+
+use crate::acts::line;
+use crate::fault::{LineFault, limit, syntax};
+use crate::heads::{head, sizes};
+use crate::limits::{
+    checked_sizes, is_built_act, is_built_statement, keeps_bytes, keeps_injected, keeps_pieces,
+    names_known,
+};
+use crate::scan::is_clean;
+use crate::task_lines::{TaskLine, task_line};
+use crate::words::Words;
+use lapi_base::{Input, Line, Schedule, Script, Statement, Statements, Which};
+use std::alloc::Global;
+use std::mem;
+
+/// What was read so far, by which line is awaited.
+#[derive(Debug, Drop)]
+pub(crate) enum State {
+    First,
+    Second { layout: u32 },
+    Start(Script),
+    /// The script has the tasks before the current one.
+    Tasks { script: Script, current: Statements },
+    Lines { script: Script, schedule: Schedule },
+    Finished(Input),
+}
+
+#[tactic(auto, using(crate::proofs::TaskLineSteps::crowded_first))]
+fn on_first_task(alloc: Global, script: Script, row: TaskLine) -> Result<State, LineFault>
+    ensures { (read : Result forms.TaskLine Why) → HoldsTaskLine (Ok row) read → Gives state_of result (and_then read (on_first_task script)) }
+{
+    match row {
+        TaskLine::Task(0) => Ok(State::Tasks {
+            script,
+            current: Statements::new(alloc),
+        }),
+        _ => Err(syntax()),
+    }
+}
+
+fn on_statement(
+    script: Script,
+    mut current: Statements,
+    statement: Statement,
+) -> Result<State, LineFault>
+    ensures { Gives state_of result (on_statement script current statement) }
+{
+    let count = current.as_slice().len();
+    if !is_built_statement(&statement) || count >= 32 {
+        return Err(limit(Which::Unbuilt));
+    }
+    if count >= 512 {
+        return Err(limit(Which::Statements));
+    }
+    if !keeps_pieces(&statement) {
+        return Err(limit(Which::Pieces));
+    }
+    if !keeps_bytes(&statement) {
+        return Err(limit(Which::Bytes));
+    }
+    current.push(statement)?;
+    Ok(State::Tasks { script, current })
+}
+
+#[tactic(auto, using(crate::proofs::TaskLineSteps::crowded_line))]
+fn on_task_line(
+    alloc: Global,
+    mut script: Script,
+    current: Statements,
+    row: TaskLine,
+) -> Result<State, LineFault>
+    ensures { (read : Result forms.TaskLine Why) → HoldsTaskLine (Ok row) read → Gives state_of result (and_then read (on_task_line script current)) }
+{
+    let next = script.lists.as_slice().len() as u64 + 1;
+    match row {
+        TaskLine::Task(task) => {
+            if u64::from(task) != next || task >= script.tasks {
+                return Err(syntax());
+            }
+            script.lists.push(current)?;
+            Ok(State::Tasks {
+                script,
+                current: Statements::new(alloc),
+            })
+        }
+        TaskLine::Schedule => {
+            if next != u64::from(script.tasks) {
+                return Err(syntax());
+            }
+            script.lists.push(current)?;
+            Ok(State::Lines {
+                script,
+                schedule: Schedule::new(alloc),
+            })
+        }
+        TaskLine::Does(statement) => on_statement(script, current, statement),
+        TaskLine::Crowded => Err(limit(Which::Unbuilt)),
+    }
+}
+
+fn on_line(script: Script, mut schedule: Schedule, line: Line) -> Result<State, LineFault>
+    ensures { Gives state_of result (on_line script schedule line) }
+{
+    if !names_known(&script, &line.act) {
+        return Err(syntax());
+    }
+    if !is_built_act(&line.act) {
+        return Err(limit(Which::Unbuilt));
+    }
+    if schedule.as_slice().len() >= 20_000 {
+        return Err(limit(Which::Lines));
+    }
+    if line.lane > 15 {
+        return Err(limit(Which::Lane));
+    }
+    if !keeps_injected(&script, &line.act) {
+        return Err(limit(Which::Bytes));
+    }
+    schedule.push(line)?;
+    Ok(State::Lines { script, schedule })
+}
+
+/// What a line of these words adds.
+#[tactic(auto, unfolding(lapi_base::specs::Reading::step))]
+pub(crate) fn step(alloc: Global, state: State, words: &mut Words) -> Result<State, LineFault>
+    ensures { Gives state_of result (step (state_of state) words.old) }
+{
+    match state {
+        State::First => {
+            let layout = head(words)?;
+            if layout != 1 {
+                return Err(syntax());
+            }
+            Ok(State::Second { layout })
+        }
+        State::Second { layout } => {
+            let script = checked_sizes(sizes(alloc, layout, words)?)?;
+            Ok(State::Start(script))
+        }
+        State::Start(script) => on_first_task(alloc, script, task_line(alloc, words)?),
+        State::Tasks { script, current } => {
+            on_task_line(alloc, script, current, task_line(alloc, words)?)
+        }
+        State::Lines { script, schedule } => {
+            if words.are_only(b"done") {
+                return Ok(State::Finished(Input { script, schedule }));
+            }
+            on_line(script, schedule, line(alloc, words)?)
+        }
+        State::Finished(_) => Err(syntax()),
+    }
+}
+
+/// What a line adds.
+#[tactic(auto, unfolding(lapi_base::specs::Reading::after))]
+pub(crate) fn after(alloc: Global, state: &mut State, line: &[u8]) -> Result<(), LineFault>
+    ensures { Gives (λ _. state_of state.new) result (after (state_of state.old) line.now) }
+{
+    if !is_clean(line) {
+        return Err(syntax());
+    }
+    let mut words = Words::new(line);
+    if words.are_skipped() {
+        return Ok(());
+    }
+    *state = step(alloc, mem::replace(state, State::First), &mut words)?;
+    Ok(())
+}

@@ -1,0 +1,179 @@
+//! Statements as they are written.
+
+ghost use Rattle.std.specs.Prelude.{◌≡◌, ◌++◌, OnOk};
+ghost use Rattle.lapi_base.specs.Rows.{operation_word, statement_row, row_line};
+ghost use Rattle.lapi_script.specs.Operations.{second_text, operation_text};
+
+use crate::write::values::{
+    address, counter, hex, number, optional_hex, put, three_counters, two_counters, vector,
+};
+use lapi_base::{Addr, Memory, RmwOp, Statement};
+use std::alloc::Global;
+
+fn operation_word(op: RmwOp) -> &'static [u8]
+    ensures { result.now ≡ operation_word op }
+{
+    match op {
+        RmwOp::Add => b"add",
+        RmwOp::Or => b"or",
+        RmwOp::Swap => b"swap",
+        RmwOp::Cas => b"cas",
+    }
+}
+
+/// A second operand, with a compare-and-swap alone.
+fn second_operand(alloc: Global, out: &mut Vec<u8>, op: RmwOp, in2: u32) -> Result<(), Memory>
+    ensures { OnOk result (out.new.items ≡ out.old.items ++ second_text op in2) }
+{
+    match op {
+        RmwOp::Cas => number(alloc, out, in2),
+        _ => Ok(()),
+    }
+}
+
+/// An operation, an address and the operands.
+fn operation(
+    alloc: Global,
+    out: &mut Vec<u8>,
+    op: RmwOp,
+    at: Addr,
+    in1: u32,
+    in2: u32,
+) -> Result<(), Memory>
+    ensures { OnOk result (out.new.items ≡ out.old.items ++ operation_text op at in1 in2) }
+{
+    put(out, b" ")?;
+    put(out, operation_word(op))?;
+    address(alloc, out, at)?;
+    number(alloc, out, in1)?;
+    second_operand(alloc, out, op, in2)
+}
+
+/// A statement's line, without its end.
+#[tactic(auto, using(crate::proofs::Texts::rmw_text))]
+pub(crate) fn statement(
+    alloc: Global,
+    out: &mut Vec<u8>,
+    statement: &Statement,
+) -> Result<(), Memory>
+    ensures { OnOk result (out.new.items ≡ out.old.items ++ row_line (statement_row statement.now)) }
+{
+    match statement {
+        Statement::Store { at, bytes } => {
+            put(out, b"store")?;
+            number(alloc, out, *at)?;
+            hex(alloc, out, bytes.as_slice())
+        }
+        Statement::Put {
+            target,
+            to,
+            from,
+            len,
+            tgt,
+            org,
+            cmpl,
+        } => {
+            put(out, b"put")?;
+            number(alloc, out, *target)?;
+            address(alloc, out, *to)?;
+            number(alloc, out, *from)?;
+            number(alloc, out, *len)?;
+            three_counters(alloc, out, *tgt, *org, *cmpl)
+        }
+        Statement::Get {
+            target,
+            from,
+            to,
+            len,
+            tgt,
+            org,
+        } => {
+            put(out, b"get")?;
+            number(alloc, out, *target)?;
+            address(alloc, out, *from)?;
+            number(alloc, out, *to)?;
+            number(alloc, out, *len)?;
+            two_counters(alloc, out, *tgt, *org)
+        }
+        Statement::Putv {
+            target,
+            to,
+            from,
+            tgt,
+            org,
+            cmpl,
+        } => {
+            put(out, b"putv")?;
+            number(alloc, out, *target)?;
+            vector(alloc, out, to)?;
+            vector(alloc, out, from)?;
+            three_counters(alloc, out, *tgt, *org, *cmpl)
+        }
+        Statement::Getv {
+            target,
+            from,
+            to,
+            tgt,
+            org,
+        } => {
+            put(out, b"getv")?;
+            number(alloc, out, *target)?;
+            vector(alloc, out, from)?;
+            vector(alloc, out, to)?;
+            two_counters(alloc, out, *tgt, *org)
+        }
+        Statement::Rmw {
+            target,
+            op,
+            at,
+            in1,
+            in2,
+            prev,
+            org,
+        } => {
+            put(out, b"rmw")?;
+            number(alloc, out, *target)?;
+            operation(alloc, out, *op, *at, *in1, *in2)?;
+            number(alloc, out, *prev)?;
+            counter(alloc, out, *org)
+        }
+        Statement::Am {
+            target,
+            handler,
+            header,
+            from,
+            len,
+            tgt,
+            org,
+            cmpl,
+        } => {
+            put(out, b"amsend")?;
+            number(alloc, out, *target)?;
+            number(alloc, out, *handler)?;
+            optional_hex(alloc, out, header.as_slice())?;
+            number(alloc, out, *from)?;
+            number(alloc, out, *len)?;
+            three_counters(alloc, out, *tgt, *org, *cmpl)
+        }
+        Statement::Wait { counter, value } => {
+            put(out, b"waitcntr")?;
+            number(alloc, out, *counter)?;
+            number(alloc, out, *value)
+        }
+        Statement::Set { counter, value } => {
+            put(out, b"setcntr")?;
+            number(alloc, out, *counter)?;
+            number(alloc, out, *value)
+        }
+        Statement::Read { counter } => {
+            put(out, b"getcntr")?;
+            number(alloc, out, *counter)
+        }
+        Statement::Fence => put(out, b"fence"),
+        Statement::Gfence => put(out, b"gfence"),
+        Statement::Addr { at } => {
+            put(out, b"address_init")?;
+            number(alloc, out, *at)
+        }
+    }
+}
