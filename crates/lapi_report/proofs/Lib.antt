@@ -1,0 +1,7 @@
+pub mod Digits
+pub mod Entries
+pub mod Numbers
+pub mod Pairs
+pub mod Progress
+pub mod ScheduleLines
+pub mod SpanWords

@@ -1,0 +1,25 @@
+use Rattle.std.proofs.Common.{rules, ◌<◌, ◌≤◌}
+use Rattle.lapi_base.specs.Seen.{seen_record}
+use Rattle.lapi_base.specs.ReportText.{counter_text_of}
+use Rattle.lapi_report.proofs.Progress.{refused}
+use Rattle.lapi_report.proofs.Numbers.{number_written, number_stops, numbers_done}
+use Rattle.lapi_report.proofs.task.write_counters.Goals as goal
+
+pub returns-in_err-write_counter-clause-text : goal.returns-in_err-write_counter-clause-text
+returns-in_err-write_counter-clause-text g c =
+    let lt : c.loop-c.c < c.args.world.now.script.counters = search rules in
+    refused _ _ _ _ c.from_residual.ensures.0 (number_stops (counter_text_of c.args.world.now.script c.args.world.now.rules (seen_record c.args.world.now) c.args.t) _ _ _ _ _ _ lt c.loop-c.invariant.written (rw (c.counter.ensures c.requires.spent) at c.in_err-write_counter.ensures.text))
+
+pub loop-c-preserved : goal.loop-c-preserved
+loop-c-preserved g c =
+    let lt : c.loop-c.c < c.args.world.now.script.counters = search rules in
+    record {
+      written = number_written (counter_text_of c.args.world.now.script c.args.world.now.rules (seen_record c.args.world.now) c.args.t) _ _ _ _ _ _ lt c.loop-c.invariant.written (rw (c.counter.ensures c.requires.spent) at c.in_ok-write_counter.ensures.text);
+      later = search rules;
+      room = search rules;
+    }
+
+pub returns-clause-text : goal.returns-clause-text
+returns-clause-text g c =
+    let ge : c.args.world.now.script.counters ≤ c.loop-c.c = search rules in
+    numbers_done (counter_text_of c.args.world.now.script c.args.world.now.rules (seen_record c.args.world.now) c.args.t) _ _ _ _ _ ge c.loop-c.invariant.written

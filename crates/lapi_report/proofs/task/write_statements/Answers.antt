@@ -1,0 +1,29 @@
+use Rattle.std.proofs.Common.{rules, ◌<◌, ◌≤◌}
+use Rattle.lapi_base.specs.Seen.{seen_record}
+use Rattle.std.specs.Prelude.{length}
+use Rattle.lapi_base.specs.Operations.{statements}
+use Rattle.lapi_base.specs.Refusals.{refusals}
+use Rattle.lapi_base.specs.Counters.{reads}
+use Rattle.lapi_base.specs.ReportText.{statement_text}
+use Rattle.lapi_report.proofs.Progress.{refused}
+use Rattle.lapi_report.proofs.Numbers.{number_written, number_stops, numbers_done}
+use Rattle.lapi_report.proofs.task.write_statements.Goals as goal
+
+pub returns-in_err-write_statement-clause-text : goal.returns-in_err-write_statement-clause-text
+returns-in_err-write_statement-clause-text g c =
+    let lt : c.loop-s.s < length (statements c.args.world.now.script c.args.t) = search rules in
+    refused _ _ _ _ c.from_residual.ensures.0 (number_stops (statement_text c.args.t (refusals (seen_record c.args.world.now).journal c.args.t) (reads c.args.world.now.script c.args.world.now.rules (seen_record c.args.world.now).journal c.args.t)) _ _ _ _ _ _ lt c.loop-s.invariant.written (rw (c.refusals.ensures c.requires.spent, c.reads.ensures c.requires.spent) at c.in_err-write_statement.ensures.text))
+
+pub loop-s-preserved : goal.loop-s-preserved
+loop-s-preserved g c =
+    let lt : c.loop-s.s < length (statements c.args.world.now.script c.args.t) = search rules in
+    record {
+      written = number_written (statement_text c.args.t (refusals (seen_record c.args.world.now).journal c.args.t) (reads c.args.world.now.script c.args.world.now.rules (seen_record c.args.world.now).journal c.args.t)) _ _ _ _ _ _ lt c.loop-s.invariant.written (rw (c.refusals.ensures c.requires.spent, c.reads.ensures c.requires.spent) at c.in_ok-write_statement.ensures.text);
+      later = search rules;
+      room = search rules;
+    }
+
+pub returns-clause-text : goal.returns-clause-text
+returns-clause-text g c =
+    let ge : length (statements c.args.world.now.script c.args.t) ≤ c.loop-s.s = search rules in
+    numbers_done (statement_text c.args.t (refusals (seen_record c.args.world.now).journal c.args.t) (reads c.args.world.now.script c.args.world.now.rules (seen_record c.args.world.now).journal c.args.t)) _ _ _ _ _ ge c.loop-s.invariant.written

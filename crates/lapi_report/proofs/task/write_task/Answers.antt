@@ -1,0 +1,27 @@
+use Rattle.lapi_base.specs.ReportText.{task_text}
+use Rattle.lapi_report.proofs.Progress.{refused, stops_early, stops_later, then_wrote}
+use Rattle.lapi_report.proofs.task.write_task.Goals as goal
+
+pub returns-in_err-write_standing-clause-text : goal.returns-in_err-write_standing-clause-text
+unfolding task_text
+returns-in_err-write_standing-clause-text g c = refused _ _ _ _ c.from_residual.ensures.0 (stops_early _ _ _ _ c.in_err-write_standing.ensures.text)
+
+pub returns-in_err-write_statements-clause-text : goal.returns-in_err-write_statements-clause-text
+unfolding task_text
+returns-in_err-write_statements-clause-text g c =
+    refused _ _ _ _ c.from_residual-in_err-write_statements.ensures.0 (stops_later _ _ _ _ _ c.in_ok-write_standing.ensures.text (stops_early _ _ _ _ c.in_err-write_statements.ensures.text))
+
+pub returns-in_err-write_counters-clause-text : goal.returns-in_err-write_counters-clause-text
+unfolding task_text
+returns-in_err-write_counters-clause-text g c =
+    refused _ _ _ _ c.from_residual-in_err-write_counters.ensures.0 (
+    stops_later _ _ _ _ _ c.in_ok-write_standing.ensures.text (
+    stops_later _ _ _ _ _ c.in_ok-write_statements.ensures.text (stops_early _ _ _ _ c.in_err-write_counters.ensures.text)
+    )
+    )
+
+pub returns-clause-text : goal.returns-clause-text
+unfolding task_text
+returns-clause-text g c =
+    let memory = rw (c.bytes.ensures c.requires.spent) at c.write_memory.ensures.text in
+    then_wrote _ _ _ _ _ _ c.in_ok-write_standing.ensures.text (then_wrote _ _ _ _ _ _ c.in_ok-write_statements.ensures.text (then_wrote _ _ _ _ _ _ c.in_ok-write_counters.ensures.text memory))

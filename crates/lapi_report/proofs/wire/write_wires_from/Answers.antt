@@ -1,0 +1,25 @@
+use Rattle.std.proofs.Common.{rules, ◌<◌, ◌≤◌}
+use Rattle.lapi_base.specs.Seen.{seen_record}
+use Rattle.lapi_base.specs.WireText.{one_wire_text}
+use Rattle.lapi_report.proofs.Progress.{refused}
+use Rattle.lapi_report.proofs.Numbers.{number_written, number_stops, numbers_done}
+use Rattle.lapi_report.proofs.wire.write_wires_from.Goals as goal
+
+pub returns-in_err-write_entries-clause-text : goal.returns-in_err-write_entries-clause-text
+returns-in_err-write_entries-clause-text g c =
+    let lt : c.loop-b.b < c.args.world.now.script.tasks = search rules in
+    refused _ _ _ _ c.from_residual.ensures.0 (number_stops (one_wire_text (seen_record c.args.world.now) c.args.a) _ _ _ _ _ _ lt c.loop-b.invariant.written (rw (c.wire.ensures c.requires.spent) at c.in_err-write_entries.ensures.text))
+
+pub loop-b-preserved : goal.loop-b-preserved
+loop-b-preserved g c =
+    let lt : c.loop-b.b < c.args.world.now.script.tasks = search rules in
+    record {
+      written = number_written (one_wire_text (seen_record c.args.world.now) c.args.a) _ _ _ _ _ _ lt c.loop-b.invariant.written (rw (c.wire.ensures c.requires.spent) at c.in_ok-write_entries.ensures.text);
+      later = search rules;
+      room = search rules;
+    }
+
+pub returns-clause-text : goal.returns-clause-text
+returns-clause-text g c =
+    let ge : c.args.world.now.script.tasks ≤ c.loop-b.b = search rules in
+    numbers_done (one_wire_text (seen_record c.args.world.now) c.args.a) _ _ _ _ _ ge c.loop-b.invariant.written

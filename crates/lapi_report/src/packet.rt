@@ -1,0 +1,107 @@
+ghost use Rattle.std.specs.Prelude.{◌≡◌, ◌≤◌, length, IfErr};
+ghost use Rattle.lapi_base.specs.PacketText.{data_front, packet_line, bad_line, packet_text};
+ghost use Rattle.lapi_report.specs.Written.{Wrote, HasWriteCause};
+
+use crate::head::{add_head, head_name};
+use crate::parts::{add_message, reason_name, reason_number};
+use crate::text_line::TextLine;
+use lapi_base::{Bad, DataPacket, Packet, WriteFault};
+use lapi_io::{Failed, Sink};
+use lapi_packet::decode;
+
+/// Writes the fields of the packet that the bytes spell, or why they spell none. It takes no memory.
+#[tactic(auto, unfolding(lapi_base::specs::PacketText::packet_text))]
+pub fn write_packet<K: Sink>(bytes: &[u8], sink: &mut K) -> Result<(), WriteFault>
+    ensures text { Wrote (K.held sink.old) (K.held sink.new) (packet_text bytes.now) result }
+    ensures cause { HasWriteCause (K.faults sink.old) (K.faults sink.new) result }
+    ensures only_failed { IfErr result (λ fault. fault ≡ WriteFault.Failed) }
+    ensures room { K.room sink.new ≡ K.room sink.old }
+{
+    let mut line = TextLine::new();
+    fill(bytes, &mut line);
+    match line.write(sink) {
+        Ok(()) => Ok(()),
+        Err(Failed) => Err(WriteFault::Failed),
+    }
+}
+
+#[tactic(auto, unfolding(lapi_base::specs::PacketText::packet_text))]
+fn fill(bytes: &[u8], line: &mut TextLine)
+    ensures { line.new ≡ packet_text bytes.now }
+{
+    match decode(bytes) {
+        Ok(packet) => fill_packet(&packet, line),
+        Err(bad) => fill_bad(bad, line),
+    }
+}
+
+fn fill_packet(packet: &Packet, line: &mut TextLine)
+    ensures { line.new ≡ packet_line packet.now }
+{
+    match packet {
+        Packet::Data(packet) => fill_data(packet, line),
+        Packet::Ack {
+            from,
+            to,
+            base,
+            bits,
+        } => fill_acknowledgement(*from, *to, *base, *bits, line),
+    }
+}
+
+fn fill_acknowledgement(from: u32, to: u32, base: u32, bits: u32, line: &mut TextLine)
+    ensures { line.new ≡ packet_line (Packet.Ack from to base bits) }
+{
+    line.begin("ack from ");
+    line.number(u64::from(from));
+    line.text(" to ");
+    line.number(u64::from(to));
+    line.text(" base ");
+    line.number(u64::from(base));
+    line.text(" bits ");
+    line.hex(&bits.to_be_bytes());
+    line.text("\n");
+}
+
+fn fill_data(packet: &DataPacket, line: &mut TextLine)
+    ensures { line.new ≡ packet_line (Packet.Data packet.now) }
+{
+    begin_data(packet, line);
+    add_head(&packet.head, line);
+    line.text(" payload ");
+    line.optional_hex(packet.payload.as_slice());
+    line.text("\n");
+}
+
+/// Leaves in `line` what stands before the fields of the head.
+fn begin_data(packet: &DataPacket, line: &mut TextLine)
+    ensures text { line.new ≡ data_front packet.now }
+    ensures short { length line.new ≤ 300 }
+{
+    line.begin("data from ");
+    line.number(u64::from(packet.from));
+    line.text(" to ");
+    line.number(u64::from(packet.to));
+    line.text(" seq ");
+    line.number(u64::from(packet.seq));
+    line.text(" message ");
+    add_message(packet.name, line);
+    line.text(" op ");
+    line.text(head_name(&packet.head));
+    line.text(" length ");
+    line.number(u64::from(packet.length));
+    line.text(" fragment ");
+    line.number(u64::from(packet.fragment));
+}
+
+fn fill_bad(bad: Bad, line: &mut TextLine)
+    ensures { line.new ≡ bad_line bad }
+{
+    line.begin("bad ");
+    line.number(u64::from(bad.place));
+    line.text(" ");
+    line.number(reason_number(bad.reason));
+    line.text(" ");
+    line.text(reason_name(bad.reason));
+    line.text("\n");
+}

@@ -1,0 +1,79 @@
+ghost use Rattle.std.specs.Prelude.{◌≡◌, false, length, IfErr};
+ghost use Rattle.std.specs.List.{flat_map};
+ghost use Rattle.lapi_base.specs.Operations.{upto};
+ghost use Rattle.lapi_base.specs.ReportText.{totals_text, task_text, quiet_line, report_text};
+ghost use Rattle.lapi_base.specs.Seen.{seen_record};
+ghost use Rattle.lapi_io.specs.Causes.{HasCause};
+ghost use Rattle.lapi_report.specs.Written.{Wrote, HasWriteCause};
+
+use crate::task::write_task;
+use crate::text_line::TextLine;
+use lapi_base::WriteFault;
+use lapi_io::{Failed, Sink};
+use lapi_world::World;
+
+/// Writes how far the lines taken have come, what became of each task, and whether all is quiet.
+/// It takes no memory.
+pub fn write_report<K: Sink>(world: &World, sink: &mut K) -> Result<(), WriteFault>
+    requires { world.now.spent ≡ false }
+    ensures text { Wrote (K.held sink.old) (K.held sink.new) (report_text world.now.script world.now.rules (seen_record world.now) (length world.now.taken)) result }
+    ensures cause { HasWriteCause (K.faults sink.old) (K.faults sink.new) result }
+    ensures only_failed { IfErr result (λ fault. fault ≡ WriteFault.Failed) }
+    ensures room { K.room sink.new ≡ K.room sink.old }
+{
+    match write_parts(world, sink) {
+        Ok(()) => Ok(()),
+        Err(Failed) => Err(WriteFault::Failed),
+    }
+}
+
+#[tactic(auto, unfolding(lapi_base::specs::ReportText::report_text))]
+fn write_parts<K: Sink>(world: &World, sink: &mut K) -> Result<(), Failed>
+    requires { world.now.spent ≡ false }
+    ensures text { Wrote (K.held sink.old) (K.held sink.new) (report_text world.now.script world.now.rules (seen_record world.now) (length world.now.taken)) result }
+    ensures cause { HasCause (K.faults sink.old) (K.faults sink.new) result }
+    ensures room { K.room sink.new ≡ K.room sink.old }
+{
+    write_totals(world, sink)?;
+    write_tasks(world, sink)?;
+    write_quiet(world.quiet(), sink)
+}
+
+fn write_totals<K: Sink>(world: &World, sink: &mut K) -> Result<(), Failed>
+    requires { world.now.spent ≡ false }
+    ensures text { Wrote (K.held sink.old) (K.held sink.new) (totals_text (length world.now.taken) (length (seen_record world.now).journal)) result }
+    ensures cause { HasCause (K.faults sink.old) (K.faults sink.new) result }
+    ensures room { K.room sink.new ≡ K.room sink.old }
+{
+    let mut line = TextLine::new();
+    line.begin("lines ");
+    line.number(world.taken().len() as u64);
+    line.text("\nevents ");
+    line.number(world.journal().len() as u64);
+    line.text("\n");
+    line.write(sink)
+}
+
+fn write_tasks<K: Sink>(world: &World, sink: &mut K) -> Result<(), Failed>
+    requires { world.now.spent ≡ false }
+    ensures text { Wrote (K.held sink.old) (K.held sink.new) (flat_map (task_text world.now.script world.now.rules (seen_record world.now)) (upto world.now.script.tasks)) result }
+    ensures cause { HasCause (K.faults sink.old) (K.faults sink.new) result }
+    ensures room { K.room sink.new ≡ K.room sink.old }
+{
+    for t in 0..world.script().tasks {
+        write_task(world, t, sink)?;
+    }
+    Ok(())
+}
+
+fn write_quiet<K: Sink>(quiet: bool, sink: &mut K) -> Result<(), Failed>
+    ensures text { Wrote (K.held sink.old) (K.held sink.new) (quiet_line quiet) result }
+    ensures cause { HasCause (K.faults sink.old) (K.faults sink.new) result }
+    ensures room { K.room sink.new ≡ K.room sink.old }
+{
+    let mut line = TextLine::new();
+    line.begin("quiet ");
+    line.text(if quiet { "yes" } else { "no" });
+    line.text("\n");
+    line.write(sink)
+}

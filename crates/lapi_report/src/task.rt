@@ -1,0 +1,200 @@
+//! What a report says of one task.
+
+ghost use Rattle.std.specs.Prelude.{◌≡◌, ◌<◌, false, length};
+ghost use Rattle.std.specs.List.{flat_map};
+ghost use Rattle.lapi_base.specs.Counters.{reads};
+ghost use Rattle.lapi_base.specs.Jobs.{queue, busy};
+ghost use Rattle.lapi_base.specs.Operations.{statements};
+ghost use Rattle.lapi_base.specs.Refusals.{next, refusals};
+ghost use Rattle.lapi_base.specs.ReportText.{task_line, refused_if, read_if, statement_text, statements_text, counter_text, counters_text, task_text};
+ghost use Rattle.lapi_base.specs.Seen.{seen_record};
+ghost use Rattle.lapi_io.specs.Causes.{HasCause};
+ghost use Rattle.lapi_report.specs.Written.{Wrote};
+
+use crate::memory::write_memory;
+use crate::parts::add_refusal;
+use crate::text_line::TextLine;
+use lapi_base::{Refusal, Script};
+use lapi_io::{Failed, Sink};
+use lapi_world::World;
+
+#[tactic(auto, unfolding(lapi_base::specs::ReportText::task_text))]
+pub(crate) fn write_task<K: Sink>(world: &World, t: u32, sink: &mut K) -> Result<(), Failed>
+    requires spent { world.now.spent ≡ false }
+    requires task { t < world.now.script.tasks }
+    ensures text { Wrote (K.held sink.old) (K.held sink.new) (task_text world.now.script world.now.rules (seen_record world.now) t) result }
+    ensures cause { HasCause (K.faults sink.old) (K.faults sink.new) result }
+    ensures room { K.room sink.new ≡ K.room sink.old }
+{
+    write_standing(world, t, sink)?;
+    write_statements(world, t, sink)?;
+    write_counters(world, t, sink)?;
+    write_memory(t, world.bytes(t), sink)
+}
+
+/// How many statements the task has.
+fn statement_count(script: &Script, t: u32) -> usize
+    ensures { result ≡ length (statements script.now t) }
+{
+    match script.lists.as_slice().get(t as usize) {
+        Some(list) => list.as_slice().len(),
+        None => 0,
+    }
+}
+
+fn write_standing<K: Sink>(world: &World, t: u32, sink: &mut K) -> Result<(), Failed>
+    requires spent { world.now.spent ≡ false }
+    requires task { t < world.now.script.tasks }
+    ensures text { let J = (seen_record world.now).journal in Wrote (K.held sink.old) (K.held sink.new) (task_line t (next J t) (length (statements world.now.script t)) (length (queue world.now.script world.now.rules J t)) (length (busy world.now.script J t))) result }
+    ensures cause { HasCause (K.faults sink.old) (K.faults sink.new) result }
+    ensures room { K.room sink.new ≡ K.room sink.old }
+{
+    let mut line = TextLine::new();
+    line.begin("task ");
+    line.number(u64::from(t));
+    line.text(" at ");
+    line.number(u64::from(world.next(t)));
+    line.text(" of ");
+    line.number(statement_count(world.script(), t) as u64);
+    line.text(" queued ");
+    line.number(u64::from(world.queued(t)));
+    line.text(" running ");
+    line.number(u64::from(world.running(t)));
+    line.text("\n");
+    line.write(sink)
+}
+
+/// Statement by statement, since refusals and reads stand in one list.
+fn write_statements<K: Sink>(world: &World, t: u32, sink: &mut K) -> Result<(), Failed>
+    requires spent { world.now.spent ≡ false }
+    requires task { t < world.now.script.tasks }
+    ensures text { let J = (seen_record world.now).journal in Wrote (K.held sink.old) (K.held sink.new) (statements_text t (length (statements world.now.script t)) (refusals J t) (reads world.now.script world.now.rules J t)) result }
+    ensures cause { HasCause (K.faults sink.old) (K.faults sink.new) result }
+    ensures room { K.room sink.new ≡ K.room sink.old }
+{
+    for s in 0..statement_count(world.script(), t) {
+        write_statement(t, s, world.refusals(t), world.reads(t), sink)?;
+    }
+    Ok(())
+}
+
+/// What became of statement `s`.
+pub(crate) fn write_statement<K: Sink>(
+    t: u32,
+    s: usize,
+    refusals: &[(u32, Refusal)],
+    reads: &[(u32, u64)],
+    sink: &mut K,
+) -> Result<(), Failed>
+    ensures text { Wrote (K.held sink.old) (K.held sink.new) (statement_text t refusals.now reads.now s) result }
+    ensures cause { HasCause (K.faults sink.old) (K.faults sink.new) result }
+    ensures room { K.room sink.new ≡ K.room sink.old }
+{
+    write_refused(t, s, refusals, sink)?;
+    write_read(t, s, reads, sink)
+}
+
+fn write_refused<K: Sink>(
+    t: u32,
+    s: usize,
+    refusals: &[(u32, Refusal)],
+    sink: &mut K,
+) -> Result<(), Failed>
+    ensures text { Wrote (K.held sink.old) (K.held sink.new) (flat_map (refused_if t s) refusals.now) result }
+    ensures cause { HasCause (K.faults sink.old) (K.faults sink.new) result }
+    ensures room { K.room sink.new ≡ K.room sink.old }
+{
+    for refusal in refusals {
+        write_if_refused(t, s, *refusal, sink)?;
+    }
+    Ok(())
+}
+
+fn write_if_refused<K: Sink>(
+    t: u32,
+    s: usize,
+    refusal: (u32, Refusal),
+    sink: &mut K,
+) -> Result<(), Failed>
+    ensures text { Wrote (K.held sink.old) (K.held sink.new) (refused_if t s refusal) result }
+    ensures cause { HasCause (K.faults sink.old) (K.faults sink.new) result }
+    ensures room { K.room sink.new ≡ K.room sink.old }
+{
+    let (statement, why) = refusal;
+    if statement as usize != s {
+        return Ok(());
+    }
+    let mut line = TextLine::new();
+    line.begin("refused ");
+    line.number(u64::from(t));
+    line.text(" ");
+    line.number(u64::from(statement));
+    line.text(" ");
+    add_refusal(why, &mut line);
+    line.text("\n");
+    line.write(sink)
+}
+
+fn write_read<K: Sink>(t: u32, s: usize, reads: &[(u32, u64)], sink: &mut K) -> Result<(), Failed>
+    ensures text { Wrote (K.held sink.old) (K.held sink.new) (flat_map (read_if t s) reads.now) result }
+    ensures cause { HasCause (K.faults sink.old) (K.faults sink.new) result }
+    ensures room { K.room sink.new ≡ K.room sink.old }
+{
+    for read in reads {
+        write_if_read(t, s, *read, sink)?;
+    }
+    Ok(())
+}
+
+fn write_if_read<K: Sink>(t: u32, s: usize, read: (u32, u64), sink: &mut K) -> Result<(), Failed>
+    ensures text { Wrote (K.held sink.old) (K.held sink.new) (read_if t s read) result }
+    ensures cause { HasCause (K.faults sink.old) (K.faults sink.new) result }
+    ensures room { K.room sink.new ≡ K.room sink.old }
+{
+    let (statement, value) = read;
+    if statement as usize != s {
+        return Ok(());
+    }
+    let mut line = TextLine::new();
+    line.begin("read ");
+    line.number(u64::from(t));
+    line.text(" ");
+    line.number(u64::from(statement));
+    line.text(" ");
+    line.number(value);
+    line.text("\n");
+    line.write(sink)
+}
+
+fn write_counters<K: Sink>(world: &World, t: u32, sink: &mut K) -> Result<(), Failed>
+    requires spent { world.now.spent ≡ false }
+    requires task { t < world.now.script.tasks }
+    ensures text { Wrote (K.held sink.old) (K.held sink.new) (counters_text world.now.script world.now.rules (seen_record world.now) t) result }
+    ensures cause { HasCause (K.faults sink.old) (K.faults sink.new) result }
+    ensures room { K.room sink.new ≡ K.room sink.old }
+{
+    for c in 0..world.script().counters {
+        write_counter(t, c, world.counter(t, c), sink)?;
+    }
+    Ok(())
+}
+
+/// A counter's line, where it is above 0.
+fn write_counter<K: Sink>(t: u32, c: u32, value: u64, sink: &mut K) -> Result<(), Failed>
+    ensures text { Wrote (K.held sink.old) (K.held sink.new) (counter_text t c value) result }
+    ensures cause { HasCause (K.faults sink.old) (K.faults sink.new) result }
+    ensures room { K.room sink.new ≡ K.room sink.old }
+{
+    if value == 0 {
+        return Ok(());
+    }
+    let mut line = TextLine::new();
+    line.begin("counter ");
+    line.number(u64::from(t));
+    line.text(" ");
+    line.number(u64::from(c));
+    line.text(" ");
+    line.number(value);
+    line.text("\n");
+    line.write(sink)
+}

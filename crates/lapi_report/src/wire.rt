@@ -1,0 +1,100 @@
+ghost use Rattle.std.specs.Prelude.{◌≡◌, ◌<◌, ◌≤◌, ◌++◌, length, codes, false, IfErr};
+ghost use Rattle.std.specs.Fmt.{decimal};
+ghost use Rattle.lapi_base.specs.Seen.{seen_record};
+ghost use Rattle.lapi_base.specs.WireText.{entry_line, entry_lines, wires_from_text, wire_text};
+ghost use Rattle.lapi_io.specs.Causes.{HasCause};
+ghost use Rattle.lapi_report.specs.Written.{Wrote, HasWriteCause};
+
+use crate::text_line::TextLine;
+use lapi_base::{Bytes, WriteFault};
+use lapi_io::{Failed, Sink};
+use lapi_world::World;
+
+/// Writes a line for each entry of each wire. It takes no memory.
+pub fn write_wire<K: Sink>(world: &World, sink: &mut K) -> Result<(), WriteFault>
+    requires { world.now.spent ≡ false }
+    ensures text { Wrote (K.held sink.old) (K.held sink.new) (wire_text world.now.script (seen_record world.now)) result }
+    ensures cause { HasWriteCause (K.faults sink.old) (K.faults sink.new) result }
+    ensures only_failed { IfErr result (λ fault. fault ≡ WriteFault.Failed) }
+    ensures room { K.room sink.new ≡ K.room sink.old }
+{
+    match write_wires(world, sink) {
+        Ok(()) => Ok(()),
+        Err(Failed) => Err(WriteFault::Failed),
+    }
+}
+
+#[tactic(auto, unfolding(lapi_base::specs::WireText::wire_text))]
+fn write_wires<K: Sink>(world: &World, sink: &mut K) -> Result<(), Failed>
+    requires { world.now.spent ≡ false }
+    ensures text { Wrote (K.held sink.old) (K.held sink.new) (wire_text world.now.script (seen_record world.now)) result }
+    ensures cause { HasCause (K.faults sink.old) (K.faults sink.new) result }
+    ensures room { K.room sink.new ≡ K.room sink.old }
+{
+    for a in 0..world.script().tasks {
+        write_wires_from(world, a, sink)?;
+    }
+    Ok(())
+}
+
+fn write_wires_from<K: Sink>(world: &World, a: u32, sink: &mut K) -> Result<(), Failed>
+    requires spent { world.now.spent ≡ false }
+    requires task { a < world.now.script.tasks }
+    ensures text { Wrote (K.held sink.old) (K.held sink.new) (wires_from_text world.now.script (seen_record world.now) a) result }
+    ensures cause { HasCause (K.faults sink.old) (K.faults sink.new) result }
+    ensures room { K.room sink.new ≡ K.room sink.old }
+{
+    for b in 0..world.script().tasks {
+        write_entries(a, b, world.wire(a, b), sink)?;
+    }
+    Ok(())
+}
+
+pub(crate) fn write_entries<K: Sink>(
+    a: u32,
+    b: u32,
+    entries: &[Bytes],
+    sink: &mut K,
+) -> Result<(), Failed>
+    ensures text { Wrote (K.held sink.old) (K.held sink.new) (entry_lines a b 0 entries.now) result }
+    ensures cause { HasCause (K.faults sink.old) (K.faults sink.new) result }
+    ensures room { K.room sink.new ≡ K.room sink.old }
+{
+    let mut line = TextLine::new();
+    for (k, entry) in entries.iter().enumerate() {
+        write_entry(a, b, k, entry.as_slice(), &mut line, sink)?;
+    }
+    Ok(())
+}
+
+fn write_entry<K: Sink>(
+    a: u32,
+    b: u32,
+    k: usize,
+    entry: &[u8],
+    line: &mut TextLine,
+    sink: &mut K,
+) -> Result<(), Failed>
+    ensures text { Wrote (K.held sink.old) (K.held sink.new) (entry_line a b k entry.now) result }
+    ensures cause { HasCause (K.faults sink.old) (K.faults sink.new) result }
+    ensures room { K.room sink.new ≡ K.room sink.old }
+{
+    begin_entry(a, b, k, line);
+    line.long_hex(entry, sink)?;
+    line.text("\n");
+    line.write(sink)
+}
+
+/// Leaves in `line` what stands before the bytes of entry `k` from task `a` to task `b`.
+fn begin_entry(a: u32, b: u32, k: usize, line: &mut TextLine)
+    ensures text { line.new ≡ (codes "wire " ++ decimal a ++ codes " " ++ decimal b ++ codes " " ++ decimal k ++ codes " ") }
+    ensures short { length line.new ≤ 100 }
+{
+    line.begin("wire ");
+    line.number(u64::from(a));
+    line.text(" ");
+    line.number(u64::from(b));
+    line.text(" ");
+    line.number(k as u64);
+    line.text(" ");
+}
