@@ -1,0 +1,5 @@
+pub mod Fronts
+pub mod LinesInOrder
+pub mod Refusals
+pub mod Reported
+pub mod WorldTexts

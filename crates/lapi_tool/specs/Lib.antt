@@ -1,2 +1,2 @@
-pub mod Stops
-pub mod Written
+pub mod Answered
+pub mod Shown

@@ -1,66 +1,114 @@
-ghost use Rattle.std.specs.Prelude.{◌≡◌, ◌≢◌, IsErrOf};
+ghost use Rattle.std.specs.Prelude.{◌≡◌, ◌≢◌, ℕ, List, Option, Some, map, IsErrOf};
+ghost use Rattle.lapi_base.specs.declared.command.Command.TheVariants as commands;
+ghost use Rattle.lapi_base.specs.declared.command.View.TheVariants.{Report};
+ghost use Rattle.lapi_base.specs.Answers.{input_answer};
+ghost use Rattle.lapi_base.specs.Commands as commands_of;
+ghost use Rattle.lapi_base.specs.Reading.{read};
 ghost use Rattle.lapi_io.specs.Causes.{Rose};
+ghost use Rattle.lapi_report.specs.Written.{Wrote};
+ghost use Rattle.lapi_tool.specs.Answered.{IsAnswered, IsReported, Gives, refused_answer};
 
-use crate::read::read_input;
-use crate::report::write_report;
-use crate::stop::Stop;
-use lapi_base::{Status, WriteFault};
-use lapi_io::{Sink, Source, read_all};
-use lapi_world::World;
+use crate::fault::{status_of, write_fault};
+use crate::text::write_text;
+use crate::views::write_view;
+use crate::words::command_of;
+use lapi_base::{Command, ReadFault, Status, View, Which, WriteFault};
+use lapi_io::{ReadAll, Sink, Source, read_all};
+use lapi_laws::journal_is_atomic;
+use lapi_report::write_packet;
+use lapi_script::read_input;
+use lapi_text::text_laws;
 use std::alloc::Global;
 
 /// The longest input, in bytes.
 const LONGEST_INPUT: usize = 4_194_304;
 
-/// Does what the words say. The one word `run` reads an input, performs every line of its schedule
-/// and writes the report.
+/// What is told of an input with more bytes than that.
+const TOO_LONG: ReadFault = ReadFault::Limit {
+    which: Which::Input,
+    line: 0,
+};
+
+const USAGE: &str =
+    "usage: lapi run|journal|wire|trace|check|live, lapi show HEX, lapi gen N, lapi sum N\n";
+
+/// Does what the words say, which are the arguments after the program's name: reads an input, performs every
+/// line of its schedule and writes what is asked of it, or shows a packet.
 ///
-/// `words` are the arguments after the program's name. All text goes to the sink, that of a refusal too.
+/// All text goes to the sink, that of a refusal too.
 pub fn run<S: Source, K: Sink>(
     alloc: Global,
     words: &Vec<String>,
     source: &mut S,
     sink: &mut K,
 ) -> Status
+    // The status and the text that are defined for the words and the input, or a front of that text.
+    ensures answer { IsAnswered (commands_of.command_of (map (λ word. word.bytes.items) words.now.items)) (S.left source.old) (S.left source.new) (K.held sink.old) (K.held sink.new) result }
+    // The report is that of the atomic message machine.
+    ensures headline { commands_of.command_of (map (λ word. word.bytes.items) words.now.items) ≡ Some (commands.Read Report) → result ≡ Status.Ok → IsReported (S.left source.old) (S.left source.new) (K.held sink.old) (K.held sink.new) }
+    // A fault is answered only where its count rose.
     ensures source { result ≡ Status.SourceFault → Rose (S.faults source.old) (S.faults source.new) }
     ensures unwritten { result ≡ Status.SourceFault → sink.new ≡ sink.old }
     ensures sink { result ≡ Status.SinkFault → Rose (K.faults sink.old) (K.faults sink.new) }
     ensures room { K.room sink.new ≡ K.room sink.old }
 {
-    match world_of(alloc, words, source) {
-        Ok(world) => end(Status::Ok, write_report(alloc, &world, sink)),
-        Err(stop) => end(stop.status(), stop.write(alloc, sink)),
+    text_laws();
+    journal_is_atomic();
+    match command_of(alloc, words) {
+        Err(_) => Status::Memory,
+        Ok(None) => end(Status::Usage, write_text(USAGE, sink)),
+        Ok(Some(Command::Show(bytes))) => end(Status::Ok, write_packet(bytes.as_slice(), sink)),
+        Ok(Some(Command::Read(view))) => read_and_answer(alloc, view, source, sink),
     }
 }
 
-/// The world of the input that the source holds, after all lines of its schedule.
-fn world_of<S: Source>(alloc: Global, words: &Vec<String>, source: &mut S) -> Result<World, Stop>
-    ensures { IsErrOf result Stop.Unread → Rose (S.faults source.old) (S.faults source.new) }
+/// Reads the whole source, and answers what was read.
+fn read_and_answer<S: Source, K: Sink>(
+    alloc: Global,
+    view: View,
+    source: &mut S,
+    sink: &mut K,
+) -> Status
+    ensures answer { IsAnswered (Some (commands.Read view)) (S.left source.old) (S.left source.new) (K.held sink.old) (K.held sink.new) result }
+    ensures source { result ≡ Status.SourceFault → Rose (S.faults source.old) (S.faults source.new) }
+    ensures unwritten { result ≡ Status.SourceFault → sink.new ≡ sink.old }
+    ensures sink { result ≡ Status.SinkFault → Rose (K.faults sink.old) (K.faults sink.new) }
+    ensures room { K.room sink.new ≡ K.room sink.old }
 {
-    if !is_run(words) {
-        return Err(Stop::Usage);
-    }
-    let bytes = read_all(alloc, source, LONGEST_INPUT)?;
-    let input = read_input(alloc, bytes.as_slice())?;
-    let mut world = World::new(alloc, input.script, input.schedule)?;
-    for n in 0..u32::MAX {
-        if n as usize >= world.schedule().len() {
-            break;
-        }
-        world.line(alloc, n)?;
-    }
-    Ok(world)
-}
-
-fn is_run(words: &Vec<String>) -> bool {
-    match words.as_slice() {
-        [word] => word.as_str() == "run",
-        _ => false,
+    match read_all(alloc, source, LONGEST_INPUT) {
+        Ok(bytes) => answer_input(alloc, view, bytes.as_slice(), sink),
+        Err(ReadAll::Long) => refuse(alloc, TOO_LONG, sink),
+        Err(ReadAll::Failed) => Status::SourceFault,
+        Err(ReadAll::Memory) => Status::Memory,
     }
 }
 
-/// The status, unless its text couldn't be written.
+/// Answers bytes that are no more than an input may have.
+fn answer_input<K: Sink>(alloc: Global, view: View, bytes: &[u8], sink: &mut K) -> Status
+    ensures answer { Gives (input_answer view (read bytes.now)) (K.held sink.old) (K.held sink.new) result }
+    ensures source { result ≢ Status.SourceFault }
+    ensures sink { result ≡ Status.SinkFault → Rose (K.faults sink.old) (K.faults sink.new) }
+    ensures room { K.room sink.new ≡ K.room sink.old }
+{
+    match read_input(alloc, bytes) {
+        Ok(input) => end(Status::Ok, write_view(alloc, view, input, sink)),
+        Err(fault) => refuse(alloc, fault, sink),
+    }
+}
+
+/// Answers a fault of the input.
+fn refuse<K: Sink>(alloc: Global, fault: ReadFault, sink: &mut K) -> Status
+    ensures answer { Gives (refused_answer fault) (K.held sink.old) (K.held sink.new) result }
+    ensures source { result ≢ Status.SourceFault }
+    ensures sink { result ≡ Status.SinkFault → Rose (K.faults sink.old) (K.faults sink.new) }
+    ensures room { K.room sink.new ≡ K.room sink.old }
+{
+    end(status_of(fault), write_fault(alloc, fault, sink))
+}
+
+/// The status, unless its text wasn't written whole.
 fn end(status: Status, written: Result<(), WriteFault>) -> Status
+    ensures answer { (held now : Option (List ℕ)) (text : List ℕ) → Wrote held now text written → Gives (record { status = status; text = text }) held now result }
     ensures source { result ≡ Status.SourceFault → status ≡ Status.SourceFault }
     ensures sink { status ≢ Status.SinkFault → result ≡ Status.SinkFault → IsErrOf written WriteFault.Failed }
 {

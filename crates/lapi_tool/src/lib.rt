@@ -1,10 +1,13 @@
-//! The commands, from the bytes in to the bytes out.
+//! The commands: what a user's words and input come to, from the bytes in to the bytes out.
 #![tactic(auto)]
 
 mod command;
-mod read;
-mod report;
-mod stop;
+mod counts;
+mod fault;
+mod performed;
+mod text;
+mod views;
+mod words;
 
 pub use command::run;
 

@@ -7,30 +7,54 @@ use lapi_io::{MemSink, MemSource};
 use std::alloc::Global;
 use std::test::Fail;
 
-/// The statements of task 0 in the smallest run.
-const PUT: &str = "store 0 6162636465666768\nput 1 16 0 8 - - -\n";
+/// The lines of the smallest run's input.
+const SMALLEST: [&str; 13] = [
+    "lapi 1",
+    "tasks 2 memory 64 counters 4 workers 1",
+    "task 0",
+    "store 0 6162636465666768",
+    "put 1 16 0 8 - - -",
+    "task 1",
+    "schedule",
+    "0 step 0",
+    "0 step 0",
+    "0 poll 0",
+    "0 deliver 0 1 0",
+    "0 deliver 1 0 0",
+    "done",
+];
 
-const STEPS: &str = "0 step 0\n0 step 0\n0 poll 0\n0 deliver 0 1 0\n";
+const REPORT: &str =
+    "lines 5\nevents 4\ntask 0 at 2 of 2 queued 0 running 0\nmemory 0 0000 61626364656667680000000000000000\ntask 1 at 0 of 0 queued 0 running 0\nmemory 1 0010 61626364656667680000000000000000\nquiet yes\n";
+
+const REFUSED: &str =
+    "lines 5\nevents 2\ntask 0 at 2 of 2 queued 0 running 0\nrefused 0 1 2 BadTargetRange\nmemory 0 0000 61626364656667680000000000000000\ntask 1 at 0 of 0 queued 0 running 0\nquiet yes\n";
 
 const USAGE: &str =
     "usage: lapi run|journal|wire|trace|check|live, lapi show HEX, lapi gen N, lapi sum N\n";
 
-fn input(alloc: Global, statements: &str, schedule: &str) -> Result<String, Fail> {
-    let text = format!(in alloc;
-        "lapi 1\ntasks 2 memory 64 counters 4 workers 1\ntask 0\n{statements}task 1\nschedule\n{schedule}done\n"
-    )?;
+/// The smallest run's input with another line `number`, counted from 1; line 14 comes after the last.
+fn changed(alloc: Global, number: usize, line: &str) -> Result<String, Fail> {
+    let mut text = String::new(alloc);
+    for i in 0..SMALLEST.len() {
+        text.push_str(if i + 1 == number { line } else { SMALLEST[i] })?;
+        text.push('\n')?;
+    }
+    if number > SMALLEST.len() {
+        text.push_str(line)?;
+        text.push('\n')?;
+    }
     Ok(text)
 }
 
 fn smallest(alloc: Global) -> Result<String, Fail> {
-    let schedule = format!(in alloc; "{STEPS}0 deliver 1 0 0\n")?;
-    input(alloc, PUT, schedule.as_str())
+    changed(alloc, 1, SMALLEST[0])
 }
 
-/// The smallest run's report, of so many lines.
-fn report(alloc: Global, lines: u32) -> Result<String, Fail> {
+/// Two tasks of 64 bytes with these statements of task 0, and this schedule.
+fn input(alloc: Global, statements: &str, schedule: &str) -> Result<String, Fail> {
     let text = format!(in alloc;
-        "lines {lines}\nevents 4\ntask 0 at 2 of 2 queued 0 running 0\nmemory 0 0000 61626364656667680000000000000000\ntask 1 at 0 of 0 queued 0 running 0\nmemory 1 0010 61626364656667680000000000000000\nquiet yes\n"
+        "lapi 1\ntasks 2 memory 64 counters 4 workers 1\ntask 0\n{statements}task 1\nschedule\n{schedule}done\n"
     )?;
     Ok(text)
 }
@@ -69,104 +93,229 @@ fn run_words(alloc: Global, given: &[&str], input: &[u8]) -> Result<Ran, Fail> {
     run_with(alloc, given, input, Vec::new(alloc), Vec::new(alloc))
 }
 
+/// Whether these words over this input come to this status and this text.
+fn answers(
+    alloc: Global,
+    given: &[&str],
+    input: &str,
+    status: Status,
+    text: &str,
+) -> Result<bool, Fail> {
+    let ran = run_words(alloc, given, input.as_bytes())?;
+    Ok(ran.status == status && ran.held.as_slice() == text.as_bytes())
+}
+
 #[test]
-fn an_input_answers_its_report(rt: HostRuntime) -> Result<(), Fail> {
+fn each_command_writes_its_text_of_the_smallest_run(rt: HostRuntime) -> Result<(), Fail> {
     let alloc = rt.alloc();
-    let twice = format!(in alloc; "{STEPS}0 deliver 0 1 0\n0 deliver 1 0 1\n")?;
-    let nothing =
-        "lines 0\nevents 0\ntask 0 at 0 of 0 queued 0 running 0\ntask 1 at 0 of 0 queued 0 running 0\nquiet yes\n";
-    for (input, report) in [
-        (smallest(alloc)?.as_str(), report(alloc, 5)?.as_str()),
-        (input(alloc, "", "")?.as_str(), nothing),
+    let text = smallest(alloc)?;
+    for (word, written) in [
+        ("run", REPORT),
         (
-            input(alloc, PUT, twice.as_str())?.as_str(),
-            report(alloc, 6)?.as_str(),
+            "journal",
+            "issue 0.0\nissue 0.1\ncopy 0.1 go\nland 0.1 go\n",
         ),
+        (
+            "wire",
+            "wire 0 1 0 4c0101000100000000000001010100000008000000000010ffff6162636465666768\nwire 1 0 0 4c010201000000000100000000\n",
+        ),
+        (
+            "trace",
+            "0 step 0 : did\n0 step 0 : did\n0 poll 0 : did\n0 deliver 0 1 0 : did\n0 deliver 1 0 0 : did\n",
+        ),
+        ("check", "ok tasks 2 statements 2 lines 5\n"),
     ] {
-        let ran = run_words(alloc, &["run"], input.as_bytes())?;
-        assert_eq!(rt; ran.status, Status::Ok);
-        assert_eq!(rt; ran.held.as_slice(), report.as_bytes());
-    }
-    Ok(())
-}
-
-#[test]
-fn other_words_answer_the_usage_line(rt: HostRuntime) -> Result<(), Fail> {
-    let alloc = rt.alloc();
-    let input = smallest(alloc)?;
-    let given: [&[&str]; 4] = [&[], &["rum"], &["run", "x"], &["RUN"]];
-    for words in given {
-        let ran = run_words(alloc, words, input.as_bytes())?;
-        assert_eq!(rt; ran.status, Status::Usage);
-        assert_eq!(rt; ran.held.as_slice(), USAGE.as_bytes());
-    }
-    Ok(())
-}
-
-/// Whether this input is refused as a whole.
-fn is_unbuilt(alloc: Global, text: &str) -> Result<bool, Fail> {
-    let ran = run_words(alloc, &["run"], text.as_bytes())?;
-    Ok(ran.status == Status::Limit && ran.held.as_slice() == b"limit unbuilt 0\n".as_slice())
-}
-
-#[test]
-fn other_inputs_are_refused_as_a_whole(rt: HostRuntime) -> Result<(), Fail> {
-    for (statements, schedule) in [
-        // A statement that would be refused: no such task, and bytes past the end of either memory.
-        ("put 2 0 0 8 - - -\n", ""),
-        ("put 1 57 0 8 - - -\n", ""),
-        ("put 1 0 57 8 - - -\n", ""),
-        ("store 64 00\n", ""),
-        // Forms that are not built.
-        ("store 0 00\nfence\n", STEPS),
-        ("put 1 0 0 8 0 - -\n", ""),
-        ("", "0 tick 0\n"),
-        // Texts that are not canonical, or no input at all.
-        ("store 0 AB\n", ""),
-        ("store 0 abc\n", ""),
-        ("store  0 ab\n", ""),
-        ("store 00 ab\n", ""),
-        ("", "0 step 2\n"),
-        ("", "16 step 0\n"),
-        ("", "done\n"),
-    ] {
-        let text = input(rt.alloc(), statements, schedule)?;
         assert!(rt;
-            is_unbuilt(rt.alloc(), text.as_str())?,
-            "{statements}{schedule}"
+            answers(alloc, &[word], text.as_str(), Status::Ok, written)?,
+            "{word}"
         );
     }
     Ok(())
 }
 
 #[test]
-fn cut_and_great_inputs_are_refused_as_a_whole(rt: HostRuntime) -> Result<(), Fail> {
+fn each_command_writes_its_text_of_nothing(rt: HostRuntime) -> Result<(), Fail> {
     let alloc = rt.alloc();
-    for text in ["", "\n", "lapi 1\ntasks 9 memory 64 counters 4 workers 1\n"] {
-        assert!(rt; is_unbuilt(alloc, text)?, "{text}");
+    let text = input(alloc, "", "")?;
+    for (word, written) in [
+        (
+            "run",
+            "lines 0\nevents 0\ntask 0 at 0 of 0 queued 0 running 0\ntask 1 at 0 of 0 queued 0 running 0\nquiet yes\n",
+        ),
+        ("journal", ""),
+        ("wire", ""),
+        ("trace", ""),
+        ("check", "ok tasks 2 statements 0 lines 0\n"),
+    ] {
+        assert!(rt;
+            answers(alloc, &[word], text.as_str(), Status::Ok, written)?,
+            "{word}"
+        );
     }
-    let whole = smallest(alloc)?;
-    let no_line_feed = whole.as_str().strip_suffix('\n').ok_or("a line feed")?;
-    assert!(rt; is_unbuilt(alloc, no_line_feed)?);
-    let puts = "put 1 0 0 0 - - -\n".repeat(alloc, 33)?;
-    let many_statements = input(alloc, puts.as_str(), "")?;
-    assert!(rt; is_unbuilt(alloc, many_statements.as_str())?);
-    let polls = "0 poll 0\n".repeat(alloc, 20_001)?;
-    let many_lines = input(alloc, "", polls.as_str())?;
-    assert!(rt; is_unbuilt(alloc, many_lines.as_str())?);
     Ok(())
 }
 
 #[test]
-fn a_long_input_is_refused_by_its_length(rt: HostRuntime) -> Result<(), Fail> {
+fn reports_tell_of_repeats_and_refusals(rt: HostRuntime) -> Result<(), Fail> {
     let alloc = rt.alloc();
+    let put = "store 0 6162636465666768\nput 1 16 0 8 - - -\n";
+    let twice = "0 step 0\n0 step 0\n0 poll 0\n0 deliver 0 1 0\n0 deliver 0 1 0\n0 deliver 1 0 1\n";
+    let repeated = format!(in alloc; "lines 6{}", REPORT.strip_prefix("lines 5").ok_or("lines")?)?;
+    for (statements, schedule, report) in [
+        (put, twice, repeated.as_str()),
+        (
+            "put 2 0 0 8 - - -\n",
+            "0 step 0\n",
+            "lines 1\nevents 1\ntask 0 at 1 of 1 queued 0 running 0\nrefused 0 0 1 BadTask\ntask 1 at 0 of 0 queued 0 running 0\nquiet yes\n",
+        ),
+        (
+            "store 62 010203\nput 1 0 60 5 - - -\n",
+            "0 step 0\n0 step 0\n0 step 0\n",
+            "lines 3\nevents 2\ntask 0 at 2 of 2 queued 0 running 0\nrefused 0 0 3 BadOriginRange\nrefused 0 1 3 BadOriginRange\ntask 1 at 0 of 0 queued 0 running 0\nquiet yes\n",
+        ),
+    ] {
+        let text = input(alloc, statements, schedule)?;
+        assert!(rt;
+            answers(alloc, &["run"], text.as_str(), Status::Ok, report)?,
+            "{statements}"
+        );
+    }
+    Ok(())
+}
+
+#[test]
+fn a_changed_line_answers_its_fault(rt: HostRuntime) -> Result<(), Fail> {
+    let alloc = rt.alloc();
+    for (number, line, status, text) in [
+        (1, "lapi 3", Status::Syntax, "syntax 1\n"),
+        (
+            2,
+            "tasks 2 memory 66 counters 4 workers 1",
+            Status::Limit,
+            "limit memory 2\n",
+        ),
+        (
+            2,
+            "tasks 9 memory 64 counters 4 workers 1",
+            Status::Limit,
+            "limit tasks 2\n",
+        ),
+        (3, "task\t0", Status::Syntax, "syntax 3\n"),
+        (4, "store 0 616", Status::Syntax, "syntax 4\n"),
+        (5, "put 1 016 0 8 - - -", Status::Syntax, "syntax 5\n"),
+        (
+            5,
+            "put 1 4294967296 0 8 - - -",
+            Status::Syntax,
+            "syntax 5\n",
+        ),
+        (5, "put 1 4294967295 0 8 - - -", Status::Ok, REFUSED),
+        (5, "fence", Status::Limit, "limit unbuilt 5\n"),
+        (5, "fence 1", Status::Syntax, "syntax 5\n"),
+        (6, "task 2", Status::Syntax, "syntax 6\n"),
+        (6, "fence\ntask 1", Status::Limit, "limit unbuilt 6\n"),
+        (8, "16 step 0", Status::Limit, "limit lane 8\n"),
+        (8, "16 step 2", Status::Syntax, "syntax 8\n"),
+        (10, "0   poll 0 ", Status::Ok, REPORT),
+        (13, "", Status::Syntax, "syntax 14\n"),
+        (14, "x", Status::Syntax, "syntax 14\n"),
+        (14, "# x", Status::Ok, REPORT),
+    ] {
+        let input = changed(alloc, number, line)?;
+        assert!(rt;
+            answers(alloc, &["run"], input.as_str(), status, text)?,
+            "{number} {line}"
+        );
+    }
+    Ok(())
+}
+
+#[test]
+fn an_input_that_ends_early_or_is_too_long_answers_its_line(rt: HostRuntime) -> Result<(), Fail> {
+    let alloc = rt.alloc();
+    let whole = smallest(alloc)?;
+    let cut = whole.as_str().strip_suffix("done\n").ok_or("done")?;
+    assert!(rt; answers(alloc, &["run"], cut, Status::Syntax, "syntax 13\n")?);
+    assert!(rt; answers(alloc, &["run"], "", Status::Syntax, "syntax 1\n")?);
+    let no_line_feed = whole.as_str().strip_suffix('\n').ok_or("a line feed")?;
+    assert!(rt; answers(alloc, &["run"], no_line_feed, Status::Ok, REPORT)?);
+    let polls = "0 poll 0\n".repeat(alloc, 20_001)?;
+    let many = input(alloc, "", polls.as_str())?;
+    assert!(rt;
+        answers(
+            alloc,
+            &["run"],
+            many.as_str(),
+            Status::Limit,
+            "limit lines 20006\n"
+        )?
+    );
     let mut bytes = vec![in alloc; b'#'; 4_194_304]?;
-    let unbuilt = run_words(alloc, &["run"], bytes.as_slice())?;
-    assert_eq!(rt; unbuilt.held.as_slice(), b"limit unbuilt 0\n".as_slice());
+    let remark = run_words(alloc, &["check"], bytes.as_slice())?;
+    assert_eq!(rt; remark.held.as_slice(), b"syntax 2\n".as_slice());
     bytes.push(b'#')?;
-    let long = run_words(alloc, &["run"], bytes.as_slice())?;
+    let long = run_words(alloc, &["check"], bytes.as_slice())?;
     assert_eq!(rt; long.status, Status::Limit);
     assert_eq!(rt; long.held.as_slice(), b"limit input 0\n".as_slice());
+    Ok(())
+}
+
+#[test]
+fn other_words_answer_the_usage_line(rt: HostRuntime) -> Result<(), Fail> {
+    let alloc = rt.alloc();
+    let given: [&[&str]; 11] = [
+        &[],
+        &["rum"],
+        &["run", "x"],
+        &["RUN"],
+        &["gen", "07"],
+        &["live"],
+        &["show"],
+        &["show", "4"],
+        &["show", ""],
+        &["show", "-"],
+        &["show", "4c", "4c"],
+    ];
+    for words in given {
+        assert!(rt;
+            answers(alloc, words, "", Status::Usage, USAGE)?,
+            "{words:?}"
+        );
+    }
+    let long = "00".repeat(alloc, 641)?;
+    assert!(rt; answers(alloc, &["show", long.as_str()], "", Status::Usage, USAGE)?);
+    Ok(())
+}
+
+#[test]
+fn show_writes_what_the_bytes_spell(rt: HostRuntime) -> Result<(), Fail> {
+    let alloc = rt.alloc();
+    for (digits, text) in [
+        (
+            "4c0101000100000000000001010100000008000000000010ffff6162636465666768",
+            "data from 0 to 1 seq 0 message 0.1 go op put length 8 fragment 0 at 16 tgt - cmpl - payload 6162636465666768\n",
+        ),
+        (
+            "4C010201000000000100000000",
+            "ack from 1 to 0 base 1 bits 00000000\n",
+        ),
+        (
+            "4c010201000000000000000004",
+            "ack from 1 to 0 base 0 bits 00000004\n",
+        ),
+        ("4c02", "bad 1 4 Version\n"),
+        ("4c", "bad 1 1 Short\n"),
+        ("4d", "bad 0 3 Magic\n"),
+        ("4c0103", "bad 2 5 Kind\n"),
+        ("4c010208", "bad 3 6 Task\n"),
+        ("4c010201000000000100000001", "bad 9 8 NotCanonical\n"),
+        ("4c01020100000000010000000000", "bad 13 2 Long\n"),
+    ] {
+        assert!(rt;
+            answers(alloc, &["show", digits], "", Status::Ok, text)?,
+            "{digits}"
+        );
+    }
     Ok(())
 }
 
@@ -174,7 +323,6 @@ fn a_long_input_is_refused_by_its_length(rt: HostRuntime) -> Result<(), Fail> {
 fn every_failing_read_or_write_ends_the_run(rt: HostRuntime) -> Result<(), Fail> {
     let alloc = rt.alloc();
     let input = smallest(alloc)?;
-    let report = report(alloc, 5)?;
     let reads = input.len() as u64 / 16 + 2;
     for k in 0..reads {
         let ran = run_with(
@@ -200,11 +348,11 @@ fn every_failing_read_or_write_ends_the_run(rt: HostRuntime) -> Result<(), Fail>
             break;
         }
         assert_eq!(rt; ran.status, Status::SinkFault);
-        assert!(rt; report.as_bytes().starts_with(ran.held.as_slice()));
-        assert!(rt; ran.held.len() < report.len());
+        assert!(rt; REPORT.as_bytes().starts_with(ran.held.as_slice()));
+        assert!(rt; ran.held.len() < REPORT.len());
         writes = k + 1;
     }
-    assert!(rt; writes >= report.len() as u64 / 16);
+    assert!(rt; writes >= REPORT.len() as u64 / 16);
     Ok(())
 }
 

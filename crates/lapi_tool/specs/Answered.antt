@@ -1,0 +1,64 @@
+-- What a command did to its source and its sink. This is the project's own.
+use Rattle.std.specs.Prelude.{◌≡◌, ℕ, ◌≤◌, ◌⊎◌, List, [], length, reverse, Option, Some, None}
+use Rattle.std.specs.Io.KnownBytes.{Appends, Consumes, IsAtEnd}
+use Rattle.lapi_base.specs.declared.command.Command.{Command}
+use Rattle.lapi_base.specs.declared.command.Command.TheVariants.{Read, Show}
+use Rattle.lapi_base.specs.declared.input.Input.{Input}
+use Rattle.lapi_base.specs.declared.input.ReadFault.{ReadFault}
+use Rattle.lapi_base.specs.declared.input.ReadFault.TheVariants as faults
+use Rattle.lapi_base.specs.declared.input.Why.TheVariants as why
+use Rattle.lapi_base.specs.declared.status.Status.{Status}
+use Rattle.lapi_base.specs.declared.status.Status.TheVariants as status
+use Rattle.lapi_base.specs.Answers.{Answer, usage_answer, fault_answer, shown_answer, input_answer, recorded}
+use Rattle.lapi_base.specs.Atomic.{AtomicInTime}
+use Rattle.lapi_base.specs.Reading.{most_input, read}
+use Rattle.lapi_base.specs.ReportText.{report_text}
+use Rattle.lapi_base.specs.Rows.{Reads}
+use Rattle.lapi_base.specs.Seen.{no_rules}
+use Rattle.lapi_report.specs.Written.{AppendsFront}
+
+-- all that was left was read; or, of a source with more bytes than an input may have, one byte more than those
+abbrev pub WasRead : (left rest : Option (List ℕ)) → List ℕ → Type 0
+WasRead left rest bytes = Consumes left rest bytes × (length bytes ≤ most_input → IsAtEnd rest)
+
+-- the sink refused, or memory ran out
+abbrev pub IsCutShort : Status → Type 0
+IsCutShort status.SinkFault = Unit {0}
+IsCutShort status.Memory = Unit {0}
+IsCutShort _ = ⊥
+
+-- What is told of a fault of the input; where memory ran out that is nothing.
+abbrev pub refused_answer : ReadFault → Answer
+refused_answer (faults.Syntax line) = fault_answer (why.Syntax, line)
+refused_answer (faults.Limit which line) = fault_answer (why.Limit which, line)
+refused_answer faults.Memory = record { status = status.Memory; text = [] }
+
+-- the status of the answer, and its text was appended; or it was cut short, and a front of that text was
+abbrev pub Gives : Answer → (held now : Option (List ℕ)) → Status → Type 0
+Gives answer held now result = ((result ≡ answer.status) × Appends held now answer.text) ⊎ (IsCutShort result × AppendsFront held now answer.text)
+
+-- the source refused, or memory ran out
+abbrev pub IsUnread : Status → Type 0
+IsUnread status.SourceFault = Unit {0}
+IsUnread status.Memory = Unit {0}
+IsUnread _ = ⊥
+
+-- nothing was written
+abbrev pub IsSilent : Status → (held now : Option (List ℕ)) → Type 0
+IsSilent result held now = IsUnread result × (now ≡ held)
+
+abbrev pub IsAnswered : Option Command → (left rest held now : Option (List ℕ)) → Status → Type 0
+IsAnswered None left rest held now result = Gives usage_answer held now result × (rest ≡ left)
+IsAnswered (Some (Show bytes)) left rest held now result = Gives (shown_answer bytes) held now result × (rest ≡ left)
+IsAnswered (Some (Read view)) left rest held now result =
+    IsSilent result held now ⊎ ((bytes : List ℕ) × WasRead left rest bytes × Gives (input_answer view (read bytes)) held now result)
+
+-- The whole source is the text of an input; the report of the record of all its lines was appended; and the journal of
+-- that record is one of the atomic message machine, which has no packets.
+pub record IsReported (left rest held now : Option (List ℕ)) : Type 0 where
+  pub bytes : List ℕ
+  pub x : Input
+  pub read : Consumes left rest bytes × IsAtEnd rest
+  pub reads : Reads x bytes
+  pub written : Appends held now (report_text x.script no_rules (recorded x) (length x.schedule))
+  pub atomic : AtomicInTime x.script no_rules (reverse (recorded x).journal)

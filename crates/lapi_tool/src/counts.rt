@@ -1,0 +1,55 @@
+ghost use Rattle.std.specs.Prelude.{◌≡◌, ◌≤◌, length, map};
+ghost use Rattle.std.specs.List as lists;
+ghost use Rattle.std.specs.List.{AllByRecursion};
+ghost use Rattle.lapi_base.specs.Answers.{counts_line, counts_text};
+ghost use Rattle.lapi_base.specs.Valid.{ValidScript};
+ghost use Rattle.lapi_report.specs.Written.{HasWriteCause, Wrote};
+ghost use Rattle.lapi_tool.specs.Shown.{HasFew};
+
+use crate::text::write_text;
+use lapi_base::{Input, Statements, WriteFault};
+use lapi_io::Sink;
+use std::alloc::Global;
+
+/// Writes how many tasks, statements and lines an input has.
+pub fn write_counts<K: Sink>(alloc: Global, input: &Input, sink: &mut K) -> Result<(), WriteFault>
+    requires { ValidScript input.now.script }
+    ensures text { Wrote (K.held sink.old) (K.held sink.new) (counts_text input.now) result }
+    ensures cause { HasWriteCause (K.faults sink.old) (K.faults sink.new) result }
+    ensures room { K.room sink.new ≡ K.room sink.old }
+{
+    let statements = count_of(input.script.lists.as_slice());
+    let lines = input.schedule.as_slice().len();
+    write_line(alloc, input.script.tasks, statements, lines, sink)
+}
+
+#[tactic(auto, using(crate::proofs::Fronts::none_written))]
+fn write_line<K: Sink>(
+    alloc: Global,
+    tasks: u32,
+    statements: u64,
+    lines: usize,
+    sink: &mut K,
+) -> Result<(), WriteFault>
+    ensures text { Wrote (K.held sink.old) (K.held sink.new) (counts_line tasks statements lines) result }
+    ensures cause { HasWriteCause (K.faults sink.old) (K.faults sink.new) result }
+    ensures room { K.room sink.new ≡ K.room sink.old }
+{
+    let Ok(text) = format!(in alloc; "ok tasks {tasks} statements {statements} lines {lines}\n")
+    else {
+        return Err(WriteFault::Memory);
+    };
+    write_text(text.as_str(), sink)
+}
+
+fn count_of(tasks: &[Statements]) -> u64
+    requires few { length tasks.now ≤ 8 }
+    requires short { AllByRecursion HasFew tasks.now }
+    ensures { result ≡ lists.sum (map (λ list. length list) tasks.now) }
+{
+    let mut count = 0;
+    for list in tasks {
+        count += list.as_slice().len() as u64;
+    }
+    count
+}

@@ -1,0 +1,28 @@
+ghost use Rattle.std.specs.Prelude.{◌≡◌, false, IfOk, length};
+ghost use Rattle.lapi_base.specs.Built.{IsBuilt};
+ghost use Rattle.lapi_base.specs.Operations.{upto};
+ghost use Rattle.lapi_base.specs.Seen.{no_rules};
+ghost use Rattle.lapi_base.specs.Spelling.{spells_packet};
+ghost use Rattle.lapi_base.specs.Valid.{ValidScript, ValidSchedule};
+
+use lapi_base::{Input, Memory};
+use lapi_world::World;
+use std::alloc::Global;
+
+/// The world of an input after every line of its schedule, in order.
+pub fn performed(alloc: Global, input: Input) -> Result<World, Memory>
+    requires script { ValidScript input.script }
+    requires schedule { ValidSchedule input.script spells_packet input.schedule }
+    requires built { IsBuilt input }
+    ensures { IfOk result (λ w. w ≡ record { script = input.script; rules = no_rules; schedule = input.schedule; taken = upto (length input.schedule); spent = false }) }
+{
+    let mut world = World::new(alloc, input.script, input.schedule)?;
+    let count = world.schedule().len() as u32;
+    for n in 0..count {
+        match world.line(alloc, n) {
+            Ok(_) => {}
+            Err(_) => return Err(Memory),
+        }
+    }
+    Ok(world)
+}

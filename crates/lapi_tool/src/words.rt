@@ -1,0 +1,68 @@
+ghost use Rattle.std.specs.Prelude.{◌≡◌, IfOk, map};
+ghost use Rattle.lapi_base.specs.Commands as spec;
+
+use hex::FromHexError;
+use lapi_base::{Bytes, Command, Memory, View};
+use std::alloc::Global;
+
+/// The most bytes that are shown.
+const MOST_SHOWN: usize = 640;
+
+/// What the words ask for, the arguments after the program's name; None where they are no command.
+#[tactic(auto, unfolding(lapi_base::specs::Commands::command_of))]
+pub fn command_of(alloc: Global, words: &Vec<String>) -> Result<Option<Command>, Memory>
+    ensures { IfOk result (λ command. command ≡ spec.command_of (map (λ word. word.bytes.items) words.now.items)) }
+{
+    match words.as_slice() {
+        [word] => Ok(view_of(word.as_str()).map(Command::Read)),
+        [word, argument] => show_of(alloc, word.as_str(), argument.as_str()),
+        _ => Ok(None),
+    }
+}
+
+fn show_of(alloc: Global, word: &str, digits: &str) -> Result<Option<Command>, Memory>
+    ensures { IfOk result (λ command. command ≡ spec.show_of word.now digits.now) }
+{
+    if word != "show" {
+        return Ok(None);
+    }
+    match shown_of(alloc, digits)? {
+        Some(bytes) => Ok(Some(Command::Show(bytes))),
+        None => Ok(None),
+    }
+}
+
+fn view_of(word: &str) -> Option<View>
+    ensures { result ≡ spec.view_of word.now }
+{
+    if word == "run" {
+        Some(View::Report)
+    } else if word == "journal" {
+        Some(View::Journal)
+    } else if word == "wire" {
+        Some(View::Wires)
+    } else if word == "trace" {
+        Some(View::Trace)
+    } else if word == "check" {
+        Some(View::Counts)
+    } else {
+        None
+    }
+}
+
+#[tactic(auto, unfolding(lapi_base::specs::Tokens::hex_of))]
+fn shown_of(alloc: Global, digits: &str) -> Result<Option<Bytes>, Memory>
+    ensures { IfOk result (λ bytes. bytes ≡ spec.shown_of digits.now) }
+{
+    match hex::decode(alloc, digits) {
+        Ok(bytes) => {
+            if bytes.is_empty() || bytes.len() > MOST_SHOWN {
+                Ok(None)
+            } else {
+                Ok(Some(Bytes::from(bytes)))
+            }
+        }
+        Err(FromHexError::OutOfMemory) => Err(Memory),
+        Err(_) => Ok(None),
+    }
+}
