@@ -356,6 +356,27 @@ fn every_failing_read_or_write_ends_the_run(rt: HostRuntime) -> Result<(), Fail>
     Ok(())
 }
 
+#[test]
+fn one_failing_read_or_write_leaves_no_more_than_came_before(rt: HostRuntime) -> Result<(), Fail> {
+    let alloc = rt.alloc();
+    let input = smallest(alloc)?;
+    let given = words(alloc, &["run"])?;
+    let bytes = Vec::from_slice(alloc, input.as_bytes())?;
+    let mut source = MemSource::new(bytes, 1, vec![in alloc; 3u64]?);
+    let mut sink = MemSink::new(alloc, 4096, 16, Vec::new(alloc))?;
+    let unread = run(alloc, &given, &mut source, &mut sink);
+    assert_eq!(rt; unread, Status::SourceFault);
+    assert!(rt; sink.held().is_empty());
+    let bytes = Vec::from_slice(alloc, input.as_bytes())?;
+    let mut source = MemSource::new(bytes, 16, Vec::new(alloc));
+    let mut sink = MemSink::new(alloc, 4096, 4, vec![in alloc; 1u64]?)?;
+    let unwritten = run(alloc, &given, &mut source, &mut sink);
+    assert_eq!(rt; unwritten, Status::SinkFault);
+    assert!(rt; REPORT.as_bytes().starts_with(sink.held()));
+    assert!(rt; sink.held().len() <= 4);
+    Ok(())
+}
+
 /// The lists that no run fills yet.
 #[test]
 fn lists_take_items(rt: HostRuntime) -> Result<(), Fail> {
