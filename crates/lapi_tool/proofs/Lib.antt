@@ -1,4 +1,3 @@
-pub mod Fronts
 pub mod LinesInOrder
 pub mod Refusals
 pub mod Reported

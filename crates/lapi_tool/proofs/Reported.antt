@@ -58,7 +58,7 @@ module _
     of_input : (bytes : List ℕ) → WasRead left rest bytes → (reading : Result Input Fault) → read bytes ≡ reading → (result : Status) → Gives (input_answer Report reading) held now result → result ≡ status.Ok → IsReported left rest held now
     of_input bytes taken (Ok x) e result (inl told) ok =
         let reads = found bytes x e in
-        record { bytes = bytes; x = x; read = (taken.0, taken.1 (kept bytes x e)); reads = reads; written = told.1; atomic = atomic x bytes reads }
+        record { bytes = bytes; x = x; read = (taken.0, taken.2 (kept bytes x e)); reads = reads; written = told.1; atomic = atomic x bytes reads }
     of_input bytes taken (Err (why.Syntax, line)) e result (inl told) ok = absurd (subst IsOther (sym told.0 ∙ ok) tt)
     of_input bytes taken (Err (why.Limit w, line)) e result (inl told) ok = absurd (subst IsOther (sym told.0 ∙ ok) tt)
     of_input bytes taken reading e result (inr cut) ok = absurd (subst IsCutShort ok cut.0)

@@ -1,5 +1,5 @@
 -- What a command did to its source and its sink. This is the project's own.
-use Rattle.std.specs.Prelude.{◌≡◌, ℕ, ◌≤◌, ◌⊎◌, List, [], length, reverse, Option, Some, None}
+use Rattle.std.specs.Prelude.{◌≡◌, ℕ, ◌+◌, ◌≤◌, ◌⊎◌, List, [], length, reverse, Option, Some, None}
 use Rattle.std.specs.Io.KnownBytes.{Appends, Consumes, IsAtEnd}
 use Rattle.lapi_base.specs.declared.command.Command.{Command}
 use Rattle.lapi_base.specs.declared.command.Command.TheVariants.{Read, Show}
@@ -19,7 +19,7 @@ use Rattle.lapi_report.specs.Written.{AppendsFront}
 
 -- all that was left was read; or, of a source with more bytes than an input may have, one byte more than those
 abbrev pub WasRead : (left rest : Option (List ℕ)) → List ℕ → Type 0
-WasRead left rest bytes = Consumes left rest bytes × (length bytes ≤ most_input → IsAtEnd rest)
+WasRead left rest bytes = Consumes left rest bytes × (length bytes ≤ most_input + 1) × (length bytes ≤ most_input → IsAtEnd rest)
 
 -- the sink refused, or memory ran out
 abbrev pub IsCutShort : Status → Type 0
