@@ -10,6 +10,15 @@ use crate::fault::{LineFault, limit};
 use lapi_base::{Act, Addr, Script, Statement, Vector, Which};
 use lapi_packet::decode;
 
+/// The most bytes of a store.
+const MOST_STORED: usize = 1024;
+
+/// The most bytes of a user header, as it is written.
+const MOST_USER_HEADER: usize = 128;
+
+/// The most bytes that a line injects.
+const MOST_INJECTED: usize = 640;
+
 pub(crate) fn checked_sizes(script: Script) -> Result<Script, LineFault>
     ensures { Gives (λ script. script) result (checked_sizes script) }
 {
@@ -92,8 +101,8 @@ pub(crate) fn keeps_bytes(statement: &Statement) -> bool
     ensures { result ≡ keeps_bytes statement.now }
 {
     match statement {
-        Statement::Store { bytes, .. } => bytes.as_slice().len() <= 1024,
-        Statement::Am { header, .. } => header.as_slice().len() <= 128,
+        Statement::Store { bytes, .. } => bytes.as_slice().len() <= MOST_STORED,
+        Statement::Am { header, .. } => header.as_slice().len() <= MOST_USER_HEADER,
         _ => true,
     }
 }
@@ -103,7 +112,7 @@ pub(crate) fn keeps_injected(script: &Script, act: &Act) -> bool
     ensures { result ≡ keeps_injected script.now act.now }
 {
     match act {
-        Act::Inject { bytes, .. } => bytes.as_slice().len() <= 640,
+        Act::Inject { bytes, .. } => bytes.as_slice().len() <= MOST_INJECTED,
         _ => true,
     }
 }

@@ -28,6 +28,15 @@ use lapi_base::{Input, Line, Schedule, Script, Statement, Statements, Which};
 use std::alloc::Global;
 use std::mem;
 
+/// The most statements of a task that are performed so far.
+const MOST_BUILT_STATEMENTS: usize = 32;
+
+/// The most statements of a task.
+const MOST_STATEMENTS: usize = 512;
+
+/// The most lines of a schedule.
+const MOST_LINES: usize = 20_000;
+
 /// What was read so far, by which line is awaited.
 #[derive(Debug, Drop)]
 pub(crate) enum State {
@@ -61,10 +70,10 @@ fn on_statement(
     ensures { Gives state_of result (on_statement script current statement) }
 {
     let count = current.as_slice().len();
-    if !is_built_statement(&statement) || count >= 32 {
+    if !is_built_statement(&statement) || count >= MOST_BUILT_STATEMENTS {
         return Err(limit(Which::Unbuilt));
     }
-    if count >= 512 {
+    if count >= MOST_STATEMENTS {
         return Err(limit(Which::Statements));
     }
     if !keeps_pieces(&statement) {
@@ -122,7 +131,7 @@ fn on_line(script: Script, mut schedule: Schedule, line: Line) -> Result<State, 
     if !is_built_act(&line.act) {
         return Err(limit(Which::Unbuilt));
     }
-    if schedule.as_slice().len() >= 20_000 {
+    if schedule.as_slice().len() >= MOST_LINES {
         return Err(limit(Which::Lines));
     }
     if line.lane > 15 {
