@@ -1,41 +1,38 @@
 -- Which forms the program performs so far; a line of any other form is refused as it is read. Whether a statement
 -- is refused as it is performed is no matter of this.
-use Rattle.std.specs.Prelude.{ℕ, ◌≤◌, nat_le, not, Bool, true, false, ◌&&◌, IsTrue, List, length, Option, is_some}
+use Rattle.std.specs.Prelude.{ℕ, Bool, true, false, IsTrue, List}
 use Rattle.std.specs.List.{AllByRecursion}
 use Rattle.lapi_base.specs.declared.address.Addr.{Addr}
 use Rattle.lapi_base.specs.declared.address.Addr.TheVariants.{Plain, Table}
 use Rattle.lapi_base.specs.declared.statement.Statement.{Statement}
-use Rattle.lapi_base.specs.declared.statement.Statement.TheVariants.{Store, Put}
+use Rattle.lapi_base.specs.declared.statement.Statement.TheVariants.{Store, Put, Wait, Set, Read}
 use Rattle.lapi_base.specs.declared.schedule.Act.{Act}
-use Rattle.lapi_base.specs.declared.schedule.Act.TheVariants.{Step, Poll, Deliver}
+use Rattle.lapi_base.specs.declared.schedule.Act.TheVariants.{Step, Poll, Tick, Deliver}
 use Rattle.lapi_base.specs.declared.schedule.Line.{Line}
 use Rattle.lapi_base.specs.declared.input.Input.{Input}
-
--- the most statements of a task that is performed
-abbrev pub most_built_statements : ℕ
-most_built_statements = 32
 
 abbrev pub is_plain : Addr → Bool
 is_plain (Plain x) = true
 is_plain (Table round offset) = false
 
-abbrev pub is_none : Option ℕ → Bool
-is_none counter = not (is_some counter)
-
--- a store, and a put of one fragment to a plain address without counters
+-- a store, a put to a plain address, and what waits for a counter, sets or reads it
 unfoldable pub is_built_statement : Statement → Bool
 is_built_statement (Store at bytes) = true
-is_built_statement (Put target to from len tgt org cmpl) = is_plain to && nat_le len 256 && is_none tgt && is_none org && is_none cmpl
+is_built_statement (Put target to from len tgt org cmpl) = is_plain to
+is_built_statement (Wait counter value) = true
+is_built_statement (Set counter value) = true
+is_built_statement (Read counter) = true
 is_built_statement _ = false
 
 unfoldable pub is_built_act : Act → Bool
 is_built_act (Step t) = true
 is_built_act (Poll t) = true
+is_built_act (Tick t) = true
 is_built_act (Deliver a b k) = true
 is_built_act _ = false
 
 abbrev pub IsBuiltList : List Statement → Type 0
-IsBuiltList list = (length list ≤ most_built_statements) × AllByRecursion (λ s. IsTrue (is_built_statement s)) list
+IsBuiltList list = AllByRecursion (λ s. IsTrue (is_built_statement s)) list
 
 -- every form of the input is built
 pub record IsBuilt (x : Input) : Type 0 where

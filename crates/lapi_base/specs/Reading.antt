@@ -18,7 +18,7 @@ use Rattle.lapi_base.specs.Spelling.{spells_packet}
 use Rattle.lapi_base.specs.Lines.{lines_of, words_of, is_clean, is_skipped}
 use Rattle.lapi_base.specs.Tokens.{same_text}
 use Rattle.lapi_base.specs.Forms.{run, and_then, head_form, sizes_form, task_line_form, line_form, TaskLine, Task, Schedule, Does}
-use Rattle.lapi_base.specs.Built.{most_built_statements, is_built_statement, is_built_act}
+use Rattle.lapi_base.specs.Built.{is_built_statement, is_built_act}
 
 -- What was read so far, by which line is awaited. A script's lists are those of the tasks before the current one.
 --
@@ -85,7 +85,7 @@ on_first_task script (Does s) = Err Syntax
 
 abbrev pub on_statement : Script → List Statement → Statement → Result State Why
 on_statement script current s =
-    within (is_built_statement s && nat_lt (length current) most_built_statements) which.Unbuilt
+    within (is_built_statement s) which.Unbuilt
     (within (nat_lt (length current) 512) which.Statements
     (within (keeps_pieces s) which.Pieces
     (within (keeps_bytes s) which.Bytes (Ok (Tasks script (current ++ s ∷ []))))))

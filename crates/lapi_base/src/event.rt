@@ -86,4 +86,11 @@ impl Events {
     {
         self.items.as_slice()
     }
+
+    /// The events as a vector, of which each can be moved out.
+    pub fn into_vec(self) -> Vec<Event>
+        ensures { result.items ≡ self }
+    {
+        self.items
+    }
 }

@@ -51,4 +51,11 @@ impl Entries {
     {
         self.items.as_slice()
     }
+
+    /// The entries as a vector, of which each can be moved out.
+    pub fn into_vec(self) -> Vec<WireEntry>
+        ensures { result.items ≡ self }
+    {
+        self.items
+    }
 }
