@@ -1,0 +1,85 @@
+-- What the receiving end of a link stands for: the packets that were handed over on it, the latest first.
+use Rattle.std.specs.Prelude.{◌≡◌, ℕ, suc, ◌+◌, ◌-◌, ◌*◌, ◌^◌, ◌<◌, ◌≤◌, min, Bool, true, false, cond, ◌&&◌, not, List, [], ◌∷◌, length, map, slice_get, Option, Some, None}
+use Rattle.std.specs.List.{AllByRecursion, IsDistinct}
+use Rattle.lapi_base.specs.declared.script.Script.{Script}
+use Rattle.lapi_base.specs.declared.message.MsgName.{MsgName}
+use Rattle.lapi_base.specs.declared.head.Head.{Head}
+use Rattle.lapi_base.specs.declared.packet.Packet.{Packet}
+use Rattle.lapi_base.specs.declared.packet.Packet.TheVariants.{Data, Ack}
+use Rattle.lapi_base.specs.declared.packet.DataPacket.{DataPacket}
+use Rattle.lapi_base.specs.Layout.{unit_of, window_of}
+use Rattle.lapi_base.specs.Names.{name_eq}
+use Rattle.lapi_base.specs.Operations.{upto}
+use Rattle.lapi_base.specs.Fragments.{fragments_in}
+use Rattle.lapi_base.specs.Record.{has_number}
+use Rattle.lapi_base.specs.Arrived.{has_fragment, has_some, whole_by, payload_of, assembled, least_number, count_of, is_part_of, IsKnown}
+use Rattle.lapi_window.specs.RecvWindow.{Receiving, is_taken}
+use Rattle.lapi_reassembly.specs.Partial.{Gathered}
+use Rattle.lapi_reassembly.specs.Partials.{Gathering, partial}
+use Rattle.lapi_reassembly.specs.declared.message.Message.{Message}
+use Rattle.lapi_link.specs.declared.arrival.Arrival.{Arrival}
+use Rattle.lapi_link.specs.declared.arrival.Arrival.TheVariants.{Repeat, Part, Whole}
+
+-- the numbers taken, and the messages of which some fragments have come and some are missing
+pub record ReceivingEnd : Type 0 where
+  pub window : Receiving
+  pub partials : Gathering
+
+-- a packet of message m among these
+unfoldable pub packet_of : List Packet → MsgName → Option DataPacket
+packet_of [] m = None
+packet_of (Data p ∷ ps) m = cond (name_eq m p.name) (Some p) (packet_of ps m)
+packet_of (Ack from to base bits ∷ ps) m = packet_of ps m
+
+module _ (script : Script) where
+  -- all fragments of a message with so many bytes are among these packets
+  abbrev pub is_complete : List Packet → MsgName → (length : ℕ) → Bool
+  is_complete ps m len = whole_by (count_of script len) ps m
+
+  -- the payload of fragment j of m, where it has come
+  abbrev pub fragment_at : List Packet → MsgName → ℕ → Option (List ℕ)
+  fragment_at ps m j = cond (has_fragment ps m j) (Some (payload_of ps m j)) None
+
+  -- what has come of a message of which this is a packet
+  abbrev pub gathered_by : List Packet → MsgName → DataPacket → Gathered
+  gathered_by ps m p = record { name = m; head = p.head; unit = unit_of script; length = p.length; fragments = map (fragment_at ps m) (upto (fragments_in (unit_of script) p.length)); out = None }
+
+  -- what has come of m and is kept: nothing where no packet of it came, and nothing once it is complete
+  abbrev pub partial_by : List Packet → MsgName → Option DataPacket → Option Gathered
+  partial_by ps m None = None
+  partial_by ps m (Some p) = cond (is_complete ps m p.length) None (Some (gathered_by ps m p))
+
+  unfoldable pub partial_of : List Packet → MsgName → Option Gathered
+  partial_of ps m = partial_by ps m (packet_of ps m)
+
+  -- The end is that of a link on which these packets were handed over.
+  pub record ReceivesFor (s : ReceivingEnd) (ps : List Packet) : Type 0 where
+    pub window : s.window.window ≡ window_of script
+    pub sizes : (s.partials.names ≡ window_of script) × (s.partials.unit ≡ unit_of script)
+    pub taken : (n : ℕ) → is_taken s.window n ≡ has_number ps n
+    pub partials : (m : MsgName) → partial s.partials m ≡ partial_of ps m
+
+  -- some packet of the message is there, and not all
+  abbrev pub IsPartOnly : List Packet → MsgName → Type 0
+  IsPartOnly ps m = (p : DataPacket) × (packet_of ps m ≡ Some p) × (is_complete ps m p.length ≡ false)
+
+  -- A packet may come to these: its fragment is one of its message, and its head and length are those of the message's packets that came before;
+  pub record Fits (ps : List Packet) (p : DataPacket) : Type 0 where
+    pub number : p.seq < 2 ^ 22
+    pub reach : p.seq < least_number ps + window_of script
+    pub size : p.length ≤ 64 * unit_of script
+    pub fragment : p.fragment < count_of script p.length
+    pub payload : length p.payload ≡ min (unit_of script) (p.length - unit_of script * p.fragment)
+    pub heads : (k : ℕ) (q : DataPacket) → slice_get ps k ≡ Some (Data q) → q.name ≡ p.name → (q.head ≡ p.head) × (q.length ≡ p.length)
+    -- with a known number it is one of them; with a new one its message is open, its fragment hasn't come, and where it is the first of its message, there is room for one more.
+    pub known : IsKnown p ps
+    pub open_message : has_number ps p.seq ≡ false → is_complete ps p.name p.length ≡ false
+    pub missing : has_number ps p.seq ≡ false → has_fragment ps p.name p.fragment ≡ false
+    pub room : has_number ps p.seq ≡ false → has_some ps p.name ≡ false → (ms : List MsgName) → IsDistinct name_eq ms → AllByRecursion (IsPartOnly ps) ms → length ms < window_of script
+
+  -- what comes of the packet
+  abbrev pub message_of : List Packet → DataPacket → Message
+  message_of ps p = record { name = p.name; head = p.head; bytes = assembled (count_of script p.length) (Data p ∷ ps) p.name; out = None }
+
+  unfoldable pub arrival_of : List Packet → DataPacket → Arrival
+  arrival_of ps p = cond (has_number ps p.seq) Repeat (cond (is_complete (Data p ∷ ps) p.name p.length) (Whole (message_of ps p)) Part)

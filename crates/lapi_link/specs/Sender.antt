@@ -1,0 +1,53 @@
+-- What the sending end of a link stands for: its window, and the packets of the numbers that were not sent yet.
+use Rattle.std.specs.Prelude.{◌≡◌, ℕ, ◌+◌, ◌-◌, ◌<◌, ◌≤◌, min, false, ◌||◌, List, [], ◌∷◌, ◌++◌, length, map, take, drop}
+use Rattle.std.specs.List.{AllByRecursion, filter_map}
+use Rattle.lapi_base.specs.declared.wire.WireEntry.{WireEntry}
+use Rattle.lapi_window.specs.NumberSet.{is_covered}
+use Rattle.lapi_window.specs.SendWindow.{Sending, sent_count, is_acked, base_of, bytes_of, unacked}
+
+-- the window, and the packets that wait to be sent, in the order of their numbers
+pub record SendingEnd : Type 0 where
+  pub window : Sending
+  pub waiting : List (List ℕ)
+
+-- every number that was not sent has its packet, and each packet fits a frame
+pub record IsSendingEnd (s : SendingEnd) : Type 0 where
+  pub whole : sent_count s.window + length s.waiting ≡ s.window.numbers
+  pub short : AllByRecursion (λ (bytes : List ℕ). length bytes ≤ 640) s.waiting
+
+-- nothing was sent, and nothing waits
+pub record IsFresh (s : SendingEnd) : Type 0 where
+  pub size : s.window.window ≡ 32
+  pub numbers : s.window.numbers ≡ 0
+  pub sent : sent_count s.window ≡ 0
+  pub acked : (n : ℕ) → is_acked s.window n ≡ false
+  pub waiting : s.waiting ≡ []
+
+-- the end with one packet more that waits
+abbrev pub appended : SendingEnd → List ℕ → SendingEnd
+appended s packet = record s { window = record s.window { numbers = s.window.numbers + 1 }; waiting = s.waiting ++ packet ∷ [] }
+
+-- how many of the packets that wait may be sent now
+abbrev pub sendable : SendingEnd → ℕ
+sendable s = min (length s.waiting) (base_of s.window + s.window.window - sent_count s.window)
+
+-- the end with the first k packets that waited sent
+abbrev pub sent : SendingEnd → ℕ → SendingEnd
+sent s k = record s { window = record s.window { packets = s.window.packets ++ take k s.waiting }; waiting = drop k s.waiting }
+
+-- the packets that were sent and are not acknowledged, by rising number
+abbrev pub kept : SendingEnd → List (List ℕ)
+kept s = filter_map (bytes_of s.window) (unacked s.window)
+
+-- packets as entries of the wire to a task
+abbrev pub entries_to : (to : ℕ) → List (List ℕ) → List WireEntry
+entries_to to packets = map (λ (bytes : List ℕ). record { to = to; bytes = bytes }) packets
+
+-- an acknowledgement came: what it covers is acknowledged too, and all else is as before
+pub record IsAcked (old new : SendingEnd) (base bits : ℕ) : Type 0 where
+  pub acked : (n : ℕ) → is_acked new.window n ≡ (is_acked old.window n || is_covered base bits n)
+  pub bytes : (n : ℕ) → is_acked new.window n ≡ false → bytes_of new.window n ≡ bytes_of old.window n
+  pub sent : sent_count new.window ≡ sent_count old.window
+  pub numbers : new.window.numbers ≡ old.window.numbers
+  pub size : new.window.window ≡ old.window.window
+  pub waiting : new.waiting ≡ old.waiting

@@ -1,0 +1,10 @@
+//! The two ends of a link: what is kept of the messages that leave a task for another, and of those that come.
+#![tactic(auto)]
+
+mod arrival;
+mod receiver;
+mod sender;
+
+pub use arrival::Arrival;
+pub use receiver::Receiver;
+pub use sender::Sender;
