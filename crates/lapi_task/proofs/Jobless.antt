@@ -1,0 +1,58 @@
+-- Without handlers no message has a completion, so no job waits or runs.
+use Rattle.std.proofs.Common.{◌≡◌, ℕ, zero, suc, ◌==◌, Bool, true, false, cond, not, ◌&&◌, List, [], ◌∷◌, ◌++◌, length, filter, Option, Some, None, refl, sym, ap, ◌∙◌}
+use Rattle.std.specs.Prelude.{is_some, nat_lt}
+use Rattle.std.proofs.lemmas.Bool.{cond-false, and_right, le-ltb}
+use Rattle.std.proofs.Common.{arith}
+use Rattle.lapi_base.specs.declared.script.Script.{Script}
+use Rattle.lapi_base.specs.declared.event.Event.{Event}
+use Rattle.lapi_base.specs.declared.event.Event.TheVariants.{Issue, Refuse, Enter, Pass, Copy, Head, Land, Begin, End}
+use Rattle.lapi_base.specs.declared.message.Leg.TheVariants.{Go}
+use Rattle.lapi_base.specs.declared.message.MsgName.{MsgName}
+use Rattle.lapi_base.specs.Below.{below}
+use Rattle.lapi_base.specs.Handlers.{has_completion, completion, kept_choice, header_out}
+use Rattle.lapi_base.specs.Jobs.{is_job, landed_jobs, queue, runs, busy}
+use Rattle.lapi_base.specs.Names.{leg_eq, Begun, done}
+use Rattle.lapi_base.specs.Operations.{statement, is_am, receiver}
+use Rattle.lapi_base.specs.Seen.{no_rules}
+
+no-choice : (o : Option ℕ) → is_some (kept_choice 0 o) ≡ false
+no-choice None = refl
+no-choice (Some n) = ap (λ b. is_some (cond b (Some n) None)) (le-ltb n 0 (omega arith))
+
+module _ (script : Script) where
+  pub no-completion : (a i : ℕ) → has_completion script no_rules a i ≡ false
+  unfolding has_completion completion
+  no-completion a i = and_right (is_am (statement script a i)) (is_some (kept_choice 0 (header_out script no_rules (record { origin = a; statement = i; leg = Go })).completion)) (no-choice (header_out script no_rules (record { origin = a; statement = i; leg = Go })).completion)
+
+  no-job : (t : ℕ) (m : MsgName) → is_job script no_rules t m ≡ false
+  unfolding is_job
+  no-job t m = and_right (leg_eq m.leg Go) (has_completion script no_rules m.origin m.statement && receiver script m == t) (ap (λ b. b && receiver script m == t) (no-completion m.origin m.statement))
+
+  pub no-jobs : (J : List Event) (t : ℕ) → landed_jobs script no_rules J t ≡ []
+  unfolding landed_jobs
+  no-jobs [] t = refl
+  no-jobs (Land m ∷ J) t = cond-false (is_job script no_rules t m) _ _ (no-job t m) ∙ no-jobs J t
+  no-jobs (Issue a i ∷ J) t = no-jobs J t
+  no-jobs (Refuse a i why ∷ J) t = no-jobs J t
+  no-jobs (Copy m ∷ J) t = no-jobs J t
+  no-jobs (Enter a i ∷ J) t = no-jobs J t
+  no-jobs (Pass a i ∷ J) t = no-jobs J t
+  no-jobs (Head m ∷ J) t = no-jobs J t
+  no-jobs (Begin m a w ∷ J) t = no-jobs J t
+  no-jobs (End m a w ∷ J) t = no-jobs J t
+
+  pub no-queue : (J : List Event) (t : ℕ) → queue script no_rules J t ≡ []
+  unfolding queue
+  no-queue J t = ap (filter (λ m. not (done (Begun m) J))) (no-jobs J t)
+
+  pub nothing-queued : (J : List Event) (t : ℕ) → length (queue script no_rules J t) ≡ 0
+  nothing-queued J t = ap length (no-queue J t)
+
+  none-below : (n : ℕ) (p : ℕ → Bool) → ((k : ℕ) → p k ≡ false) → below n p ≡ []
+  unfolding below
+  none-below zero p h = refl
+  none-below (suc n) p h = cond-false (p n) _ _ (h n) ∙ none-below n p h
+
+  pub nothing-runs : (J : List Event) (t : ℕ) → ((w : ℕ) → runs J t w ≡ None) → length (busy script J t) ≡ 0
+  unfolding busy
+  nothing-runs J t h = ap length (none-below script.workers (λ w. is_some (runs J t w)) (λ w. ap is_some (h w)))

@@ -1,0 +1,6 @@
+use Rattle.std.proofs.Common.{sym}
+use Rattle.lapi_task.proofs.Jobless.{nothing-runs}
+use Rattle.lapi_task.proofs.task.Task.running.Goals as goal
+
+pub returns : goal.returns
+returns c = λ script t r h. sym (nothing-runs script r.journal t h.holds.jobless)

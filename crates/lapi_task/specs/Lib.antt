@@ -1,0 +1,4 @@
+pub mod Does
+pub mod Performed
+pub mod Sends
+pub mod StandsFor

@@ -1,0 +1,36 @@
+-- How the sending end of a link stands for its record.
+use Rattle.std.specs.Prelude.{◌≡◌, ℕ, ◌+◌, ◌<◌, nat_lt, false, List, length, slice_get, Option, None, Some, option_map}
+use Rattle.lapi_base.specs.declared.script.Script.{Script}
+use Rattle.lapi_base.specs.declared.message.MsgName.{MsgName}
+use Rattle.lapi_base.specs.declared.event.Event.{Event}
+use Rattle.lapi_base.specs.Layout.{window_of}
+use Rattle.lapi_base.specs.Packets.{data_packet}
+use Rattle.lapi_base.specs.Written as written
+use Rattle.lapi_base.specs.Record.{Run, out, is_sent, is_acked}
+use Rattle.lapi_base.specs.Seen.{no_rules}
+use Rattle.lapi_base.specs.Entries.{carried}
+use Rattle.lapi_window.specs.SendWindow.{Sending, sent_count, bytes_of}
+use Rattle.lapi_window.specs.SendWindow as window
+use Rattle.lapi_link.specs.Sender.{SendingEnd}
+
+-- the bytes of the packet with number n, which is of this message and fragment
+abbrev pub spelled : Script → List Event → (n : ℕ) → MsgName × ℕ → List ℕ
+spelled script J n pair = written.packet (data_packet script pair.0 n pair.1 (carried script no_rules J pair.0))
+
+-- the bytes of number n of the link from a to b
+unfoldable pub packet_at : Script → List Event → (from to n : ℕ) → Option (List ℕ)
+packet_at script J a b n = option_map (spelled script J n) (slice_get (out script J a b) n)
+
+-- The window has the numbers of the link from a to b, those sent and those acknowledged;
+pub record HasNumbers (script : Script) (w : Sending) (r : Run) (a b : ℕ) : Type 0 where
+  pub size : w.window ≡ window_of script
+  pub numbers : w.numbers ≡ length (out script r.journal a b)
+  pub sent : (n : ℕ) → is_sent r a b n ≡ nat_lt n (sent_count w)
+  pub acked : (n : ℕ) → is_acked r a b n ≡ window.is_acked w n
+
+-- the packets that may have to be sent again are kept, and those that were not sent wait.
+pub record SendsFor (script : Script) (s : SendingEnd) (r : Run) (a b : ℕ) : Type 0 where
+  pub numbers : HasNumbers script s.window r a b
+  pub whole : sent_count s.window + length s.waiting ≡ s.window.numbers
+  pub kept : (n : ℕ) → n < sent_count s.window → window.is_acked s.window n ≡ false → bytes_of s.window n ≡ packet_at script r.journal a b n
+  pub waiting : (i : ℕ) → slice_get s.waiting i ≡ packet_at script r.journal a b (sent_count s.window + i)

@@ -1,0 +1,10 @@
+//! One task as the endpoint of its links: its statements, its memory, its counters, and what it sends and receives.
+#![tactic(auto)]
+
+mod outcome;
+mod received;
+mod task;
+
+pub use outcome::Outcome;
+pub use received::Received;
+pub use task::Task;

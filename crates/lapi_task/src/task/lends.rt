@@ -1,0 +1,115 @@
+//! What a task tells of itself, and the parts that it lends.
+ghost use Rattle.std.specs.Prelude.{◌≡◌, ℕ, ◌<◌, ◌&&◌, length, slice_index};
+ghost use Rattle.lapi_base.specs.declared.script.Script.{Script};
+ghost use Rattle.lapi_base.specs.declared.message.MsgName.{MsgName};
+ghost use Rattle.lapi_base.specs.Below.{every_below};
+ghost use Rattle.lapi_base.specs.Counters.{count, reads};
+ghost use Rattle.lapi_base.specs.Final.{is_idle, is_settled};
+ghost use Rattle.lapi_base.specs.Jobs.{queue, busy};
+ghost use Rattle.lapi_base.specs.Record.{Run, is_delivered};
+ghost use Rattle.lapi_base.specs.Refusals.{next, refusals};
+ghost use Rattle.lapi_base.specs.Seen.{no_rules};
+ghost use Rattle.lapi_base.specs.Values.{memory_bytes};
+ghost use Rattle.lapi_window.specs.RecvWindow.{is_taken};
+ghost use Rattle.lapi_reassembly.specs.Partials.{partial};
+ghost use Rattle.lapi_link.specs.Receiver.{partial_of};
+ghost use Rattle.lapi_task.specs.Performed.{IsPerformed};
+ghost use Rattle.lapi_task.specs.Sends.{HasNumbers};
+ghost use Rattle.lapi_task.specs.StandsFor.{StandsFor};
+ghost use Rattle.lapi_task.specs.Does.{IsAt};
+
+use crate::task::Task;
+use lapi_base::Refusal;
+use lapi_counters::Counters;
+use lapi_memory::TaskMemory;
+use lapi_reassembly::Partials;
+use lapi_window::{RecvWindow, SendWindow};
+
+impl Task {
+    /// How many statements were issued, refused or passed: the number of the next one.
+    pub fn next(&self) -> u32
+        ensures { (script : Script) (t : ℕ) (r : Run) → StandsFor script t self.now r → result ≡ next r.journal t }
+    {
+        self.next
+    }
+
+    pub fn memory(&self) -> &TaskMemory
+        ensures { (script : Script) (t : ℕ) (r : Run) → StandsFor script t self.now r → result.now ≡ memory_bytes script no_rules r.journal t }
+    {
+        &self.memory
+    }
+
+    /// The value of counter `c`.
+    pub fn counter(&self, c: u32) -> u64
+        requires { (script : Script) × (t : ℕ) × (r : Run) × StandsFor script t self.now r × (c < script.counters) }
+        ensures { (script : Script) (t : ℕ) (r : Run) → StandsFor script t self.now r → c < script.counters → result ≡ count script no_rules r.journal t c }
+    {
+        self.counters.get(c)
+    }
+
+    /// The counters that were read, each with the number of the statement, in order.
+    pub fn reads(&self) -> &[(u32, u64)]
+        ensures { (script : Script) (t : ℕ) (r : Run) → StandsFor script t self.now r → result.now ≡ reads script no_rules r.journal t }
+    {
+        self.reads.as_slice()
+    }
+
+    /// The statements that were refused, each with the reason, in order.
+    pub fn refusals(&self) -> &[(u32, Refusal)]
+        ensures { (script : Script) (t : ℕ) (r : Run) → StandsFor script t self.now r → result.now ≡ refusals r.journal t }
+    {
+        self.refusals.as_slice()
+    }
+
+    /// How many jobs wait for a worker. No form that is performed makes one.
+    pub fn queued(&self) -> u32
+        ensures { (script : Script) (t : ℕ) (r : Run) → StandsFor script t self.now r → result ≡ length (queue script no_rules r.journal t) }
+    {
+        0
+    }
+
+    /// How many workers run a job.
+    pub fn running(&self) -> u32
+        ensures { (script : Script) (t : ℕ) (r : Run) → StandsFor script t self.now r → result ≡ length (busy script r.journal t) }
+    {
+        0
+    }
+
+    /// Whether all that was sent is acknowledged, no job waits or runs, and a poll would add nothing.
+    pub fn still(&self) -> bool
+        requires { ⊥ }
+        ensures { (script : Script) (t : ℕ) (r : Run) → IsPerformed script → IsAt script t self.now r → result ≡ (is_idle script no_rules r t && every_below script.tasks (is_settled script no_rules r t)) }
+    {
+        unreachable!()
+    }
+
+    /// The numbers of the link to task `b`.
+    pub fn sending(&self, b: u32) -> &SendWindow
+        requires { (script : Script) × (t : ℕ) × (r : Run) × StandsFor script t self.now r × (b < script.tasks) }
+        ensures { (script : Script) (t : ℕ) (r : Run) → StandsFor script t self.now r → b < script.tasks → HasNumbers script result.now r t b }
+    {
+        self.senders[b as usize].window()
+    }
+
+    /// The numbers taken from task `a`.
+    pub fn receiving(&self, a: u32) -> &RecvWindow
+        requires { (script : Script) × (t : ℕ) × (r : Run) × StandsFor script t self.now r × (a < script.tasks) }
+        ensures { (script : Script) (t : ℕ) (r : Run) → StandsFor script t self.now r → a < script.tasks → (n : ℕ) → is_taken result.now n ≡ is_delivered r a t n }
+    {
+        self.receivers[a as usize].window()
+    }
+
+    /// The messages from task `a` of which some fragments have come and some are missing.
+    pub fn partials(&self, a: u32) -> &Partials
+        requires { (script : Script) × (t : ℕ) × (r : Run) × StandsFor script t self.now r × (a < script.tasks) }
+        ensures { (script : Script) (t : ℕ) (r : Run) → StandsFor script t self.now r → a < script.tasks → (m : MsgName) → partial result.now m ≡ partial_of script (r.handed a t) m }
+    {
+        self.receivers[a as usize].partials()
+    }
+
+    pub fn counters(&self) -> &Counters
+        ensures { (script : Script) (t : ℕ) (r : Run) → StandsFor script t self.now r → (c : ℕ) → c < script.counters → slice_index result.now c ≡ count script no_rules r.journal t c }
+    {
+        &self.counters
+    }
+}
