@@ -1,9 +1,9 @@
-ghost use Rattle.std.specs.Prelude.{◌≡◌, ℕ, ◌+◌, ◌<◌, ◌≤◌, ◌==◌, ◌&&◌, true, [], ◌++◌, length, take, IfOk, OnOk};
+ghost use Rattle.std.specs.Prelude.{◌≡◌, ℕ, ◌+◌, ◌<◌, ◌≤◌, ◌==◌, ◌&&◌, true, [], ◌∷◌, ◌++◌, length, take, IfOk, OnOk};
 ghost use Rattle.lapi_window.specs.NumberSet.{is_covered};
-ghost use Rattle.lapi_window.specs.SendWindow.{sent_count, unacked};
+ghost use Rattle.lapi_window.specs.SendWindow.{MaySend, sent_count, unacked};
 ghost use Rattle.lapi_link.specs.Sender.{IsFresh, appended, sendable, sent, kept, entries_to, IsAcked};
 
-use lapi_base::{Bytes, Entries, Memory};
+use lapi_base::{Bytes, Entries, Frame, Memory, WireEntry};
 use lapi_window::SendWindow;
 use std::alloc::Global;
 use std::collections::VecDeque;
@@ -44,8 +44,12 @@ impl Sender {
         requires { length packet ≤ 640 }
         ensures { OnOk result (self.new ≡ appended self.old packet) }
     {
-        let _ = packet;
-        Err(Memory)
+        if self.window.numbers() == u32::MAX {
+            return Err(Memory);
+        }
+        self.waiting.push_back(packet)?;
+        self.window.append(1);
+        Ok(())
     }
 
     /// Sends what the window allows of the packets that wait.
