@@ -1,1 +1,5 @@
+pub mod Forms
 pub mod Jobless
+pub mod Lists
+pub mod Packets
+pub mod PutPackets

@@ -1,4 +1,5 @@
 pub mod Does
 pub mod Performed
+pub mod Puts
 pub mod Sends
 pub mod StandsFor

@@ -2,6 +2,8 @@
 #![tactic(auto)]
 
 mod outcome;
+mod packet;
+mod put;
 mod received;
 mod task;
 
