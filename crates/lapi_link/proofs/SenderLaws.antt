@@ -1,31 +1,15 @@
 -- Laws of what the sending end of a link stands for.
-use Rattle.std.proofs.Common.{◌≡◌, ℕ, ◌+◌, ◌-◌, ◌<◌, ◌≤◌, min, List, [], ◌∷◌, ◌++◌, length, map, take, drop, Option, Some, slice_get, sym, ap, ◌∙◌, arith, append_assoc, length-append, length-drop}
+use Rattle.std.proofs.Common.{◌≡◌, ℕ, ◌+◌, List, [], ◌∷◌, ◌++◌, take, drop, Option, Some, slice_get, sym, ap, ◌∙◌, append_assoc}
 use Rattle.std.specs.List.{filter_map, cons_option}
 use Rattle.std.proofs.Math.Seq.{take-add}
-use Rattle.std.proofs.lemmas.List.{drop-drop, map-append, length-take, take_more}
+use Rattle.std.proofs.lemmas.List.{drop-drop, map-append, take_more}
 use Rattle.std.proofs.lemmas.List.Elements.{filter_map-append}
 use Rattle.std.proofs.lemmas.Option.{slice_get_within, get_or_from_slice_get}
 use Rattle.lapi_base.specs.declared.wire.WireEntry.{WireEntry}
-use Rattle.lapi_window.specs.SendWindow.{Sending, MaySend, sent_count, base_of, bytes_of, unacked}
-use Rattle.lapi_link.specs.Sender.{SendingEnd, IsSendingEnd, sendable, sent, kept, entries_to}
+use Rattle.lapi_window.specs.SendWindow.{Sending, bytes_of, unacked}
+use Rattle.lapi_link.specs.Sender.{SendingEnd, sent, entries_to}
 
 -- `send`
-pub room_is_sendable : (s : SendingEnd) → IsSendingEnd s → min (s.window.numbers - sent_count s.window) (base_of s.window + s.window.window - sent_count s.window) ≡ sendable s
-room_is_sendable s h =
-    let whole = h.whole in
-    let e : s.window.numbers - sent_count s.window ≡ length s.waiting = omega (arith, whole) in
-    ap (λ n. min n (base_of s.window + s.window.window - sent_count s.window)) e
-
-pub may_send_next : (s : SendingEnd) (i : ℕ) → IsSendingEnd s → i < sendable s → MaySend (sent s i).window
-may_send_next s i h lt =
-    let whole = h.whole in
-    let len = length-append s.window.packets (take i s.waiting) in
-    let taken = length-take i s.waiting in
-    record {
-      exists = omega (arith, whole, lt, len, taken);
-      within = omega (arith, whole, lt, len, taken);
-    }
-
 pub sent_one_more : (s : SendingEnd) (i : ℕ) → sent (sent s i) 1 ≡ sent s (i + 1)
 sent_one_more s i =
     let packets = append_assoc s.window.packets (take i s.waiting) (take 1 (drop i s.waiting)) ∙ ap (λ (xs : List (List ℕ)). s.window.packets ++ xs) (sym (take-add i 1 s.waiting)) in

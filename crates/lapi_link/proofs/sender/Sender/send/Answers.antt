@@ -10,8 +10,8 @@ loop-preserved c =
     record {
       sent = c.send_next-entry.ensures.sent ∙ ap (λ (s : SendingEnd). sent s 1) c.loop.invariant.sent ∙ sent_one_more c.args.self.now c.loop.counter;
       entries =
-      c.in_ok-push.ensures.ok
-      ∙ ap (λ (es : List WireEntry). es ++ c.send_next-entry.result ∷ []) c.loop.invariant.entries
-      ∙ entries_one_more c.args.entries.now c.args.to c.loop.counter c.args.self.now.waiting c.send_next-entry.result entry;
+          c.in_ok-push.ensures.ok
+          ∙ ap (λ (es : List WireEntry). es ++ c.send_next-entry.result ∷ []) c.loop.invariant.entries
+          ∙ entries_one_more c.args.entries.now c.args.to c.loop.counter c.args.self.now.waiting c.send_next-entry.result entry;
       room = c.loop.invariant.room;
     }
