@@ -1,5 +1,5 @@
-use Rattle.std.proofs.Common.{◌≡◌, ◌+◌, ◌-◌, min, length, sym, ap, ◌∙◌, subst, arith}
-use Rattle.lapi_window.specs.SendWindow.{Sending, IsSending, sent_count, base_of}
+use Rattle.std.proofs.Common.{◌≡◌, ◌+◌, ◌-◌, min, sym, ap, ◌∙◌, arith}
+use Rattle.lapi_window.specs.SendWindow.{Sending, sent_count, base_of}
 use Rattle.lapi_window.proofs.SendLaws.{sending-base}
 use Rattle.lapi_window.proofs.send_window.SendWindow.room.Goals as goal
 
