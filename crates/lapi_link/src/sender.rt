@@ -53,20 +53,40 @@ impl Sender {
     }
 
     /// Sends what the window allows of the packets that wait.
-    pub fn send(&mut self, to: u32, _entries: &mut Entries) -> Result<(), Memory>
+    pub fn send(&mut self, to: u32, entries: &mut Entries) -> Result<(), Memory>
         ensures sent { OnOk result (self.new ≡ sent self.old (sendable self.old)) }
-        ensures entries { OnOk result (_entries.new ≡ _entries.old ++ entries_to to (take (sendable self.old) self.old.waiting)) }
+        ensures entries { OnOk result (entries.new ≡ entries.old ++ entries_to to (take (sendable self.old) self.old.waiting)) }
     {
-        let _ = to;
-        Err(Memory)
+        for _ in 0..self.window.room() {
+            let entry = self.send_next(to);
+            entries.push(entry)?;
+        }
+        Ok(())
+    }
+
+    // Sends the packet that has waited longest.
+    fn send_next(&mut self, to: u32) -> WireEntry
+        requires { MaySend self.old.window }
+        ensures sent { self.new ≡ sent self.old 1 }
+        ensures entry { entries_to to (take 1 self.old.waiting) ≡ result ∷ [] }
+    {
+        let bytes = self.waiting.pop_front().unwrap();
+        let mut frame = Frame::new();
+        frame.extend_from_slice(bytes.as_slice());
+        self.window.sent(&frame);
+        WireEntry { to, bytes }
     }
 
     /// Sends again what was sent and is not acknowledged.
-    pub fn resend(&self, _alloc: Global, to: u32, _entries: &mut Entries) -> Result<(), Memory>
-        ensures { OnOk result (_entries.new ≡ _entries.old ++ entries_to to (kept self.now)) }
+    pub fn resend(&self, alloc: Global, to: u32, entries: &mut Entries) -> Result<(), Memory>
+        ensures { OnOk result (entries.new ≡ entries.old ++ entries_to to (kept self.now)) }
     {
-        let _ = to;
-        Err(Memory)
+        for i in 0..self.window.unacked_len() {
+            let (_, frame) = self.window.unacked(i);
+            let bytes = Bytes::from_slice(alloc, frame.as_slice())?;
+            entries.push(WireEntry { to, bytes })?;
+        }
+        Ok(())
     }
 
     /// Notes what an acknowledgement covers.
