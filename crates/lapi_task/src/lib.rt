@@ -1,10 +1,12 @@
 //! One task as the endpoint of its links: its statements, its memory, its counters, and what it sends and receives.
 #![tactic(auto)]
 
+mod law;
 mod outcome;
 mod received;
 mod task;
 
+pub use law::tasks_stay_apart;
 pub use outcome::Outcome;
 pub use received::Received;
 pub use task::Task;
