@@ -1,2 +1,4 @@
 pub mod Apart
 pub mod Jobless
+pub mod SenderLaws
+pub mod TickLaws
