@@ -1,5 +1,5 @@
 -- A line at another task leaves a task's part of the record, and by its part it stands for the record.
-use Rattle.std.proofs.Common.{◌≡◌, ℕ, ◌==◌, ◌+◌, ◌<◌, Bool, true, false, cond, not, ◌&&◌, List, [], ◌∷◌, ◌++◌, length, map, Option, Some, None, refl, sym, ap, ◌∙◌, subst}
+use Rattle.std.proofs.Common.{◌≡◌, ℕ, ◌==◌, false, cond, not, ◌&&◌, List, [], ◌∷◌, ◌++◌, length, map, Option, Some, None, refl, sym, ap, ◌∙◌, subst}
 use Rattle.std.specs.Prelude.{slice_get, option_map}
 use Rattle.std.proofs.lemmas.List.{append-nil}
 use Rattle.lapi_base.specs.declared.script.Script.{Script}
@@ -10,7 +10,7 @@ use Rattle.lapi_base.specs.declared.event.Event.{Event}
 use Rattle.lapi_base.specs.declared.event.Event.TheVariants.{Issue, Refuse, Enter, Pass, Copy, Head, Land, Begin, End}
 use Rattle.lapi_base.specs.declared.packet.Packet.{Packet}
 use Rattle.lapi_base.specs.Below.{below}
-use Rattle.lapi_base.specs.ByPart.{SameStatements, SameLinks, SameJobs, SameMemory}
+use Rattle.lapi_base.specs.ByPart.{SameStatements, SameLinks}
 use Rattle.lapi_base.specs.Names.{Issued, Copied, done, message}
 use Rattle.lapi_base.specs.Operations.{upto, statements, statement, is_data}
 use Rattle.lapi_base.specs.Packets.{data_packet}
@@ -21,7 +21,6 @@ use Rattle.lapi_base.specs.TaskPart.{is_at, events_at, part_at}
 use Rattle.lapi_base.specs.Values.{values, memory_bytes}
 use Rattle.lapi_base.specs.Written as written
 use Rattle.lapi_laws.proofs.Out.{out-copied}
-use Rattle.lapi_link.specs.Receiver.{ReceivesFor}
 use Rattle.lapi_link.specs.Sender.{SendingEnd}
 use Rattle.lapi_parts.proofs.ExactBytes.{record-exact}
 use Rattle.lapi_parts.proofs.LinesTaken.{more-record}
@@ -32,7 +31,7 @@ use Rattle.lapi_parts.proofs.Records.{record-sound}
 use Rattle.lapi_parts.proofs.SameParts.{SamePart, same-part, bytes-same, told-statements, told-links, told-jobs, told-memory}
 use Rattle.lapi_task.specs.declared.task.Task.{Task}
 use Rattle.lapi_task.specs.Apart.{TasksStayApart}
-use Rattle.lapi_task.specs.Sends.{HasNumbers, SendsFor, packet_at, spelled}
+use Rattle.lapi_task.specs.Sends.{SendsFor, packet_at, spelled}
 use Rattle.lapi_task.specs.StandsFor.{is_uncopied, SenderAt, ReceiverAt, HoldsFor, StandsFor}
 
 module _ (script : Script) (t : ℕ) where

@@ -1,8 +1,8 @@
 -- A task is still where it has nothing to copy and its links are settled.
-use Rattle.std.proofs.Common.{◌≡◌, ℕ, zero, suc, ◌+◌, ◌-◌, ◌<◌, ◌≤◌, ◌==◌, Bool, true, false, cond, ◌&&◌, not, IsTrue, List, [], ◌∷◌, ◌++◌, length, map, get_or, min, Option, Some, None, refl, sym, ap, ◌∙◌, subst, ⊎_elim, inl, inr, arith, append_assoc}
-use Rattle.std.specs.Prelude.{slice_get, nat_lt, is_some}
+use Rattle.std.proofs.Common.{◌≡◌, ℕ, zero, suc, ◌+◌, ◌-◌, ◌<◌, ◌==◌, Bool, true, false, cond, ◌&&◌, not, IsTrue, List, [], ◌∷◌, ◌++◌, length, map, get_or, min, Option, Some, refl, sym, ap, ◌∙◌, subst, ⊎_elim, inl, inr, arith, append_assoc}
+use Rattle.std.specs.Prelude.{slice_get, is_some}
 use Rattle.std.specs.List.{AllByRecursion, flat_map, list_all}
-use Rattle.std.proofs.lemmas.Bool.{false≢true, and_parts, and_left, and_right, and_cases, cases_Bool, ltb-true, eqb-true, ne_eqb, not-true, not-false}
+use Rattle.std.proofs.lemmas.Bool.{false≢true, and_left, and_right, and_cases, cases_Bool, ltb-true, eqb-true, ne_eqb, not-true, not-false}
 use Rattle.std.proofs.lemmas.List.{append-nil}
 use Rattle.std.proofs.lemmas.List.Folds.{list_all-append}
 use Rattle.std.proofs.lemmas.Option.{slice_get_within}
@@ -17,7 +17,7 @@ use Rattle.lapi_base.specs.declared.packet.Packet.TheVariants.{Data, Ack}
 use Rattle.lapi_base.specs.Below.{below, every_below, least_missing}
 use Rattle.lapi_base.specs.Built.{is_built_statement, IsBuiltList}
 use Rattle.lapi_base.specs.Final.{is_empty, is_idle, is_settled, is_told}
-use Rattle.lapi_base.specs.Jobs.{queue, runs}
+use Rattle.lapi_base.specs.Jobs.{runs}
 use Rattle.lapi_base.specs.Layout.{window_of}
 use Rattle.lapi_base.specs.Names.{Issued, Entered, Copied, done, message}
 use Rattle.lapi_base.specs.Operations.{upto, statement, is_data, has_join}
@@ -36,8 +36,8 @@ use Rattle.lapi_window.specs.SendWindow as window
 use Rattle.lapi_task.specs.declared.task.Task.{Task}
 use Rattle.lapi_task.specs.Does.{IsAt}
 use Rattle.lapi_task.specs.Performed.{IsPerformed}
-use Rattle.lapi_task.specs.Sends.{SendsFor, HasNumbers}
-use Rattle.lapi_task.specs.StandsFor.{is_uncopied, SenderAt, HoldsFor, StandsFor}
+use Rattle.lapi_task.specs.Sends.{SendsFor}
+use Rattle.lapi_task.specs.StandsFor.{is_uncopied, SenderAt, HoldsFor}
 use Rattle.lapi_task.proofs.Jobless.{no-queue}
 
 -- Lists and numbers below a bound.

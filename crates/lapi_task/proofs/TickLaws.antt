@@ -1,6 +1,6 @@
 -- What a tick puts on the wires of its task.
-use Rattle.std.proofs.Common.{◌≡◌, ℕ, ◌<◌, ◌≤◌, ◌==◌, Bool, true, false, cond, ◌&&◌, not, List, [], ◌∷◌, ◌++◌, length, map, Option, Some, None, refl, sym, ap, ◌∙◌, subst, ⊎_elim, arith, append_assoc, add-one, ◌+◌}
-use Rattle.std.specs.Prelude.{slice_get, nat_lt, option_map}
+use Rattle.std.proofs.Common.{◌≡◌, ℕ, ◌<◌, ◌≤◌, ◌==◌, true, ◌&&◌, not, List, [], ◌∷◌, ◌++◌, length, map, Option, Some, None, refl, sym, ap, ◌∙◌, subst, ⊎_elim, arith, append_assoc, add-one, ◌+◌}
+use Rattle.std.specs.Prelude.{slice_get, option_map}
 use Rattle.std.specs.List.{AllByRecursion, flat_map, filter_map, cons_option}
 use Rattle.std.proofs.lemmas.Bool.{cond-true, and_parts, or_left, ltb-true, not-true}
 use Rattle.std.proofs.lemmas.List.{append-nil, map-append}
@@ -9,7 +9,6 @@ use Rattle.std.proofs.lemmas.List.Folds.{list_any-append}
 use Rattle.lapi_base.specs.declared.script.Script.{Script}
 use Rattle.lapi_base.specs.declared.message.MsgName.{MsgName}
 use Rattle.lapi_base.specs.declared.event.Event.{Event}
-use Rattle.lapi_base.specs.declared.packet.Packet.{Packet}
 use Rattle.lapi_base.specs.declared.wire.WireEntry.{WireEntry}
 use Rattle.lapi_base.specs.Below.{below}
 use Rattle.lapi_base.specs.ByPart.{ticked}
@@ -26,8 +25,8 @@ use Rattle.lapi_window.specs.SendWindow.{Sending, sent_count, bytes_of, unacked}
 use Rattle.lapi_window.specs.SendWindow as window
 use Rattle.lapi_task.specs.declared.outcome.Outcome.{Outcome}
 use Rattle.lapi_task.specs.declared.task.Task.{Task}
-use Rattle.lapi_task.specs.Does.{IsAt, Does, bytes_to}
-use Rattle.lapi_task.specs.Sends.{SendsFor, HasNumbers, packet_at, spelled}
+use Rattle.lapi_task.specs.Does.{Does}
+use Rattle.lapi_task.specs.Sends.{SendsFor, packet_at, spelled}
 use Rattle.lapi_task.specs.StandsFor.{SenderAt, StandsFor}
 use Rattle.lapi_task.proofs.SenderLaws.{of_end, entries_of, bytes-of-end, entries-within, entries-none, entries-more}
 
