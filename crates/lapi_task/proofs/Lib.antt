@@ -1,5 +1,9 @@
+pub mod Apart
 pub mod Forms
 pub mod Jobless
 pub mod Lists
 pub mod Packets
 pub mod PutPackets
+pub mod SenderLaws
+pub mod StillLaws
+pub mod TickLaws

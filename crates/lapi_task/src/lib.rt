@@ -1,12 +1,14 @@
 //! One task as the endpoint of its links: its statements, its memory, its counters, and what it sends and receives.
 #![tactic(auto)]
 
+mod law;
 mod outcome;
 mod packet;
 mod put;
 mod received;
 mod task;
 
+pub use law::tasks_stay_apart;
 pub use outcome::Outcome;
 pub use received::Received;
 pub use task::Task;

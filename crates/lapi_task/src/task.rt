@@ -8,6 +8,7 @@ mod calls;
 mod copying;
 mod lends;
 mod polling;
+mod ticking;
 
 /// One task. After a call has answered Memory it is used no more.
 #[derive(Drop)]

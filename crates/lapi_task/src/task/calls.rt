@@ -3,7 +3,7 @@ ghost use Rattle.std.specs.Prelude.{◌≡◌, ℕ, ◌<◌, ◌∷◌, [], ◌+
 ghost use Rattle.lapi_base.specs.declared.script.Script.{Script as TheScript};
 ghost use Rattle.lapi_base.specs.declared.packet.Packet.{Packet};
 ghost use Rattle.lapi_base.specs.declared.reply.Bad.{Bad};
-ghost use Rattle.lapi_base.specs.Record.{Run, start, step, poll, tick, deliver};
+ghost use Rattle.lapi_base.specs.Record.{Run, start, step, poll, deliver};
 ghost use Rattle.lapi_base.specs.Seen.{no_rules};
 ghost use Rattle.lapi_base.specs.Spelling.{Spells, decoded};
 ghost use Rattle.lapi_task.specs.Performed.{IsPerformed};
@@ -43,13 +43,6 @@ impl Task {
         requires script { IsPerformed _script.now }
         requires record { IsAtSome _script.now self.old }
         ensures { OnOk result ((t : ℕ) (r : Run) → IsAt _script.now t self.old r → Does _script.now t r (poll _script.now no_rules r t) self.new _out.old _out.new) }
-    {
-        Err(Memory)
-    }
-
-    /// Sends again what was sent and is not acknowledged.
-    pub fn tick(&mut self, _alloc: Global, _out: &mut Outcome) -> Result<(), Memory>
-        ensures { OnOk result ((script : TheScript) (t : ℕ) (r : Run) → IsPerformed script → IsAt script t self.old r → Does script t r (tick script no_rules r t) self.new _out.old _out.new) }
     {
         Err(Memory)
     }
