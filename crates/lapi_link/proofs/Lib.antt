@@ -1,0 +1,4 @@
+pub mod ArrivalLaws
+pub mod FragmentLists
+pub mod HeldPackets
+pub mod LeastNumbers
