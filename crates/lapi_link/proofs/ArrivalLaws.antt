@@ -269,3 +269,14 @@ module _ (script : Script) (ps : List Packet) (p : DataPacket) (w : Receiving) (
       numbers = numbers-now script ps p fits end.numbers;
       partials = all-partials script ps p (partial g) (partial h) end.partials others (own ∙ kept-now script ps p fits fresh g end.sizes.1 (end.partials p.name));
     }
+
+-- Before anything came.
+pub nothing-came : (script : Script) (w : Receiving) (g : Gathering) → w.window ≡ window_of script → (g.names ≡ window_of script) × (g.unit ≡ unit_of script) → ((n : ℕ) → is_taken w n ≡ false) → ((m : MsgName) → partial g m ≡ None) → ReceivesFor script (record { window = w; partials = g }) []
+unfolding has_number packet_of partial_of
+nothing-came script w g window sizes none empty = record {
+  window = window;
+  sizes = sizes;
+  taken = none;
+  numbers = λ n h. absurd (false≢true h);
+  partials = empty;
+}

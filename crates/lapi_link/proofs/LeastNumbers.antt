@@ -4,7 +4,7 @@ use Rattle.std.specs.List.{list_any}
 use Rattle.std.proofs.lemmas.Bool.{false≢true, both_ways, false_from_ne_true, eqb-true, or_cases, cases_lt}
 use Rattle.lapi_base.specs.declared.packet.Packet.{Packet}
 use Rattle.lapi_base.specs.declared.packet.Packet.TheVariants.{Data, Ack}
-use Rattle.lapi_base.specs.Below.{least_missing}
+use Rattle.lapi_base.specs.Below.{least_missing, bits_of}
 use Rattle.lapi_base.specs.Record.{is_number, has_number}
 use Rattle.lapi_base.specs.Arrived.{number_bound, least_number}
 use Rattle.lapi_window.specs.RecvWindow.{Receiving, is_taken, base_of}
@@ -70,3 +70,10 @@ unfolding least_number
 base-is w ps taken numbers =
     ap (least_missing 4294967295) (λ i n. taken n i)
     ∙ least_missing-same 4294967295 (number_bound ps) (has_number ps) (λ k h. let l = numbers k h in omega (arith, l)) (bound-above ps)
+
+-- and so are the bits above it
+pub bits-are : (w : Receiving) (ps : List Packet) (window : ℕ) → w.window ≡ window → ((n : ℕ) → is_taken w n ≡ has_number ps n) → ((n : ℕ) → has_number ps n ≡ true → n < 2 ^ 22) → bits_of w.window (λ i. is_taken w (base_of w + i)) ≡ bits_of window (λ i. has_number ps (least_number ps + i))
+bits-are w ps window size taken numbers =
+    ap (λ k. bits_of k (λ i. is_taken w (base_of w + i))) size
+    ∙ ap (λ b. bits_of window (λ i. is_taken w (b + i))) (base-is w ps taken numbers)
+    ∙ ap (bits_of window) (λ k i. taken (least_number ps + i) k)
