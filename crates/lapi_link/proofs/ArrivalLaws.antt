@@ -1,26 +1,24 @@
 -- What a packet that comes does to the receiving end of a link.
-use Rattle.std.proofs.Common.{◌≡◌, ◌≢◌, ◌⊎◌, ℕ, ◌+◌, ◌*◌, ◌^◌, ◌<◌, ◌≤◌, ◌==◌, Bool, true, false, cond, ◌||◌, List, [], ◌∷◌, length, map, set, replicate, Option, Some, None, is_some, IfSome, refl, sym, ap, ◌∙◌, subst, ⊎_elim, inl, inr, arith}
-use Rattle.std.specs.Prelude.{slice_get}
+use Rattle.std.proofs.Common.{◌≡◌, ◌≢◌, ◌⊎◌, ℕ, ◌+◌, ◌*◌, ◌^◌, ◌<◌, ◌≤◌, ◌==◌, true, false, cond, ◌||◌, List, [], ◌∷◌, length, map, set, Option, Some, None, is_some, IfSome, refl, sym, ap, ◌∙◌, subst, ⊎_elim, inl, inr, arith}
 use Rattle.std.specs.Option.{unwrap_or}
-use Rattle.std.specs.List.{AllByRecursion, IsDistinct, list_all, flat_map}
-use Rattle.std.proofs.lemmas.Bool.{true≢false, false≢true, both_ways, and_parts, and_from, false_from_ne_true, eqb-true, eq-eqb, or_cases, cond-true, cond-false}
+use Rattle.std.specs.List.{AllByRecursion}
+use Rattle.std.proofs.lemmas.Bool.{false≢true, both_ways, and_parts, and_from, false_from_ne_true, eqb-true, eq-eqb, or_cases, cond-true, cond-false}
 use Rattle.lapi_base.specs.declared.script.Script.{Script}
 use Rattle.lapi_base.specs.declared.message.MsgName.{MsgName}
 use Rattle.lapi_base.specs.declared.head.Head.{Head}
 use Rattle.lapi_base.specs.declared.packet.Packet.{Packet}
-use Rattle.lapi_base.specs.declared.packet.Packet.TheVariants.{Data, Ack}
+use Rattle.lapi_base.specs.declared.packet.Packet.TheVariants.{Data}
 use Rattle.lapi_base.specs.declared.packet.DataPacket.{DataPacket}
 use Rattle.lapi_base.specs.Fragments.{fragments_in, IsPayload}
 use Rattle.lapi_base.specs.Layout.{unit_of, window_of}
 use Rattle.lapi_base.specs.Names.{name_eq}
 use Rattle.lapi_base.specs.Operations.{upto}
-use Rattle.lapi_base.specs.Record.{is_number, has_number}
-use Rattle.lapi_base.specs.Arrived.{is_fragment, has_fragment, has_some, whole_by, payload_of, assembled, least_number, count_of}
+use Rattle.lapi_base.specs.Record.{has_number}
+use Rattle.lapi_base.specs.Arrived.{is_fragment, has_fragment, whole_by, payload_of, assembled, count_of}
 use Rattle.lapi_window.specs.RecvWindow.{Receiving, is_taken, base_of}
 use Rattle.lapi_reassembly.specs.Partial.{Gathered, nothing_of, with_fragment, is_whole, message, fragment}
 use Rattle.lapi_reassembly.specs.Partials.{Gathering, partial, is_there, HasRoom, Agrees, IsMissing, kept_of}
 use Rattle.lapi_reassembly.proofs.NameLaws.{name_eq-refl, name_eq-true}
-use Rattle.lapi_link.specs.declared.arrival.Arrival.{Arrival}
 use Rattle.lapi_link.specs.declared.arrival.Arrival.TheVariants.{Repeat, Part, Whole}
 use Rattle.lapi_link.specs.Receiver.{ReceivingEnd, packet_of, is_complete, fragment_at, gathered_by, partial_by, partial_of, ReceivesFor, IsPartOnly, Fits, message_of, arrival_of, gathered_with, arrival_with}
 use Rattle.lapi_link.proofs.FragmentLists.{every-all, joined-map, told-at, none-yet, one-more}
@@ -180,7 +178,7 @@ module _ (script : Script) where
             (λ (x : (packet_of ps p.name ≡ None) × (partial_of script ps p.name ≡ None)). subst (λ o. IfSome o (λ g. fragment g p.fragment ≡ None)) (sym (told ∙ x.1)) tt)
             (λ (x : partial_of script ps p.name ≡ Some (gathered_by script ps p.name p)).
             subst (λ o. IfSome o (λ g. fragment g p.fragment ≡ None)) (sym (told ∙ x))
-                (told-at (fragment_at script ps p.name) (fragments_in (unit_of script) p.length) p.fragment within ∙ missing-at script ps p.name p.fragment (fits.missing fresh)))
+            (told-at (fragment_at script ps p.name) (fragments_in (unit_of script) p.length) p.fragment within ∙ missing-at script ps p.name p.fragment (fits.missing fresh)))
             open-before
 
   -- a message that is there is there in part

@@ -1,16 +1,16 @@
 -- What the packets that were handed over tell of a message, before and after one more.
-use Rattle.std.proofs.Common.{◌≡◌, ◌≢◌, ℕ, zero, suc, ◌==◌, Bool, true, false, cond, ◌&&◌, ◌||◌, List, [], ◌∷◌, Option, Some, None, is_some, refl, sym, ap, ◌∙◌, subst, ⊎_elim, arith}
+use Rattle.std.proofs.Common.{◌≡◌, ℕ, zero, suc, ◌==◌, Bool, true, false, cond, ◌&&◌, ◌||◌, List, [], ◌∷◌, Some, None, is_some, refl, sym, ap, ◌∙◌, subst, ⊎_elim}
 use Rattle.std.specs.Prelude.{slice_get}
 use Rattle.std.specs.Option.{unwrap_or}
 use Rattle.std.specs.List.{list_any}
-use Rattle.std.proofs.lemmas.Bool.{false≢true, both_ways, and_parts, and_from, eqb-true, eq-eqb, ne_eqb, or_left, or_right, or_cases, cases_eq}
+use Rattle.std.proofs.lemmas.Bool.{false≢true, and_parts, and_from, eqb-true, eq-eqb, ne_eqb, or_left, or_right, cases_eq}
 use Rattle.lapi_base.specs.declared.script.Script.{Script}
 use Rattle.lapi_base.specs.declared.message.MsgName.{MsgName}
 use Rattle.lapi_base.specs.declared.packet.Packet.{Packet}
 use Rattle.lapi_base.specs.declared.packet.Packet.TheVariants.{Data, Ack}
 use Rattle.lapi_base.specs.declared.packet.DataPacket.{DataPacket}
 use Rattle.lapi_base.specs.Names.{name_eq}
-use Rattle.lapi_base.specs.Record.{is_number, has_number}
+use Rattle.lapi_base.specs.Record.{has_number}
 use Rattle.lapi_base.specs.Arrived.{is_fragment, is_part_of, has_fragment, has_some, payload_of}
 use Rattle.lapi_reassembly.proofs.NameLaws.{name_eq-refl, name_eq-true}
 use Rattle.lapi_link.specs.Receiver.{packet_of, fragment_at}
@@ -96,21 +96,21 @@ payload-held [] m j h = absurd (false≢true h)
 payload-held (Data p ∷ ps) m j h =
     elim (is_fragment m j (Data p)) as (λ b. is_fragment m j (Data p) ≡ b → (b || has_fragment ps m j) ≡ true → Holds (Data p ∷ ps) m j) [
       | true ↦ λ e _. let both = and_parts (name_eq m p.name) (p.fragment == j) e in record {
-          place = 0;
-          packet = p;
-          at = refl;
-          name = sym (name_eq-true m p.name both.0);
-          fragment = eqb-true p.fragment j both.1;
-          payload = ap (λ b. cond b p.payload (payload_of ps m j)) e;
-        }
+        place = 0;
+        packet = p;
+        at = refl;
+        name = sym (name_eq-true m p.name both.0);
+        fragment = eqb-true p.fragment j both.1;
+        payload = ap (λ b. cond b p.payload (payload_of ps m j)) e;
+      }
       | false ↦ λ e g. let r = payload-held ps m j g in record {
-          place = suc r.place;
-          packet = r.packet;
-          at = r.at;
-          name = r.name;
-          fragment = r.fragment;
-          payload = ap (λ b. cond b p.payload (payload_of ps m j)) e ∙ r.payload;
-        }
+        place = suc r.place;
+        packet = r.packet;
+        at = r.at;
+        name = r.name;
+        fragment = r.fragment;
+        payload = ap (λ b. cond b p.payload (payload_of ps m j)) e ∙ r.payload;
+      }
     ] refl h
 payload-held (Ack from to base bits ∷ ps) m j h =
     let r = payload-held ps m j h in record {

@@ -1,7 +1,7 @@
 -- The least number that was not taken is that of the packets that were handed over.
 use Rattle.std.proofs.Common.{◌≡◌, ◌⊎◌, ℕ, zero, suc, ◌+◌, ◌^◌, ◌<◌, ◌≤◌, ◌==◌, max, Bool, true, false, List, [], ◌∷◌, refl, sym, ap, ◌∙◌, subst, ⊎_elim, inl, inr, arith}
 use Rattle.std.specs.List.{list_any}
-use Rattle.std.proofs.lemmas.Bool.{false≢true, both_ways, false_from_ne_true, eqb-true, or_cases, cases_lt}
+use Rattle.std.proofs.lemmas.Bool.{false≢true, false_from_ne_true, eqb-true, or_cases, cases_lt}
 use Rattle.lapi_base.specs.declared.packet.Packet.{Packet}
 use Rattle.lapi_base.specs.declared.packet.Packet.TheVariants.{Data, Ack}
 use Rattle.lapi_base.specs.Below.{least_missing, bits_of}
@@ -11,7 +11,7 @@ use Rattle.lapi_window.specs.RecvWindow.{Receiving, is_taken, base_of}
 use Rattle.lapi_window.proofs.Sets.{least_missing-is}
 
 -- each number below b is in the set, and b isn't
-pub record IsFirst (p : ℕ → Bool) (b : ℕ) : Type 0 where
+record IsFirst (p : ℕ → Bool) (b : ℕ) : Type 0 where
   before : (k : ℕ) → k < b → p k ≡ true
   absent : p b ≡ false
 
@@ -22,13 +22,13 @@ first (suc n) p =
     elim (first n p) [
       | inr r ↦ inr (r.0, omega (arith, r.1), r.2)
       | inl all ↦ elim (p n) as (λ b. p n ≡ b → ((k : ℕ) → k < suc n → p k ≡ true) ⊎ ((b : ℕ) × (b < suc n) × IsFirst p b)) [
-          | true ↦ λ e. inl (λ k l.
-              ⊎_elim
-              (λ (lt : k < n). all k lt)
-              (λ (ge : n ≤ k). subst (λ x. p x ≡ true) (let q : n ≡ k = omega arith in q) e)
-              (cases_lt k n))
-          | false ↦ λ e. inr (n, omega arith, record { before = all; absent = e })
-        ] refl
+        | true ↦ λ e. inl (λ k l.
+            ⊎_elim
+            (λ (lt : k < n). all k lt)
+            (λ (ge : n ≤ k). subst (λ x. p x ≡ true) (let q : n ≡ k = omega arith in q) e)
+            (cases_lt k n))
+        | false ↦ λ e. inr (n, omega arith, record { before = all; absent = e })
+      ] refl
     ]
 
 -- the first that isn't is within every bound of the set

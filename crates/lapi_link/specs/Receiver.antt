@@ -1,9 +1,8 @@
 -- What the receiving end of a link stands for: the packets that were handed over on it, the latest first.
-use Rattle.std.specs.Prelude.{◌≡◌, ℕ, suc, ◌+◌, ◌-◌, ◌*◌, ◌^◌, ◌<◌, ◌≤◌, min, Bool, true, false, cond, ◌&&◌, not, List, [], ◌∷◌, length, map, slice_get, Option, Some, None}
+use Rattle.std.specs.Prelude.{◌≡◌, ℕ, ◌+◌, ◌-◌, ◌*◌, ◌^◌, ◌<◌, ◌≤◌, min, Bool, true, false, cond, List, [], ◌∷◌, length, map, slice_get, Option, Some, None}
 use Rattle.std.specs.List.{AllByRecursion, IsDistinct}
 use Rattle.lapi_base.specs.declared.script.Script.{Script}
 use Rattle.lapi_base.specs.declared.message.MsgName.{MsgName}
-use Rattle.lapi_base.specs.declared.head.Head.{Head}
 use Rattle.lapi_base.specs.declared.packet.Packet.{Packet}
 use Rattle.lapi_base.specs.declared.packet.Packet.TheVariants.{Data, Ack}
 use Rattle.lapi_base.specs.declared.packet.DataPacket.{DataPacket}
@@ -12,7 +11,7 @@ use Rattle.lapi_base.specs.Names.{name_eq}
 use Rattle.lapi_base.specs.Operations.{upto}
 use Rattle.lapi_base.specs.Fragments.{fragments_in}
 use Rattle.lapi_base.specs.Record.{has_number}
-use Rattle.lapi_base.specs.Arrived.{has_fragment, has_some, whole_by, payload_of, assembled, least_number, count_of, is_part_of, IsKnown}
+use Rattle.lapi_base.specs.Arrived.{has_fragment, has_some, whole_by, payload_of, assembled, least_number, count_of, IsKnown}
 use Rattle.lapi_window.specs.RecvWindow.{Receiving, is_taken}
 use Rattle.lapi_reassembly.specs.Partial.{Gathered, is_whole, message}
 use Rattle.lapi_reassembly.specs.Partials.{Gathering, partial, gathered}
@@ -54,7 +53,7 @@ module _ (script : Script) where
   unfoldable pub partial_of : List Packet → MsgName → Option Gathered
   partial_of ps m = partial_by ps m (packet_of ps m)
 
-  -- The end is that of a link on which these packets were handed over.
+  -- The end is that of a link on which these packets were handed over, with numbers that are small enough for a least one that is missing.
   pub record ReceivesFor (s : ReceivingEnd) (ps : List Packet) : Type 0 where
     pub window : s.window.window ≡ window_of script
     pub sizes : (s.partials.names ≡ window_of script) × (s.partials.unit ≡ unit_of script)
