@@ -1,1 +1,5 @@
+pub mod ArrivalLaws
+pub mod FragmentLists
+pub mod HeldPackets
+pub mod LeastNumbers
 pub mod SenderLaws
