@@ -1,1 +1,6 @@
 pub mod Jobless
+pub mod NewStands
+pub mod ReasonForms
+pub mod StepFields
+pub mod StepLaws
+pub mod StepMemories

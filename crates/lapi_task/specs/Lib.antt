@@ -2,3 +2,4 @@ pub mod Does
 pub mod Performed
 pub mod Sends
 pub mod StandsFor
+pub mod Steps

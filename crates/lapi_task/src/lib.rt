@@ -2,7 +2,9 @@
 #![tactic(auto)]
 
 mod outcome;
+mod reason;
 mod received;
+mod statement;
 mod task;
 
 pub use outcome::Outcome;

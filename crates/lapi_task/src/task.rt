@@ -5,6 +5,7 @@ use lapi_memory::TaskMemory;
 
 mod calls;
 mod lends;
+mod stepping;
 
 /// One task. After a call has answered Memory it is used no more.
 #[derive(Drop)]
