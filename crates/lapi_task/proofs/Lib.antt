@@ -2,8 +2,13 @@ pub mod Apart
 pub mod Forms
 pub mod Jobless
 pub mod Lists
+pub mod NewStands
 pub mod Packets
 pub mod PutPackets
+pub mod ReasonForms
 pub mod SenderLaws
+pub mod StepFields
+pub mod StepLaws
+pub mod StepMemories
 pub mod StillLaws
 pub mod TickLaws

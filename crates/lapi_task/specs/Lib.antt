@@ -4,3 +4,4 @@ pub mod Performed
 pub mod Puts
 pub mod Sends
 pub mod StandsFor
+pub mod Steps

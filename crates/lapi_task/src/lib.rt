@@ -5,7 +5,9 @@ mod law;
 mod outcome;
 mod packet;
 mod put;
+mod reason;
 mod received;
+mod statement;
 mod task;
 
 pub use law::tasks_stay_apart;

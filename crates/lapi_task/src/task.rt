@@ -9,6 +9,7 @@ mod copying;
 mod lends;
 mod polling;
 mod ticking;
+mod stepping;
 
 /// One task. After a call has answered Memory it is used no more.
 #[derive(Drop)]
