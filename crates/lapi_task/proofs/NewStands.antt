@@ -82,6 +82,8 @@ module _ (script : Script) where
   pub new-stands : (t : ℕ) (task : Task) → IsNew script t task → StandsFor script t task start
   new-stands t task h = record {
     holds = new-holds t task h;
+    sender_count = h.senders.0;
+    receiver_count = h.receivers.0;
     senders = λ b l.
         let x = get-some task.senders.items b (let n = h.senders.0 in omega (arith, l, n)) in
         subst (SenderAt script start t b) (sym x.1) (fresh-sends t b x.0 (all-get IsFresh task.senders.items b x.0 h.senders.1 x.1));

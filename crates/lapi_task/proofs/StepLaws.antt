@@ -86,6 +86,8 @@ module _ (script : Script) where
     entries = [];
     stands = record {
       holds = holds;
+      sender_count = ap length g.senders ∙ h.sender_count;
+      receiver_count = ap length g.receivers ∙ h.receiver_count;
       senders = λ b l. subst (λ xs. SenderAt script (stepped r e) t b (slice_get xs b)) (sym g.senders) (sender-on r e t b (slice_get before.senders.items b) q (h.senders b l));
       receivers = λ a l. subst (λ xs. ReceiverAt script (r.handed a t) (slice_get xs a)) (sym g.receivers) (h.receivers a l);
     };
@@ -99,6 +101,8 @@ module _ (script : Script) where
   stands-on : (t : ℕ) (r : Run) (reply : Reply) (task : Task) → StandsFor script t task r → StandsFor script t task (reply_with script no_rules r reply)
   stands-on t r reply task h = record {
     holds = h.holds;
+    sender_count = h.sender_count;
+    receiver_count = h.receiver_count;
     senders = λ b l. sender-reply b (slice_get task.senders.items b) (h.senders b l);
     receivers = h.receivers;
   }

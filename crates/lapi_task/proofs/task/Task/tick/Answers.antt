@@ -14,7 +14,7 @@ loop-to-preserved c =
     let ends = c.args.self.now.senders.items in
     let items = c.deref-sender-items.ensures.value in
     let here : slice_get ends c.loop-to.to ≡ Some c.sender-item.result = subst (λ (xs : List SendingEnd). slice_get xs c.loop-to.to ≡ Some c.sender-item.result) items (slice_get_read c.deref-sender-items.result.now _ c.loop-to.to c.sender-item.result refl c.loop-to-test.true c.sender-item.is) in
-    (resent-more ends c.args.out.now.entries c.loop-to.out.entries c.resend.new._entries c.loop-to.to c.in-Ok.to c.sender-item.result c.loop-to.invariant.0 here c.in-Ok.ensures.1 c.in_ok-resend.ensures, c.loop-to.invariant.1)
+    (resent-more ends c.args.out.now.entries c.loop-to.out.entries c.resend.new.entries c.loop-to.to c.in-Ok.to c.sender-item.result c.loop-to.invariant.0 here c.in-Ok.ensures.1 c.in_ok-resend.ensures, c.loop-to.invariant.1)
 
 pub returns : goal.returns
 returns c = λ script t r performed at.
