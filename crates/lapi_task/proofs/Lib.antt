@@ -7,6 +7,7 @@ pub mod NewStands
 pub mod Packets
 pub mod PutPackets
 pub mod ReasonForms
+pub mod ReceiveCounts
 pub mod SenderLaws
 pub mod StepFields
 pub mod StepLaws

@@ -1,4 +1,5 @@
 pub mod Apart
+pub mod Counting
 pub mod Does
 pub mod Performed
 pub mod Puts

@@ -1,6 +1,7 @@
 //! One task as the endpoint of its links: its statements, its memory, its counters, and what it sends and receives.
 #![tactic(auto)]
 
+mod counting;
 mod law;
 mod outcome;
 mod packet;
