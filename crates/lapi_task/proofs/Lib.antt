@@ -6,6 +6,7 @@ pub mod Jobless
 pub mod Lists
 pub mod NewStands
 pub mod Packets
+pub mod PollCopies
 pub mod PutPackets
 pub mod ReasonForms
 pub mod ReceiveCounts

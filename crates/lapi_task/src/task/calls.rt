@@ -17,20 +17,6 @@ use lapi_base::{Memory, Reply, Script};
 use std::alloc::Global;
 
 impl Task {
-    /// Copies what was issued, and sends what the windows allow.
-    pub fn poll(
-        &mut self,
-        _alloc: Global,
-        _script: &Script,
-        _out: &mut Outcome,
-    ) -> Result<(), Memory>
-        requires script { IsPerformed _script.now }
-        requires record { IsAtSome _script.now self.old }
-        ensures { OnOk result ((t : ℕ) (r : Run) → IsAt _script.now t self.old r → Does _script.now t r (poll _script.now no_rules r t) self.new _out.old _out.new) }
-    {
-        Err(Memory)
-    }
-
     /// Takes what comes from task `from`. Bytes that spell no packet are refused, and change nothing.
     pub fn receive(
         &mut self,
