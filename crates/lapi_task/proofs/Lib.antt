@@ -7,6 +7,7 @@ pub mod Lists
 pub mod NewStands
 pub mod Packets
 pub mod PollCopies
+pub mod PollSends
 pub mod PutPackets
 pub mod ReasonForms
 pub mod ReceiveCounts
