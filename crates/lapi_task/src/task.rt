@@ -8,8 +8,8 @@ mod calls;
 mod copying;
 mod lends;
 mod polling;
-mod ticking;
 mod stepping;
+mod ticking;
 
 /// One task. After a call has answered Memory it is used no more.
 #[derive(Drop)]
