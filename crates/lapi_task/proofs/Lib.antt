@@ -1,3 +1,5 @@
+pub mod AnswerLaws
+pub mod AnswerSpelled
 pub mod Apart
 pub mod ArrivingFits
 pub mod Forms
