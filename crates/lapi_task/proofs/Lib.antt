@@ -1,4 +1,8 @@
+pub mod AnswerLaws
+pub mod AnswerSpelled
 pub mod Apart
+pub mod ArrivingAcks
+pub mod ArrivingFits
 pub mod CopyLaws
 pub mod CopyLists
 pub mod Forms
