@@ -1,9 +1,8 @@
 -- What the receiving end of a link stands for: the packets that were handed over on it, the latest first.
-use Rattle.std.specs.Prelude.{◌≡◌, ℕ, suc, ◌+◌, ◌-◌, ◌*◌, ◌^◌, ◌<◌, ◌≤◌, min, Bool, true, false, cond, ◌&&◌, not, List, [], ◌∷◌, length, map, slice_get, Option, Some, None}
+use Rattle.std.specs.Prelude.{◌≡◌, ℕ, ◌+◌, ◌-◌, ◌*◌, ◌^◌, ◌<◌, ◌≤◌, min, Bool, true, false, cond, List, [], ◌∷◌, length, map, slice_get, Option, Some, None}
 use Rattle.std.specs.List.{AllByRecursion, IsDistinct}
 use Rattle.lapi_base.specs.declared.script.Script.{Script}
 use Rattle.lapi_base.specs.declared.message.MsgName.{MsgName}
-use Rattle.lapi_base.specs.declared.head.Head.{Head}
 use Rattle.lapi_base.specs.declared.packet.Packet.{Packet}
 use Rattle.lapi_base.specs.declared.packet.Packet.TheVariants.{Data, Ack}
 use Rattle.lapi_base.specs.declared.packet.DataPacket.{DataPacket}
@@ -12,11 +11,13 @@ use Rattle.lapi_base.specs.Names.{name_eq}
 use Rattle.lapi_base.specs.Operations.{upto}
 use Rattle.lapi_base.specs.Fragments.{fragments_in}
 use Rattle.lapi_base.specs.Record.{has_number}
-use Rattle.lapi_base.specs.Arrived.{has_fragment, has_some, whole_by, payload_of, assembled, least_number, count_of, is_part_of, IsKnown}
+use Rattle.lapi_base.specs.Arrived.{has_fragment, has_some, whole_by, payload_of, assembled, least_number, count_of, IsKnown}
 use Rattle.lapi_window.specs.RecvWindow.{Receiving, is_taken}
-use Rattle.lapi_reassembly.specs.Partial.{Gathered}
-use Rattle.lapi_reassembly.specs.Partials.{Gathering, partial}
+use Rattle.lapi_reassembly.specs.Partial.{Gathered, is_whole, message}
+use Rattle.lapi_reassembly.specs.Partials.{Gathering, partial, gathered}
 use Rattle.lapi_reassembly.specs.declared.message.Message.{Message}
+use Rattle.lapi_reassembly.specs.declared.put.Put.{Put}
+use Rattle.lapi_reassembly.specs.declared.put.Put.TheVariants as puts
 use Rattle.lapi_link.specs.declared.arrival.Arrival.{Arrival}
 use Rattle.lapi_link.specs.declared.arrival.Arrival.TheVariants.{Repeat, Part, Whole}
 
@@ -52,18 +53,19 @@ module _ (script : Script) where
   unfoldable pub partial_of : List Packet → MsgName → Option Gathered
   partial_of ps m = partial_by ps m (packet_of ps m)
 
-  -- The end is that of a link on which these packets were handed over.
+  -- The end is that of a link on which these packets were handed over, with numbers that are small enough for a least one that is missing.
   pub record ReceivesFor (s : ReceivingEnd) (ps : List Packet) : Type 0 where
     pub window : s.window.window ≡ window_of script
     pub sizes : (s.partials.names ≡ window_of script) × (s.partials.unit ≡ unit_of script)
     pub taken : (n : ℕ) → is_taken s.window n ≡ has_number ps n
+    pub numbers : (n : ℕ) → has_number ps n ≡ true → n < 2 ^ 22
     pub partials : (m : MsgName) → partial s.partials m ≡ partial_of ps m
 
   -- some packet of the message is there, and not all
   abbrev pub IsPartOnly : List Packet → MsgName → Type 0
   IsPartOnly ps m = (p : DataPacket) × (packet_of ps m ≡ Some p) × (is_complete ps m p.length ≡ false)
 
-  -- A packet may come to these: its fragment is one of its message, and its head and length are those of the message's packets that came before;
+  -- A packet may come to these: its fragment is one of its message, and its head and length are those of the message's packets that came before, and its payload that of those with its fragment;
   pub record Fits (ps : List Packet) (p : DataPacket) : Type 0 where
     pub number : p.seq < 2 ^ 22
     pub reach : p.seq < least_number ps + window_of script
@@ -71,6 +73,7 @@ module _ (script : Script) where
     pub fragment : p.fragment < count_of script p.length
     pub payload : length p.payload ≡ min (unit_of script) (p.length - unit_of script * p.fragment)
     pub heads : (k : ℕ) (q : DataPacket) → slice_get ps k ≡ Some (Data q) → q.name ≡ p.name → (q.head ≡ p.head) × (q.length ≡ p.length)
+    pub payloads : (k : ℕ) (q : DataPacket) → slice_get ps k ≡ Some (Data q) → q.name ≡ p.name → q.fragment ≡ p.fragment → q.payload ≡ p.payload
     -- with a known number it is one of them; with a new one its message is open, its fragment hasn't come, and where it is the first of its message, there is room for one more.
     pub known : IsKnown p ps
     pub open_message : has_number ps p.seq ≡ false → is_complete ps p.name p.length ≡ false
@@ -83,3 +86,16 @@ module _ (script : Script) where
 
   unfoldable pub arrival_of : List Packet → DataPacket → Arrival
   arrival_of ps p = cond (has_number ps p.seq) Repeat (cond (is_complete (Data p ∷ ps) p.name p.length) (Whole (message_of ps p)) Part)
+
+-- What comes of a packet, by what has come of its message with it, and by what came of its fragment.
+abbrev pub gathered_with : Gathering → DataPacket → Gathered
+gathered_with s p = gathered s p.name p.head p.length p.fragment p.payload
+
+abbrev pub arrival_with : Gathered → Arrival
+arrival_with g = cond (is_whole g) (Whole (message g)) Part
+
+abbrev pub arrival_by : Put → Arrival
+arrival_by puts.First = Part
+arrival_by puts.More = Part
+arrival_by (puts.Whole m) = Whole m
+arrival_by (puts.FirstWhole m) = Whole m

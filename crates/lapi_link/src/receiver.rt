@@ -1,17 +1,20 @@
-ghost use Rattle.std.specs.Prelude.{◌≡◌, ℕ, ◌+◌, ◌∷◌, List, [], IfOk, OnOk};
+ghost use Rattle.std.specs.Prelude.{◌≡◌, ◌≢◌, ◌⊎◌, ℕ, ◌+◌, ◌*◌, ◌<◌, ◌≤◌, ◌∷◌, true, List, [], IfOk, OnOk};
 ghost use Rattle.lapi_base.specs.declared.script.Script.{Script};
 ghost use Rattle.lapi_base.specs.declared.packet.Packet.{Packet};
 ghost use Rattle.lapi_base.specs.declared.packet.Packet.TheVariants.{Data};
+ghost use Rattle.lapi_base.specs.declared.message.MsgName.{MsgName};
 ghost use Rattle.lapi_base.specs.Below.{bits_of};
+ghost use Rattle.lapi_base.specs.Fragments.{fragments_in, IsPayload};
 ghost use Rattle.lapi_base.specs.Layout.{window_of, unit_of};
 ghost use Rattle.lapi_base.specs.Record.{has_number};
 ghost use Rattle.lapi_base.specs.Arrived.{least_number};
-ghost use Rattle.lapi_link.specs.Receiver.{ReceivesFor, Fits, arrival_of};
+ghost use Rattle.lapi_reassembly.specs.Partials.{partial, is_there, HasRoom, Agrees, IsMissing, kept_of};
+ghost use Rattle.lapi_link.specs.Receiver.{ReceivesFor, Fits, arrival_of, arrival_by, arrival_with, gathered_with};
 
 use crate::arrival::Arrival;
 use lapi_base::{DataPacket, Memory};
-use lapi_reassembly::Partials;
-use lapi_window::RecvWindow;
+use lapi_reassembly::{Partials, Put};
+use lapi_window::{RecvWindow, Took};
 use std::alloc::Global;
 use std::marker::Model;
 
@@ -35,24 +38,26 @@ impl Receiver {
     pub fn new(alloc: Global) -> Result<Receiver, Memory>
         ensures { IfOk result (λ made. (script : Script) → window_of script ≡ 32 → unit_of script ≡ 256 → ReceivesFor script made []) }
     {
-        let _ = alloc;
-        Err(Memory)
+        let window = RecvWindow::new();
+        let partials = Partials::new(alloc)?;
+        Ok(Receiver { window, partials })
     }
 
     /// Takes a packet that was handed over.
-    pub fn arrive(&mut self, _alloc: Global, packet: &DataPacket) -> Result<Arrival, Memory>
+    pub fn arrive(&mut self, alloc: Global, packet: &DataPacket) -> Result<Arrival, Memory>
         requires { (script : Script) × (ps : List Packet) × ReceivesFor script self.old ps × Fits script ps packet.now }
         ensures kept { OnOk result ((script : Script) (ps : List Packet) → ReceivesFor script self.old ps → Fits script ps packet.now → ReceivesFor script self.new (Data packet.now ∷ ps)) }
         ensures arrival { IfOk result (λ arrival. (script : Script) (ps : List Packet) → ReceivesFor script self.old ps → Fits script ps packet.now → arrival ≡ arrival_of script ps packet.now) }
     {
-        let _packet = packet;
-        Err(Memory)
+        match self.window.take(packet.seq) {
+            Took::Fresh => put(&mut self.partials, alloc, packet),
+            Took::Repeat | Took::Beyond => Ok(Arrival::Repeat),
+        }
     }
 
     /// The least number that was not taken, and which of the next ones were.
     pub fn ack(&self) -> (u32, u32)
-        requires stub { ⊥ }
-        requires real { (script : Script) × (ps : List Packet) × (window_of script ≡ 32) × ReceivesFor script self.now ps }
+        requires { (script : Script) × (ps : List Packet) × (window_of script ≡ 32) × ReceivesFor script self.now ps }
         ensures { (script : Script) (ps : List Packet) → ReceivesFor script self.now ps → (result.0 ≡ least_number ps) × (result.1 ≡ bits_of (window_of script) (λ i. has_number ps (least_number ps + i))) }
     {
         self.window.ack()
@@ -70,5 +75,38 @@ impl Receiver {
         ensures { result.now ≡ self.now.partials }
     {
         &self.partials
+    }
+}
+
+// Puts a fragment that has not come before to those of its message.
+fn put(partials: &mut Partials, alloc: Global, packet: &DataPacket) -> Result<Arrival, Memory>
+    requires message { Agrees partials.old packet.now.name packet.now.head packet.now.length }
+    requires fragment { (packet.now.length ≤ 64 * partials.old.unit) × (packet.now.fragment < fragments_in partials.old.unit packet.now.length) }
+    requires missing { IsMissing partials.old packet.now.name packet.now.fragment }
+    requires payload { IsPayload partials.old.unit packet.now.length packet.now.fragment packet.now.payload }
+    requires room { (is_there partials.old packet.now.name ≡ true) ⊎ HasRoom partials.old }
+    ensures answer { IfOk result (λ arrival. arrival ≡ arrival_with (gathered_with partials.old packet.now)) }
+    ensures name { OnOk result (partial partials.new packet.now.name ≡ kept_of (gathered_with partials.old packet.now)) }
+    ensures others { (other : MsgName) → other ≢ packet.now.name → partial partials.new other ≡ partial partials.old other }
+    ensures sizes { (partials.new.names ≡ partials.old.names) × (partials.new.unit ≡ partials.old.unit) }
+{
+    let put = partials.put(
+        alloc,
+        packet.name,
+        &packet.head,
+        packet.length,
+        packet.fragment,
+        packet.payload.as_slice(),
+    )?;
+    Ok(arrival_by(put))
+}
+
+// What comes of a packet, as what comes of its fragment tells.
+fn arrival_by(put: Put) -> Arrival
+    ensures { result ≡ arrival_by put }
+{
+    match put {
+        Put::First | Put::More => Arrival::Part,
+        Put::Whole(message) | Put::FirstWhole(message) => Arrival::Whole(message),
     }
 }

@@ -1,9 +1,9 @@
-ghost use Rattle.std.specs.Prelude.{◌≡◌, ℕ, ◌+◌, ◌<◌, ◌≤◌, ◌==◌, ◌&&◌, true, [], ◌++◌, length, take, IfOk, OnOk};
+ghost use Rattle.std.specs.Prelude.{◌≡◌, ℕ, ◌+◌, ◌<◌, ◌≤◌, ◌==◌, ◌&&◌, true, [], ◌∷◌, ◌++◌, length, take, IfOk, OnOk};
 ghost use Rattle.lapi_window.specs.NumberSet.{is_covered};
-ghost use Rattle.lapi_window.specs.SendWindow.{sent_count, unacked};
+ghost use Rattle.lapi_window.specs.SendWindow.{MaySend, sent_count, unacked};
 ghost use Rattle.lapi_link.specs.Sender.{IsFresh, appended, sendable, sent, kept, entries_to, IsAcked};
 
-use lapi_base::{Bytes, Entries, Memory};
+use lapi_base::{Bytes, Entries, Frame, Memory, WireEntry};
 use lapi_window::SendWindow;
 use std::alloc::Global;
 use std::collections::VecDeque;
@@ -44,25 +44,49 @@ impl Sender {
         requires { length packet ≤ 640 }
         ensures { OnOk result (self.new ≡ appended self.old packet) }
     {
-        let _ = packet;
-        Err(Memory)
+        if self.window.numbers() == u32::MAX {
+            return Err(Memory);
+        }
+        self.waiting.push_back(packet)?;
+        self.window.append(1);
+        Ok(())
     }
 
     /// Sends what the window allows of the packets that wait.
-    pub fn send(&mut self, to: u32, _entries: &mut Entries) -> Result<(), Memory>
+    pub fn send(&mut self, to: u32, entries: &mut Entries) -> Result<(), Memory>
         ensures sent { OnOk result (self.new ≡ sent self.old (sendable self.old)) }
-        ensures entries { OnOk result (_entries.new ≡ _entries.old ++ entries_to to (take (sendable self.old) self.old.waiting)) }
+        ensures entries { OnOk result (entries.new ≡ entries.old ++ entries_to to (take (sendable self.old) self.old.waiting)) }
     {
-        let _ = to;
-        Err(Memory)
+        for _ in 0..self.window.room() {
+            let entry = self.send_next(to);
+            entries.push(entry)?;
+        }
+        Ok(())
+    }
+
+    // Sends the packet that has waited longest.
+    fn send_next(&mut self, to: u32) -> WireEntry
+        requires { MaySend self.old.window }
+        ensures sent { self.new ≡ sent self.old 1 }
+        ensures entry { entries_to to (take 1 self.old.waiting) ≡ result ∷ [] }
+    {
+        let bytes = self.waiting.pop_front().unwrap();
+        let mut frame = Frame::new();
+        frame.extend_from_slice(bytes.as_slice());
+        self.window.sent(&frame);
+        WireEntry { to, bytes }
     }
 
     /// Sends again what was sent and is not acknowledged.
-    pub fn resend(&self, _alloc: Global, to: u32, _entries: &mut Entries) -> Result<(), Memory>
-        ensures { OnOk result (_entries.new ≡ _entries.old ++ entries_to to (kept self.now)) }
+    pub fn resend(&self, alloc: Global, to: u32, entries: &mut Entries) -> Result<(), Memory>
+        ensures { OnOk result (entries.new ≡ entries.old ++ entries_to to (kept self.now)) }
     {
-        let _ = to;
-        Err(Memory)
+        for i in 0..self.window.unacked_len() {
+            let (_, frame) = self.window.unacked(i);
+            let bytes = Bytes::from_slice(alloc, frame.as_slice())?;
+            entries.push(WireEntry { to, bytes })?;
+        }
+        Ok(())
     }
 
     /// Notes what an acknowledgement covers.

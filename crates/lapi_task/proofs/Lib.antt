@@ -1,1 +1,16 @@
+pub mod Apart
+pub mod CopyLists
+pub mod Forms
 pub mod Jobless
+pub mod Lists
+pub mod NewStands
+pub mod Packets
+pub mod PutPackets
+pub mod ReasonForms
+pub mod ReceiveCounts
+pub mod SenderLaws
+pub mod StepFields
+pub mod StepLaws
+pub mod StepMemories
+pub mod StillLaws
+pub mod TickLaws

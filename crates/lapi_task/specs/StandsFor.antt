@@ -46,5 +46,7 @@ pub record HoldsFor (script : Script) (t : ℕ) (task : Task) (J : List Event) :
 -- and so are the ends of its links
 pub record StandsFor (script : Script) (t : ℕ) (task : Task) (r : Run) : Type 0 where
   pub holds : HoldsFor script t task r.journal
+  pub sender_count : length task.senders.items ≡ script.tasks
+  pub receiver_count : length task.receivers.items ≡ script.tasks
   pub senders : (b : ℕ) → b < script.tasks → SenderAt script r t b (slice_get task.senders.items b)
   pub receivers : (a : ℕ) → a < script.tasks → ReceiverAt script (r.handed a t) (slice_get task.receivers.items a)

@@ -1,10 +1,17 @@
 //! One task as the endpoint of its links: its statements, its memory, its counters, and what it sends and receives.
 #![tactic(auto)]
 
+mod counting;
+mod law;
 mod outcome;
+mod packet;
+mod put;
+mod reason;
 mod received;
+mod statement;
 mod task;
 
+pub use law::tasks_stay_apart;
 pub use outcome::Outcome;
 pub use received::Received;
 pub use task::Task;

@@ -2,9 +2,14 @@ use lapi_base::Refusal;
 use lapi_counters::Counters;
 use lapi_link::{Receiver, Sender};
 use lapi_memory::TaskMemory;
+use std::collections::VecDeque;
 
 mod calls;
+mod copying;
 mod lends;
+mod polling;
+mod stepping;
+mod ticking;
 
 /// One task. After a call has answered Memory it is used no more.
 #[derive(Drop)]
@@ -17,7 +22,7 @@ pub struct Task {
     reads: Vec<(u32, u64)>,
     refusals: Vec<(u32, Refusal)>,
     /// The statements whose data are to be copied by the next poll, rising.
-    uncopied: Vec<u32>,
+    uncopied: VecDeque<u32>,
     /// The links to each task.
     senders: Vec<Sender>,
     /// The links from each task.

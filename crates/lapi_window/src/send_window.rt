@@ -1,4 +1,4 @@
-ghost use Rattle.std.specs.Prelude.{◌≡◌, ℕ, ◌+◌, ◌^◌, ◌<◌, ◌≤◌, ◌↔◌, ◌⊎◌, IsTrue, IsNone, IsSome, IfSome, IfOk, true, false, ◌||◌, ◌∷◌, [], ◌++◌, length, slice_get, Some};
+ghost use Rattle.std.specs.Prelude.{◌≡◌, ℕ, ◌+◌, ◌-◌, ◌^◌, ◌<◌, ◌≤◌, min, ◌↔◌, ◌⊎◌, IsTrue, IsNone, IsSome, IfSome, IfOk, true, false, ◌||◌, ◌∷◌, [], ◌++◌, length, slice_get, Some};
 ghost use Rattle.lapi_window.specs.NumberSet.{is_covered};
 ghost use Rattle.lapi_window.specs.SendWindow.{sent_count, is_acked, base_of, bytes_of, unacked, MaySend};
 
@@ -61,6 +61,21 @@ impl SendWindow {
         ensures { self.new ≡ record self.old { numbers = self.old.numbers + n } }
     {
         self.numbers += n;
+    }
+
+    /// How many numbers there are.
+    pub fn numbers(&self) -> u32
+        ensures { result ≡ self.now.numbers }
+    {
+        self.numbers
+    }
+
+    /// How many more numbers may be sent now.
+    pub fn room(&self) -> u32
+        ensures { result ≡ min (self.now.numbers - sent_count self.now) (base_of self.now + self.now.window - sent_count self.now) }
+    {
+        let unsent = self.numbers - self.sent_end();
+        unsent.min(self.window - self.packets.len() as u32)
     }
 
     /// The least number that was not sent, if it may be sent now.

@@ -3,7 +3,7 @@ ghost use Rattle.std.specs.Prelude.{◌≡◌, ℕ, ◌<◌, ◌∷◌, [], ◌+
 ghost use Rattle.lapi_base.specs.declared.script.Script.{Script as TheScript};
 ghost use Rattle.lapi_base.specs.declared.packet.Packet.{Packet};
 ghost use Rattle.lapi_base.specs.declared.reply.Bad.{Bad};
-ghost use Rattle.lapi_base.specs.Record.{Run, start, step, poll, tick, deliver};
+ghost use Rattle.lapi_base.specs.Record.{Run, start, step, poll, deliver};
 ghost use Rattle.lapi_base.specs.Seen.{no_rules};
 ghost use Rattle.lapi_base.specs.Spelling.{Spells, decoded};
 ghost use Rattle.lapi_task.specs.Performed.{IsPerformed};
@@ -17,39 +17,16 @@ use lapi_base::{Memory, Reply, Script};
 use std::alloc::Global;
 
 impl Task {
-    /// A task of the script before its first line.
-    pub fn new(_alloc: Global, script: &Script, task: u32) -> Result<Task, Memory>
-        requires script { IsPerformed script.now }
-        requires task { task < script.now.tasks }
-        ensures { IfOk result (λ made. StandsFor script.now task made start) }
-    {
-        let _script = script;
-        let _ = task;
-        Err(Memory)
-    }
-
-    /// Performs the next statement, if its condition holds.
-    pub fn step(&mut self, _script: &Script, _out: &mut Outcome) -> Result<Reply, Memory>
-        requires script { IsPerformed _script.now }
-        requires record { IsAtSome _script.now self.old }
-        ensures does { OnOk result ((t : ℕ) (r : Run) → IsAt _script.now t self.old r → Does _script.now t r (step _script.now no_rules r t) self.new _out.old _out.new) }
-        ensures reply { IfOk result (λ reply. (t : ℕ) (r : Run) → IsAt _script.now t self.old r → (step _script.now no_rules r t).replies ≡ r.replies ++ reply ∷ []) }
-    {
-        Err(Memory)
-    }
-
     /// Copies what was issued, and sends what the windows allow.
-    pub fn poll(&mut self, _alloc: Global, _script: &Script, _out: &mut Outcome) -> Result<(), Memory>
+    pub fn poll(
+        &mut self,
+        _alloc: Global,
+        _script: &Script,
+        _out: &mut Outcome,
+    ) -> Result<(), Memory>
         requires script { IsPerformed _script.now }
         requires record { IsAtSome _script.now self.old }
         ensures { OnOk result ((t : ℕ) (r : Run) → IsAt _script.now t self.old r → Does _script.now t r (poll _script.now no_rules r t) self.new _out.old _out.new) }
-    {
-        Err(Memory)
-    }
-
-    /// Sends again what was sent and is not acknowledged.
-    pub fn tick(&mut self, _alloc: Global, _out: &mut Outcome) -> Result<(), Memory>
-        ensures { OnOk result ((script : TheScript) (t : ℕ) (r : Run) → IsPerformed script → IsAt script t self.old r → Does script t r (tick script no_rules r t) self.new _out.old _out.new) }
     {
         Err(Memory)
     }

@@ -1,10 +1,8 @@
 //! What a task tells of itself, and the parts that it lends.
-ghost use Rattle.std.specs.Prelude.{◌≡◌, ℕ, ◌<◌, ◌&&◌, length, slice_index};
+ghost use Rattle.std.specs.Prelude.{◌≡◌, ℕ, ◌<◌, length, slice_index};
 ghost use Rattle.lapi_base.specs.declared.script.Script.{Script};
 ghost use Rattle.lapi_base.specs.declared.message.MsgName.{MsgName};
-ghost use Rattle.lapi_base.specs.Below.{every_below};
 ghost use Rattle.lapi_base.specs.Counters.{count, reads};
-ghost use Rattle.lapi_base.specs.Final.{is_idle, is_settled};
 ghost use Rattle.lapi_base.specs.Jobs.{queue, busy};
 ghost use Rattle.lapi_base.specs.Record.{Run, is_delivered};
 ghost use Rattle.lapi_base.specs.Refusals.{next, refusals};
@@ -13,10 +11,8 @@ ghost use Rattle.lapi_base.specs.Values.{memory_bytes};
 ghost use Rattle.lapi_window.specs.RecvWindow.{is_taken};
 ghost use Rattle.lapi_reassembly.specs.Partials.{partial};
 ghost use Rattle.lapi_link.specs.Receiver.{partial_of};
-ghost use Rattle.lapi_task.specs.Performed.{IsPerformed};
 ghost use Rattle.lapi_task.specs.Sends.{HasNumbers};
 ghost use Rattle.lapi_task.specs.StandsFor.{StandsFor};
-ghost use Rattle.lapi_task.specs.Does.{IsAt};
 
 use crate::task::Task;
 use lapi_base::Refusal;
@@ -73,14 +69,6 @@ impl Task {
         ensures { (script : Script) (t : ℕ) (r : Run) → StandsFor script t self.now r → result ≡ length (busy script r.journal t) }
     {
         0
-    }
-
-    /// Whether all that was sent is acknowledged, no job waits or runs, and a poll would add nothing.
-    pub fn still(&self) -> bool
-        requires { ⊥ }
-        ensures { (script : Script) (t : ℕ) (r : Run) → IsPerformed script → IsAt script t self.now r → result ≡ (is_idle script no_rules r t && every_below script.tasks (is_settled script no_rules r t)) }
-    {
-        unreachable!()
     }
 
     /// The numbers of the link to task `b`.

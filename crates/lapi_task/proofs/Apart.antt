@@ -1,0 +1,147 @@
+-- A line at another task leaves a task's part of the record, and by its part it stands for the record.
+use Rattle.std.proofs.Common.{◌≡◌, ℕ, ◌==◌, false, cond, not, ◌&&◌, List, [], ◌∷◌, ◌++◌, length, map, Option, Some, None, refl, sym, ap, ◌∙◌, subst}
+use Rattle.std.specs.Prelude.{slice_get, option_map}
+use Rattle.std.proofs.lemmas.List.{append-nil}
+use Rattle.lapi_base.specs.declared.script.Script.{Script}
+use Rattle.lapi_base.specs.declared.refusal.Refusal.{Refusal}
+use Rattle.lapi_base.specs.declared.message.Leg.TheVariants.{Go}
+use Rattle.lapi_base.specs.declared.message.MsgName.{MsgName}
+use Rattle.lapi_base.specs.declared.event.Event.{Event}
+use Rattle.lapi_base.specs.declared.event.Event.TheVariants.{Issue, Refuse, Enter, Pass, Copy, Head, Land, Begin, End}
+use Rattle.lapi_base.specs.declared.packet.Packet.{Packet}
+use Rattle.lapi_base.specs.Below.{below}
+use Rattle.lapi_base.specs.ByPart.{SameStatements, SameLinks}
+use Rattle.lapi_base.specs.Names.{Issued, Copied, done, message}
+use Rattle.lapi_base.specs.Operations.{upto, statements, statement, is_data}
+use Rattle.lapi_base.specs.Packets.{data_packet}
+use Rattle.lapi_base.specs.Record.{Run, out, has_number, has_ack}
+use Rattle.lapi_base.specs.Refusals.{refusals}
+use Rattle.lapi_base.specs.Seen.{no_rules, performed, IsRecord}
+use Rattle.lapi_base.specs.TaskPart.{is_at, events_at, part_at}
+use Rattle.lapi_base.specs.Values.{values, memory_bytes}
+use Rattle.lapi_base.specs.Written as written
+use Rattle.lapi_laws.proofs.Out.{out-copied}
+use Rattle.lapi_link.specs.Sender.{SendingEnd}
+use Rattle.lapi_parts.proofs.ExactBytes.{record-exact}
+use Rattle.lapi_parts.proofs.LinesTaken.{more-record}
+use Rattle.lapi_parts.proofs.LocalEvents.{folds}
+use Rattle.lapi_parts.proofs.LocalQuestions.{by_points}
+use Rattle.lapi_parts.proofs.OtherTasks.{others-stay}
+use Rattle.lapi_parts.proofs.Records.{record-sound}
+use Rattle.lapi_parts.proofs.SameParts.{SamePart, same-part, bytes-same, told-statements, told-links, told-jobs, told-memory}
+use Rattle.lapi_task.specs.declared.task.Task.{Task}
+use Rattle.lapi_task.specs.Apart.{TasksStayApart}
+use Rattle.lapi_task.specs.Sends.{SendsFor, packet_at, spelled}
+use Rattle.lapi_task.specs.StandsFor.{is_uncopied, SenderAt, ReceiverAt, HoldsFor, StandsFor}
+
+module _ (script : Script) (t : ℕ) where
+  refusals-step : Event → List (ℕ × Refusal) → List (ℕ × Refusal)
+  refusals-step (Refuse a i why) xs = xs ++ cond (a == t) ((i, why) ∷ []) []
+  refusals-step _ xs = xs
+
+  refusals-steps : (e : Event) (J : List Event) → refusals (e ∷ J) t ≡ refusals-step e (refusals J t)
+  unfolding refusals refusals-step
+  refusals-steps (Issue a i) J = refl
+  refusals-steps (Refuse a i why) J = refl
+  refusals-steps (Enter a i) J = refl
+  refusals-steps (Pass a i) J = refl
+  refusals-steps (Copy m) J = refl
+  refusals-steps (Head m) J = refl
+  refusals-steps (Land m) J = refl
+  refusals-steps (Begin m a w) J = refl
+  refusals-steps (End m a w) J = refl
+
+  refusals-others : (e : Event) (xs : List (ℕ × Refusal)) → is_at script t e ≡ false → refusals-step e xs ≡ xs
+  unfolding refusals-step
+  refusals-others (Refuse a i why) xs h = ap (λ b. xs ++ cond b ((i, why) ∷ []) []) h ∙ append-nil xs
+  refusals-others (Issue a i) xs h = refl
+  refusals-others (Enter a i) xs h = refl
+  refusals-others (Pass a i) xs h = refl
+  refusals-others (Copy m) xs h = refl
+  refusals-others (Head m) xs h = refl
+  refusals-others (Land m) xs h = refl
+  refusals-others (Begin m a w) xs h = refl
+  refusals-others (End m a w) xs h = refl
+
+  refusals-local : (J : List Event) → refusals (events_at script t J) t ≡ refusals J t
+  refusals-local J = folds script t (λ K. refusals K t) refusals-step refusals-steps refusals-others J
+
+  -- Two records with the same part at the task.
+  module _ (r s : Run) (ir : IsRecord script no_rules r) (is : IsRecord script no_rules s) (e : part_at script t r ≡ part_at script t s) where
+    same : SamePart script no_rules t r s
+    same = same-part script no_rules t r s e
+
+    acts : SameStatements script no_rules t r s
+    acts = told-statements script no_rules t r s ir is e
+
+    links : SameLinks script no_rules t r s
+    links = told-links script no_rules t r s ir is e
+
+    refusals-same : refusals r.journal t ≡ refusals s.journal t
+    refusals-same = sym (refusals-local r.journal) ∙ ap (λ K. refusals K t) same.events ∙ refusals-local s.journal
+
+    uncopied-same : is_uncopied script r.journal t ≡ is_uncopied script s.journal t
+    uncopied-same =
+        by_points _ _ (λ i.
+        ap (λ x. is_data (statement script t i) && (x && not (done (Copied (message t i Go)) r.journal))) (acts.happened (Issued t i) refl)
+        ∙ ap (λ x. is_data (statement script t i) && (done (Issued t i) s.journal && not x)) (acts.happened (Copied (message t i Go)) refl))
+
+    memory-same : memory_bytes script no_rules r.journal t ≡ memory_bytes script no_rules s.journal t
+    unfolding memory_bytes
+    memory-same = ap (λ (f : ℕ → ℕ). map f (upto script.memory)) (by_points ((values script no_rules r.journal).memory t) ((values script no_rules s.journal).memory t) (told-memory script no_rules t r s ir is e))
+
+    pub holds-same : (task : Task) → HoldsFor script t task r.journal → HoldsFor script t task s.journal
+    holds-same task h = record {
+      number = h.number;
+      next = h.next ∙ acts.next;
+      ahead = λ i le. sym (acts.happened (Issued t i) refl) ∙ h.ahead i le;
+      reads = h.reads ∙ acts.reads;
+      refusals = h.refusals ∙ refusals-same;
+      memory = h.memory ∙ memory-same;
+      counter_count = h.counter_count;
+      counters = λ c lt. h.counters c lt ∙ acts.counters c;
+      uncopied = h.uncopied ∙ ap (below (length (statements script t))) uncopied-same;
+      jobless = λ w. let jobs = told-jobs script no_rules t r s ir is e in sym (jobs.running w) ∙ h.jobless w;
+    }
+
+    -- the packet of a number
+    packet-same : (b n : ℕ) → packet_at script r.journal t b n ≡ packet_at script s.journal t b n
+    unfolding packet_at
+    packet-same b n = ap (λ (pairs : List (MsgName × ℕ)). option_map (spelled script r.journal n) (slice_get pairs n)) (links.numbers b) ∙ one (slice_get (out script s.journal t b) n) refl
+      where
+        one : (o : Option (MsgName × ℕ)) → slice_get (out script s.journal t b) n ≡ o → option_map (spelled script r.journal n) o ≡ option_map (spelled script s.journal n) o
+        one None at = refl
+        one (Some pair) at =
+            let bytes = bytes-same script no_rules t r s same (record-sound script no_rules r ir) (record-exact script no_rules r ir) (record-sound script no_rules s is) (record-exact script no_rules s is) pair.0 (out-copied script s.journal t b n pair at).1 in
+            ap (λ (bs : List ℕ). Some (written.packet (data_packet script pair.0 n pair.1 bs))) bytes
+
+    sends-same : (end : SendingEnd) (b : ℕ) → SendsFor script end r t b → SendsFor script end s t b
+    sends-same end b h = record {
+      numbers = record {
+        size = h.numbers.size;
+        numbers = h.numbers.numbers ∙ ap (λ (pairs : List (MsgName × ℕ)). length pairs) (links.numbers b);
+        sent = λ n. sym (ap (λ (ps : List Packet). has_number ps n) (same.put b)) ∙ h.numbers.sent n;
+        acked = λ n. sym (ap (λ (ps : List Packet). has_ack ps n) (same.handed b)) ∙ h.numbers.acked n;
+      };
+      whole = h.whole;
+      kept = λ n lt left. h.kept n lt left ∙ packet-same b n;
+      waiting = λ i. h.waiting i ∙ packet-same b _;
+    }
+
+    sender-same : (b : ℕ) (o : Option SendingEnd) → SenderAt script r t b o → SenderAt script s t b o
+    sender-same b None h = absurd h
+    sender-same b (Some end) h = sends-same end b h
+
+    pub stands-same : (task : Task) → StandsFor script t task r → StandsFor script t task s
+    stands-same task h = record {
+      holds = holds-same task h.holds;
+      sender_count = h.sender_count;
+      receiver_count = h.receiver_count;
+      senders = λ b lt. sender-same b (slice_get task.senders.items b) (h.senders b lt);
+      receivers = λ a lt. subst (λ (ps : List Packet). ReceiverAt script ps (slice_get task.receivers.items a)) (same.handed a) (h.receivers a lt);
+    }
+
+pub stays-apart : TasksStayApart
+stays-apart script t task r act p h valid apart =
+    let s = performed script no_rules r act in
+    stands-same script t r s h.recorded (more-record script no_rules r act h.recorded valid) (sym (others-stay script no_rules r h.recorded act t apart)) task h.stands

@@ -1,0 +1,93 @@
+-- A task before its first statement.
+use Rattle.std.proofs.Common.{◌≡◌, ℕ, zero, suc, ◌+◌, ◌<◌, ◌==◌, Bool, true, false, not, ◌&&◌, List, [], ◌∷◌, length, replicate, Some, None, refl, sym, ap, ◌∙◌, subst, arith}
+use Rattle.std.specs.Prelude.{slice_get, slice_index, nat_lt}
+use Rattle.std.specs.List.{AllByRecursion}
+use Rattle.std.proofs.lemmas.Bool.{and_right, le-ltb}
+use Rattle.std.proofs.lemmas.List.{length-replicate, get_or-replicate}
+use Rattle.lapi_base.specs.declared.script.Script.{Script}
+use Rattle.lapi_base.specs.declared.message.Leg.TheVariants.{Go}
+use Rattle.lapi_base.specs.Counters.{count, reads}
+use Rattle.lapi_base.specs.Jobs.{runs}
+use Rattle.lapi_base.specs.Layout.{window_of, unit_of}
+use Rattle.lapi_base.specs.Names.{message, done, Issued, Copied}
+use Rattle.lapi_base.specs.Operations.{statements, statement, is_data}
+use Rattle.lapi_base.specs.Record.{start, out, has_number, has_ack}
+use Rattle.lapi_base.specs.Refusals.{next, refusals}
+use Rattle.lapi_base.specs.Seen.{no_rules}
+use Rattle.lapi_laws.proofs.Out.{all-get}
+use Rattle.lapi_link.specs.Receiver.{ReceivingEnd}
+use Rattle.lapi_link.specs.Sender.{SendingEnd, IsFresh}
+use Rattle.lapi_window.proofs.Sets.{below-none}
+use Rattle.lapi_task.specs.declared.task.Task.{Task}
+use Rattle.lapi_task.specs.Sends.{packet_at, SendsFor}
+use Rattle.lapi_task.specs.StandsFor.{SenderAt, ReceiverAt, is_uncopied, HoldsFor, StandsFor}
+use Rattle.lapi_task.specs.Steps.{IsBlank}
+use Rattle.lapi_task.proofs.StepMemories.{memory-blank}
+
+get-some : {X : Type 0} (xs : List X) (n : ℕ) → n < length xs → (x : X) × (slice_get xs n ≡ Some x)
+get-some [] n l = absurd (omega arith)
+get-some (x ∷ xs) zero l = (x, refl)
+get-some (x ∷ xs) (suc n) l = get-some xs n (let q : n < length xs = omega arith in q)
+
+-- the task has done nothing
+pub record IsNew (script : Script) (t : ℕ) (task : Task) : Type 0 where
+  pub number : task.number ≡ t
+  pub next : task.next ≡ 0
+  pub memory : task.memory ≡ replicate script.memory 0
+  pub counters : task.counters ≡ replicate script.counters 0
+  pub reads : task.reads.items ≡ []
+  pub refusals : task.refusals.items ≡ []
+  pub uncopied : task.uncopied.items ≡ []
+  pub senders : (length task.senders.items ≡ script.tasks) × AllByRecursion IsFresh task.senders.items
+  pub receivers : (length task.receivers.items ≡ script.tasks) × AllByRecursion IsBlank task.receivers.items
+
+module _ (script : Script) where
+  layout : (window_of script ≡ 32) × (unit_of script ≡ 256)
+  unfolding window_of unit_of
+  layout = (refl, refl)
+
+  nothing-uncopied : (t k : ℕ) → is_uncopied script [] t k ≡ false
+  unfolding done
+  nothing-uncopied t k = and_right (is_data (statement script t k)) false refl
+
+  new-holds : (t : ℕ) (task : Task) → IsNew script t task → HoldsFor script t task []
+  unfolding next done reads refusals count runs
+  new-holds t task h = record {
+    number = h.number;
+    next = h.next;
+    ahead = λ i l. refl;
+    reads = h.reads;
+    refusals = h.refusals;
+    memory = h.memory ∙ memory-blank script t;
+    counter_count = ap length h.counters ∙ length-replicate script.counters 0;
+    counters = λ c l. ap (λ xs. slice_index xs c) h.counters ∙ get_or-replicate script.counters c 0 0 l;
+    uncopied = h.uncopied ∙ sym (below-none (length (statements script t)) (is_uncopied script [] t) (λ k _. nothing-uncopied t k));
+    jobless = λ w. refl;
+  }
+
+  fresh-sends : (a b : ℕ) (s : SendingEnd) → IsFresh s → SendsFor script s start a b
+  unfolding out has_number has_ack packet_at
+  fresh-sends a b s h = record {
+    numbers = record {
+      size = h.size ∙ sym layout.0;
+      numbers = h.numbers;
+      sent = λ n. sym (ap (nat_lt n) h.sent ∙ le-ltb n 0 (omega arith));
+      acked = λ n. sym (h.acked n);
+    };
+    whole = let sent = h.sent in let none = ap length h.waiting in let numbers = h.numbers in omega (arith, sent, none, numbers);
+    kept = λ n l u. let sent = h.sent in absurd (omega (arith, l, sent));
+    waiting = λ i. ap (λ xs. slice_get xs i) h.waiting;
+  }
+
+  pub new-stands : (t : ℕ) (task : Task) → IsNew script t task → StandsFor script t task start
+  new-stands t task h = record {
+    holds = new-holds t task h;
+    sender_count = h.senders.0;
+    receiver_count = h.receivers.0;
+    senders = λ b l.
+        let x = get-some task.senders.items b (let n = h.senders.0 in omega (arith, l, n)) in
+        subst (SenderAt script start t b) (sym x.1) (fresh-sends t b x.0 (all-get IsFresh task.senders.items b x.0 h.senders.1 x.1));
+    receivers = λ a l.
+        let x = get-some task.receivers.items a (let n = h.receivers.0 in omega (arith, l, n)) in
+        subst (ReceiverAt script []) (sym x.1) (all-get IsBlank task.receivers.items a x.0 h.receivers.1 x.1 script layout.0 layout.1);
+  }

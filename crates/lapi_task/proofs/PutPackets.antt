@@ -1,0 +1,37 @@
+-- The packets of a put, one after another.
+use Rattle.std.proofs.Common.{◌≡◌, ℕ, zero, suc, ◌+◌, List, [], ◌∷◌, ◌++◌, map, length, max, refl, sym, ap, ◌∙◌, subst, arith, append_assoc, add-one}
+use Rattle.std.proofs.lemmas.List.{append-nil, length-append, length-map, map-append}
+use Rattle.std.specs.Int.{div_ceil}
+use Rattle.lapi_base.specs.Fragments.{fragments_in}
+use Rattle.lapi_base.specs.Below.{below}
+use Rattle.lapi_base.specs.Operations.{upto}
+use Rattle.lapi_link.specs.Sender.{SendingEnd, appended}
+use Rattle.lapi_task.specs.Puts.{extended}
+
+pub upto-more : (n : ℕ) → upto (n + 1) ≡ upto n ++ n ∷ []
+unfolding upto below
+upto-more n = rw add-one refl
+
+pub length-upto : (n : ℕ) → length (upto n) ≡ n
+unfolding upto below
+length-upto zero = refl
+length-upto (suc n) = length-append (upto n) (n ∷ []) ∙ (let e = length-upto n in omega (arith, e))
+
+pub extended-none : (s : SendingEnd) (f : ℕ → List ℕ) → s ≡ extended s (map f (upto 0))
+unfolding upto below
+extended-none s f = λ i. record { window = record { window = s.window.window; numbers = sym (let e : s.window.numbers + 0 ≡ s.window.numbers = omega arith in e) i; acked = s.window.acked; packets = s.window.packets }; waiting = sym (append-nil s.waiting) i }
+
+pub extended-more : (s : SendingEnd) (f : ℕ → List ℕ) (n : ℕ) → appended (extended s (map f (upto n))) (f n) ≡ extended s (map f (upto (n + 1)))
+extended-more s f n =
+    let xs = map f (upto n) in
+    let more : map f (upto (n + 1)) ≡ xs ++ f n ∷ [] = ap (map f) (upto-more n) ∙ map-append f (upto n) (n ∷ []) in
+    let count : s.window.numbers + length xs + 1 ≡ s.window.numbers + length (map f (upto (n + 1))) = sym (ap (λ (ys : List (List ℕ)). s.window.numbers + length ys) more ∙ (let e = length-append xs (f n ∷ []) in omega (arith, e))) in
+    let list : (s.waiting ++ xs) ++ f n ∷ [] ≡ s.waiting ++ map f (upto (n + 1)) = append_assoc s.waiting xs (f n ∷ []) ∙ ap (λ (ys : List (List ℕ)). s.waiting ++ ys) (sym more) in
+    λ i. record { window = record { window = s.window.window; numbers = count i; acked = s.window.acked; packets = s.window.packets }; waiting = list i }
+
+pub extended-count : (s : SendingEnd) (f : ℕ → List ℕ) (n : ℕ) → (extended s (map f (upto n))).window.numbers ≡ s.window.numbers + n
+extended-count s f n = ap (λ k. s.window.numbers + k) (length-map (upto n) f ∙ length-upto n)
+
+-- as many as the length says
+pub fragment-count : (len : ℕ) → max (div_ceil len 256) 1 ≡ fragments_in 256 len
+fragment-count len = omega arith

@@ -1,0 +1,95 @@
+-- The statements of a script that is performed: why they are refused, and what they do otherwise.
+use Rattle.std.proofs.Common.{◌≡◌, ℕ, ◌+◌, ◌<◌, ◌≤◌, Bool, true, false, cond, not, ◌||◌, IsTrue, List, [], ◌∷◌, length, get_or, zero, suc, Option, Some, None, refl, sym, ap, ◌∙◌, subst, ⊎_elim, arith, lit≤}
+use Rattle.std.specs.Prelude.{slice_get, nat_le, nat_lt}
+use Rattle.std.specs.List.{AllByRecursion, list_any}
+use Rattle.std.proofs.lemmas.Bool.{false≢true, cases_lt, le-leb, lt-leb, le-ltb, lt-ltb}
+use Rattle.std.proofs.lemmas.Option.{get_or_from_slice_get}
+use Rattle.lapi_base.specs.declared.address.Addr.TheVariants.{Plain, Table}
+use Rattle.lapi_base.specs.declared.statement.Statement.{Statement}
+use Rattle.lapi_base.specs.declared.statement.Statement.TheVariants as statements
+use Rattle.lapi_base.specs.declared.script.Script.{Script}
+use Rattle.lapi_base.specs.declared.refusal.Refusal.TheVariants.{BadTask, BadTargetRange, BadOriginRange, BadCounter, TooLong}
+use Rattle.lapi_base.specs.declared.event.Event.{Event}
+use Rattle.lapi_base.specs.Layout.{longest_of}
+use Rattle.lapi_base.specs.Built.{is_built_statement, IsBuiltList}
+use Rattle.lapi_base.specs.Operations.{statement, address}
+use Rattle.lapi_base.specs.Operations as operations
+use Rattle.lapi_base.specs.Refusals.{first_reason, why_by, why}
+use Rattle.lapi_base.specs.Seen.{no_rules}
+use Rattle.lapi_laws.proofs.Out.{all-get}
+use Rattle.lapi_task.specs.Performed.{IsPerformed, names_no_counter, reason_of}
+
+lt-is-not-le : (a b : ℕ) → nat_lt a b ≡ not (nat_le b a)
+lt-is-not-le a b =
+    ⊎_elim
+    (λ (lt : a < b). lt-ltb a b lt ∙ sym (ap not (lt-leb b a lt)))
+    (λ (ge : b ≤ a). le-ltb a b ge ∙ sym (ap not (le-leb b a ge)))
+    (cases_lt a b)
+
+module _ (script : Script) (J : List Event) (a i : ℕ) where
+  why-store : (at : ℕ) (bytes : List ℕ) → statement script a i ≡ statements.Store at bytes → why script no_rules J a i ≡ reason_of script (statements.Store at bytes)
+  unfolding why why_by first_reason address
+  why-store at bytes e = rw e (tests (nat_le (at + length bytes) script.memory))
+    where
+      tests : (b : Bool) → cond (not b || false) (Some BadOriginRange) None ≡ cond b None (Some BadOriginRange)
+      tests true = refl
+      tests false = refl
+
+  why-put : (target to from len : ℕ) (tgt org cmpl : Option ℕ) → statement script a i ≡ statements.Put target (Plain to) from len tgt org cmpl → why script no_rules J a i ≡ reason_of script (statements.Put target (Plain to) from len tgt org cmpl)
+  unfolding why why_by first_reason address
+  why-put target to from len tgt org cmpl e =
+      rw e (tests (nat_lt target script.tasks) (nat_le (to + len) script.memory) (nat_le (from + len) script.memory) (names_no_counter script (statements.Put target (Plain to) from len tgt org cmpl)) (nat_lt (longest_of script) len) (nat_le len (longest_of script)) (lt-is-not-le (longest_of script) len))
+    where
+      tests : (b c d m long short : Bool) → long ≡ not short → cond (not b) (Some BadTask) (cond (not c || false) (Some BadTargetRange) (cond (not d || false) (Some BadOriginRange) (cond m (Some BadCounter) (cond long (Some TooLong) None)))) ≡ cond b (cond c (cond d (cond m (Some BadCounter) (cond short None (Some TooLong))) (Some BadOriginRange)) (Some BadTargetRange)) (Some BadTask)
+      tests true true true true long short h = refl
+      tests true true true false long true h = ap (λ b. cond b (Some TooLong) None) h
+      tests true true true false long false h = ap (λ b. cond b (Some TooLong) None) h
+      tests true true false m long short h = refl
+      tests true false d m long short h = refl
+      tests false c d m long short h = refl
+
+  counter-test : (b : Bool) → cond (not b || false) (Some BadCounter) None ≡ cond b None (Some BadCounter)
+  counter-test true = refl
+  counter-test false = refl
+
+  why-wait : (counter value : ℕ) → statement script a i ≡ statements.Wait counter value → why script no_rules J a i ≡ reason_of script (statements.Wait counter value)
+  unfolding why why_by first_reason
+  why-wait counter value e = rw e (counter-test (nat_lt counter script.counters))
+
+  why-set : (counter value : ℕ) → statement script a i ≡ statements.Set counter value → why script no_rules J a i ≡ reason_of script (statements.Set counter value)
+  unfolding why why_by first_reason
+  why-set counter value e = rw e (counter-test (nat_lt counter script.counters))
+
+  why-read : (counter : ℕ) → statement script a i ≡ statements.Read counter → why script no_rules J a i ≡ reason_of script (statements.Read counter)
+  unfolding why why_by first_reason
+  why-read counter e = rw e (counter-test (nat_lt counter script.counters))
+
+  -- the reason does not depend on the journal
+  pub why-is : (s : Statement) → statement script a i ≡ s → is_built_statement s ≡ true → why script no_rules J a i ≡ reason_of script s
+  unfolding is_built_statement
+  why-is (statements.Store at bytes) e h = why-store at bytes e
+  why-is (statements.Put target (Plain to) from len tgt org cmpl) e h = why-put target to from len tgt org cmpl e
+  why-is (statements.Wait counter value) e h = why-wait counter value e
+  why-is (statements.Set counter value) e h = why-set counter value e
+  why-is (statements.Read counter) e h = why-read counter e
+  why-is _ e h = absurd (false≢true h)
+
+all-or : {X : Type 0} (P : X → Type 0) (xs : List X) (n : ℕ) (d : X) → AllByRecursion P xs → P d → P (get_or xs n d)
+all-or P [] n d h e = e
+all-or P (x ∷ xs) zero d h e = h.0
+all-or P (x ∷ xs) (suc n) d h e = all-or P xs n d h.1 e
+
+pub statement-is : (script : Script) (a i : ℕ) (s : Statement) → slice_get (operations.statements script a) i ≡ Some s → statement script a i ≡ s
+unfolding statement
+statement-is script a i s h = get_or_from_slice_get (operations.statements script a) i s statements.Fence h
+
+pub statement-built : (script : Script) → IsPerformed script → (a i : ℕ) (s : Statement) → slice_get (operations.statements script a) i ≡ Some s → is_built_statement s ≡ true
+statement-built script p a i s h = all-get (λ x. IsTrue (is_built_statement x)) (operations.statements script a) i s (all-or IsBuiltList script.lists a [] p.built tt) h
+
+-- a task has few statements
+pub few-statements : (script : Script) → IsPerformed script → (a : ℕ) → length (operations.statements script a) ≤ 512
+few-statements script p a = all-or (λ (list : List Statement). length list ≤ 512) script.lists a [] (firsts script.lists p.valid.lists) (lit≤ tt)
+  where
+    firsts : (lists : List (List Statement)) → AllByRecursion (λ (list : List Statement). (length list ≤ 512) × AllByRecursion Rattle.lapi_base.specs.Valid.ValidStatement list) lists → AllByRecursion (λ (list : List Statement). length list ≤ 512) lists
+    firsts [] h = tt
+    firsts (x ∷ xs) h = (h.0.0, firsts xs h.1)

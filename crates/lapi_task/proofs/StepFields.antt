@@ -1,0 +1,288 @@
+-- What a task holds after each event of a step.
+use Rattle.std.proofs.Common.{◌≡◌, ℕ, suc, ◌+◌, ◌-◌, ◌<◌, ◌≤◌, ◌==◌, Bool, true, false, cond, not, ◌&&◌, List, [], ◌∷◌, ◌++◌, length, slice_set, Some, None, refl, sym, ap, ◌∙◌, subst, ⊎_elim, arith, add-zero}
+use Rattle.std.specs.Prelude.{nat_le, nat_lt, slice_index}
+use Rattle.std.proofs.lemmas.Bool.{false≢true, cond-true, cond-false, and_left, and_right, and_from, cases_eq, cases_Bool, ne_eqb, leb-true, ltb-true, eqb-true}
+use Rattle.std.proofs.lemmas.List.{append-nil, length-set, get_or-set_same, get_or-set_other}
+use Rattle.lapi_base.specs.declared.script.Script.{Script}
+use Rattle.lapi_base.specs.declared.statement.Statement.{Statement}
+use Rattle.lapi_base.specs.declared.statement.Statement.TheVariants as statements
+use Rattle.lapi_base.specs.declared.address.Addr.TheVariants.{Plain}
+use Rattle.lapi_base.specs.declared.event.Event.{Event}
+use Rattle.lapi_base.specs.declared.event.Event.TheVariants.{Issue, Refuse, Pass}
+use Rattle.lapi_base.specs.declared.message.Leg.TheVariants.{Go}
+use Rattle.lapi_base.specs.declared.message.MsgName.{MsgName}
+use Rattle.lapi_base.specs.declared.refusal.Refusal.{Refusal}
+use Rattle.lapi_base.specs.declared.refusal.Refusal.TheVariants.{BadOriginRange, BadCounter}
+use Rattle.lapi_base.specs.Below.{below}
+use Rattle.lapi_base.specs.Built.{is_built_statement}
+use Rattle.lapi_base.specs.Counters.{count, reads, read_by, tells, issued_count, passed_count}
+use Rattle.lapi_base.specs.Jobs.{runs}
+use Rattle.lapi_base.specs.Names.{message, done, deed, deed_eq, Issued, Copied}
+use Rattle.lapi_base.specs.Operations.{statement, is_data}
+use Rattle.lapi_base.specs.Operations as operations
+use Rattle.lapi_base.specs.Refusals.{next, refusals}
+use Rattle.lapi_base.specs.Seen.{no_rules}
+use Rattle.lapi_base.specs.Values.{memory_bytes, store_writes}
+use Rattle.lapi_laws.proofs.Deeds.{eqb-refl, done-head, done-other}
+use Rattle.lapi_window.proofs.Sets.{below-same, below-cut}
+use Rattle.lapi_task.specs.declared.outcome.Outcome.{Outcome}
+use Rattle.lapi_task.specs.declared.task.Task.{Task}
+use Rattle.lapi_task.specs.Performed.{reason_of}
+use Rattle.lapi_task.specs.StandsFor.{HoldsFor, is_uncopied}
+use Rattle.lapi_task.specs.Steps.{Suits, stored, counters_set, with_read, with_uncopied, IsRefused, IsIssued, IsPassed}
+use Rattle.lapi_task.proofs.StepMemories.{memory-none, memory-written, memory-length}
+
+-- one number more is listed, behind all others
+below-more : (n i : ℕ) (p q : ℕ → Bool) → i < n → ((k : ℕ) → k < i → p k ≡ q k) → ((k : ℕ) → i ≤ k → p k ≡ false) → q i ≡ true → ((k : ℕ) → suc i ≤ k → q k ≡ false) → below n p ++ i ∷ [] ≡ below n q
+unfolding below
+below-more n i p q l same none here past =
+    ap (λ xs. xs ++ i ∷ []) (below-cut i n p (omega arith) none ∙ below-same i p q same)
+    ∙ sym (below-cut (suc i) n q (omega arith) past ∙ cond-true (q i) (below i q ++ i ∷ []) (below i q) here)
+
+module _ (script : Script) where
+  store-fits : (size : ℕ) → cond (nat_le size script.memory) None (Some BadOriginRange) ≡ None → size ≤ script.memory
+  store-fits size h = elim (nat_le size script.memory) as (λ b. nat_le size script.memory ≡ b → cond b None (Some BadOriginRange) ≡ None → size ≤ script.memory) [
+    | true ↦ λ e _. leb-true size script.memory e
+    | false ↦ λ _ n. absurd (cc)
+  ] refl h
+
+  counter-there : (c : ℕ) → cond (nat_lt c script.counters) None (Some BadCounter) ≡ None → c < script.counters
+  counter-there c h = elim (nat_lt c script.counters) as (λ b. nat_lt c script.counters ≡ b → cond b None (Some BadCounter) ≡ None → c < script.counters) [
+    | true ↦ λ e _. ltb-true c script.counters e
+    | false ↦ λ _ n. absurd (cc)
+  ] refl h
+
+  -- a statement that isn't refused finds its places and its counter
+  pub suits : (s : Statement) (memory counters : List ℕ) → length memory ≡ script.memory → length counters ≡ script.counters → is_built_statement s ≡ true → reason_of script s ≡ None → Suits s memory counters
+  unfolding is_built_statement
+  suits (statements.Store at bytes) memory counters m c b h = let l = store-fits (at + length bytes) h in omega (arith, l, m)
+  suits (statements.Put target to from len tgt org cmpl) memory counters m c b h = tt
+  suits (statements.Wait counter value) memory counters m c b h = let l = counter-there counter h in omega (arith, l, c)
+  suits (statements.Set counter value) memory counters m c b h = let l = counter-there counter h in omega (arith, l, c)
+  suits (statements.Read counter) memory counters m c b h = let l = counter-there counter h in omega (arith, l, c)
+  suits _ memory counters m c b h = absurd (false≢true b)
+
+  module _ (t : ℕ) (J : List Event) where
+    -- an event that issues and copies nothing
+    uncopied-same : (e : Event) (k : ℕ) → deed_eq (Issued t k) (deed e) ≡ false → deed_eq (Copied (message t k Go)) (deed e) ≡ false → is_uncopied script J t k ≡ is_uncopied script (e ∷ J) t k
+    uncopied-same e k x y =
+        ap (λ b. is_data (statement script t k) && (b && not (done (Copied (message t k Go)) J))) (sym (done-other (Issued t k) e J x))
+        ∙ ap (λ b. is_data (statement script t k) && (done (Issued t k) (e ∷ J) && not b)) (sym (done-other (Copied (message t k Go)) e J y))
+
+    -- The record after a refusal.
+    after-refuse : (i : ℕ) (why : Refusal) → (next (Refuse t i why ∷ J) t ≡ suc (next J t)) × (refusals (Refuse t i why ∷ J) t ≡ refusals J t ++ (i, why) ∷ [])
+    unfolding next refusals
+    after-refuse i why = (cond-true (t == t) _ _ (eqb-refl t), ap (λ xs. refusals J t ++ xs) (cond-true (t == t) _ _ (eqb-refl t)))
+
+    reads-refuse : (i : ℕ) (why : Refusal) → reads script no_rules (Refuse t i why ∷ J) t ≡ reads script no_rules J t
+    unfolding reads
+    reads-refuse i why = refl
+
+    count-refuse : (i c : ℕ) (why : Refusal) → count script no_rules (Refuse t i why ∷ J) t c ≡ count script no_rules J t c
+    unfolding count tells
+    count-refuse i c why = add-zero (count script no_rules J t c)
+
+    runs-refuse : (i w : ℕ) (why : Refusal) → runs (Refuse t i why ∷ J) t w ≡ runs J t w
+    unfolding runs
+    runs-refuse i w why = refl
+
+    pub refused-holds : (before after : Task) (old new : Outcome) (why : Refusal) → HoldsFor script t before J → IsRefused why before after old new → HoldsFor script t after (Refuse t before.next why ∷ J)
+    refused-holds before after old new why h g =
+        let i = before.next in
+        let e = Refuse t i why in
+        let step = g.past.next in
+        let was = h.next in
+        let r = after-refuse i why in
+        record {
+          number = g.past.number ∙ h.number;
+          next = (let x : after.next ≡ suc (next J t) = omega (arith, step, was) in x) ∙ sym r.0;
+          ahead = λ k l. done-other (Issued t k) e J refl ∙ h.ahead k (omega (arith, l, step));
+          reads = g.reads ∙ h.reads ∙ sym (reads-refuse i why);
+          refusals = g.refusals ∙ ap (λ xs. xs ++ (i, why) ∷ []) h.refusals ∙ sym r.1;
+          memory = g.memory ∙ h.memory ∙ sym (memory-none script e J t refl);
+          counter_count = ap length g.counters ∙ h.counter_count;
+          counters = λ c l. ap (λ xs. slice_index xs c) g.counters ∙ h.counters c l ∙ sym (count-refuse i c why);
+          uncopied = g.uncopied ∙ h.uncopied ∙ below-same _ (is_uncopied script J t) (is_uncopied script (e ∷ J) t) (λ k _. uncopied-same e k refl refl);
+          jobless = λ w. runs-refuse i w why ∙ h.jobless w;
+        }
+
+    -- A counter that was set.
+    set-at : (cs : List ℕ) (d value c n : ℕ) → d < length cs → slice_index cs c ≡ n → slice_index (slice_set cs d value) c ≡ cond (t == t && d == c) value n
+    set-at cs d value c n l e =
+        ⊎_elim
+        (λ (same : c ≡ d).
+        ap (slice_index (slice_set cs d value)) same
+        ∙ get_or-set_same cs d value 0 l
+        ∙ sym (cond-true (t == t && d == c) value n (and_from (t == t) (d == c) (eqb-refl t) (subst (λ x. (d == x) ≡ true) (sym same) (eqb-refl d)))))
+        (λ (apart : c ≡ d → ⊥).
+        get_or-set_other cs d c value 0 apart
+        ∙ e
+        ∙ sym (cond-false (t == t && d == c) value n (and_right (t == t) (d == c) (ne_eqb d c (λ x. apart (sym x))))))
+        (cases_eq c d)
+
+    -- The record after a wait.
+    after-pass : (i : ℕ) → (next (Pass t i ∷ J) t ≡ suc (next J t)) × (refusals (Pass t i ∷ J) t ≡ refusals J t)
+    unfolding next refusals
+    after-pass i = (cond-true (t == t) _ _ (eqb-refl t), refl)
+
+    reads-pass : (i : ℕ) → reads script no_rules (Pass t i ∷ J) t ≡ reads script no_rules J t
+    unfolding reads
+    reads-pass i = refl
+
+    count-pass : (i d value c : ℕ) → statement script t i ≡ statements.Wait d value → count script no_rules (Pass t i ∷ J) t c ≡ cond (t == t && d == c) (count script no_rules J t c - value) (count script no_rules J t c)
+    unfolding count
+    count-pass i d value c e = ap (λ (s : Statement). passed_count script no_rules s t t c (count script no_rules J t c)) e
+
+    runs-pass : (i w : ℕ) → runs (Pass t i ∷ J) t w ≡ runs J t w
+    unfolding runs
+    runs-pass i w = refl
+
+    -- the counter that is waited for is at its own place
+    taken-at : (n : ℕ → ℕ) (d value c : ℕ) → cond (t == t && d == c) (n d - value) (n c) ≡ cond (t == t && d == c) (n c - value) (n c)
+    taken-at n d value c =
+        ⊎_elim
+        (λ (same : c ≡ d). ap (λ x. cond (t == t && d == c) (n x - value) (n c)) (sym same))
+        (λ (apart : c ≡ d → ⊥). let no = and_right (t == t) (d == c) (ne_eqb d c (λ x. apart (sym x))) in cond-false (t == t && d == c) _ (n c) no ∙ sym (cond-false (t == t && d == c) _ (n c) no))
+        (cases_eq c d)
+
+    pub passed-holds : (before after : Task) (old new : Outcome) (d value : ℕ) → statement script t before.next ≡ statements.Wait d value → d < length before.counters → HoldsFor script t before J → IsPassed d value before after old new → HoldsFor script t after (Pass t before.next ∷ J)
+    passed-holds before after old new d value is there h g =
+        let i = before.next in
+        let e = Pass t i in
+        let step = g.past.next in
+        let was = h.next in
+        let r = after-pass i in
+        let known : d < script.counters = (let n = h.counter_count in omega (arith, there, n)) in
+        record {
+          number = g.past.number ∙ h.number;
+          next = (let x : after.next ≡ suc (next J t) = omega (arith, step, was) in x) ∙ sym r.0;
+          ahead = λ k l. done-other (Issued t k) e J refl ∙ h.ahead k (omega (arith, l, step));
+          reads = g.reads ∙ h.reads ∙ sym (reads-pass i);
+          refusals = g.refusals ∙ h.refusals ∙ sym r.1;
+          memory = g.memory ∙ h.memory ∙ sym (memory-none script e J t refl);
+          counter_count = ap length g.counters ∙ length-set before.counters d (slice_index before.counters d - value) ∙ h.counter_count;
+          counters = λ c l.
+              ap (λ xs. slice_index xs c) g.counters
+              ∙ set-at before.counters d (slice_index before.counters d - value) c (count script no_rules J t c) there (h.counters c l)
+              ∙ ap (λ x. cond (t == t && d == c) (x - value) (count script no_rules J t c)) (h.counters d known)
+              ∙ taken-at (count script no_rules J t) d value c
+              ∙ sym (count-pass i d value c is);
+          uncopied = g.uncopied ∙ h.uncopied ∙ below-same _ (is_uncopied script J t) (is_uncopied script (e ∷ J) t) (λ k _. uncopied-same e k refl refl);
+          jobless = λ w. runs-pass i w ∙ h.jobless w;
+        }
+
+    -- The record after an issue.
+    after-issue : (i : ℕ) → (next (Issue t i ∷ J) t ≡ suc (next J t)) × (refusals (Issue t i ∷ J) t ≡ refusals J t)
+    unfolding next refusals
+    after-issue i = (cond-true (t == t) _ _ (eqb-refl t), refl)
+
+    runs-issue : (i w : ℕ) → runs (Issue t i ∷ J) t w ≡ runs J t w
+    unfolding runs
+    runs-issue i w = refl
+
+    reads-issue : (i : ℕ) (s : Statement) → statement script t i ≡ s → reads script no_rules (Issue t i ∷ J) t ≡ reads script no_rules J t ++ read_by script no_rules J t i s
+    unfolding reads
+    reads-issue i s e = ap (λ xs. reads script no_rules J t ++ xs) (cond-true (t == t) _ _ (eqb-refl t)) ∙ ap (λ (x : Statement). reads script no_rules J t ++ read_by script no_rules J t i x) e
+
+    count-issue : (i c : ℕ) (s : Statement) → statement script t i ≡ s → count script no_rules (Issue t i ∷ J) t c ≡ issued_count script no_rules s t t c (count script no_rules J t c)
+    unfolding count
+    count-issue i c s e = ap (λ (x : Statement). issued_count script no_rules x t t c (count script no_rules J t c)) e
+
+    issued-later : (i k : ℕ) → suc i ≤ k → done (Issued t k) J ≡ false → done (Issued t k) (Issue t i ∷ J) ≡ false
+    issued-later i k l h = done-other (Issued t k) (Issue t i) J (and_right (t == t) (k == i) (ne_eqb k i (λ e. let x = e in omega (arith, l, x)))) ∙ h
+
+    module _ (before : Task) (h : HoldsFor script t before J) where
+      reads-issued : (s : Statement) → is_built_statement s ≡ true → Suits s before.memory before.counters → with_read s before.counters before.next before.reads.items ≡ reads script no_rules J t ++ read_by script no_rules J t before.next s
+      unfolding is_built_statement
+      reads-issued (statements.Store at bytes) b u = h.reads ∙ sym (append-nil (reads script no_rules J t))
+      reads-issued (statements.Put target to from len tgt org cmpl) b u = h.reads ∙ sym (append-nil (reads script no_rules J t))
+      reads-issued (statements.Wait counter value) b u = h.reads ∙ sym (append-nil (reads script no_rules J t))
+      reads-issued (statements.Set counter value) b u = h.reads ∙ sym (append-nil (reads script no_rules J t))
+      reads-issued (statements.Read counter) b u =
+          ap (λ xs. xs ++ (before.next, slice_index before.counters counter) ∷ []) h.reads
+          ∙ ap (λ n. reads script no_rules J t ++ (before.next, n) ∷ []) (h.counters counter (let n = h.counter_count in omega (arith, u, n)))
+      reads-issued _ b u = absurd (false≢true b)
+
+      memory-issued : (s : Statement) → statement script t before.next ≡ s → is_built_statement s ≡ true → Suits s before.memory before.counters → stored s before.memory ≡ memory_bytes script no_rules (Issue t before.next ∷ J) t
+      unfolding is_built_statement
+      memory-issued (statements.Store at bytes) e b u =
+          ap (stored (statements.Store at bytes)) h.memory
+          ∙ memory-written script (Issue t before.next) J at bytes (ap (λ (x : Statement). store_writes script no_rules x) e)
+          (let n = ap length h.memory ∙ memory-length script J t in omega (arith, u, n))
+      memory-issued (statements.Put target to from len tgt org cmpl) e b u = h.memory ∙ sym (memory-none script (Issue t before.next) J t (ap (λ (x : Statement). store_writes script no_rules x) e))
+      memory-issued (statements.Wait counter value) e b u = h.memory ∙ sym (memory-none script (Issue t before.next) J t (ap (λ (x : Statement). store_writes script no_rules x) e))
+      memory-issued (statements.Set counter value) e b u = h.memory ∙ sym (memory-none script (Issue t before.next) J t (ap (λ (x : Statement). store_writes script no_rules x) e))
+      memory-issued (statements.Read counter) e b u = h.memory ∙ sym (memory-none script (Issue t before.next) J t (ap (λ (x : Statement). store_writes script no_rules x) e))
+      memory-issued _ e b u = absurd (false≢true b)
+
+      count-issued : (s : Statement) → is_built_statement s ≡ true → length (counters_set s before.counters) ≡ length before.counters
+      unfolding is_built_statement
+      count-issued (statements.Store at bytes) b = refl
+      count-issued (statements.Put target to from len tgt org cmpl) b = refl
+      count-issued (statements.Wait counter value) b = refl
+      count-issued (statements.Set counter value) b = length-set before.counters counter value
+      count-issued (statements.Read counter) b = refl
+      count-issued _ b = absurd (false≢true b)
+
+      counters-issued : (s : Statement) → is_built_statement s ≡ true → Suits s before.memory before.counters → (c : ℕ) → c < script.counters → slice_index (counters_set s before.counters) c ≡ issued_count script no_rules s t t c (count script no_rules J t c)
+      unfolding is_built_statement
+      counters-issued (statements.Store at bytes) b u c l = h.counters c l
+      counters-issued (statements.Put target to from len tgt org cmpl) b u c l = h.counters c l
+      counters-issued (statements.Wait counter value) b u c l = h.counters c l
+      counters-issued (statements.Set counter value) b u c l = set-at before.counters counter value c (count script no_rules J t c) u (h.counters c l)
+      counters-issued (statements.Read counter) b u c l = h.counters c l
+      counters-issued _ b u c l = absurd (false≢true b)
+
+      uncopied-other : (k : ℕ) → (k ≡ before.next → ⊥) → is_uncopied script J t k ≡ is_uncopied script (Issue t before.next ∷ J) t k
+      uncopied-other k apart = uncopied-same (Issue t before.next) k (and_right (t == t) (k == before.next) (ne_eqb k before.next apart)) refl
+
+      -- a statement without data
+      no-data : (s : Statement) → statement script t before.next ≡ s → is_data s ≡ false → before.uncopied.items ≡ below (length (operations.statements script t)) (is_uncopied script (Issue t before.next ∷ J) t)
+      no-data s e d =
+          h.uncopied
+          ∙ below-same _ (is_uncopied script J t) (is_uncopied script (Issue t before.next ∷ J) t)
+          (λ k _.
+          ⊎_elim
+          (λ (same : k ≡ before.next). let none = ap is_data (ap (statement script t) same ∙ e) ∙ d in and_left (is_data (statement script t k)) _ none ∙ sym (and_left (is_data (statement script t k)) _ none))
+          (λ (apart : k ≡ before.next → ⊥). uncopied-other k apart)
+          (cases_eq k before.next))
+
+      -- a statement with data
+      some-data : (s : Statement) → statement script t before.next ≡ s → is_data s ≡ true → before.next < length (operations.statements script t) → done (Copied (message t before.next Go)) J ≡ false → before.uncopied.items ++ before.next ∷ [] ≡ below (length (operations.statements script t)) (is_uncopied script (Issue t before.next ∷ J) t)
+      some-data s e d within fresh =
+          ap (λ xs. xs ++ before.next ∷ []) h.uncopied
+          ∙ below-more _ before.next (is_uncopied script J t) (is_uncopied script (Issue t before.next ∷ J) t) within
+          (λ k l. uncopied-other k (λ x. let y = x in omega (arith, l, y)))
+          (λ k l. and_right (is_data (statement script t k)) _ (and_left (done (Issued t k) J) _ (h.ahead k l)))
+          (and_from (is_data (statement script t before.next)) _ (ap is_data e ∙ d)
+          (and_from (done (Issued t before.next) (Issue t before.next ∷ J)) _ (done-head (Issue t before.next) J)
+          (ap not (done-other (Copied (message t before.next Go)) (Issue t before.next) J refl ∙ fresh))))
+          (λ k l. and_right (is_data (statement script t k)) _ (and_left (done (Issued t k) (Issue t before.next ∷ J)) _ (issued-later before.next k l (h.ahead k (omega arith)))))
+
+      uncopied-issued : (s : Statement) → statement script t before.next ≡ s → is_built_statement s ≡ true → before.next < length (operations.statements script t) → done (Copied (message t before.next Go)) J ≡ false → with_uncopied s before.next before.uncopied.items ≡ below (length (operations.statements script t)) (is_uncopied script (Issue t before.next ∷ J) t)
+      unfolding is_built_statement
+      uncopied-issued (statements.Store at bytes) e b l fresh = no-data (statements.Store at bytes) e refl
+      uncopied-issued (statements.Put target to from len tgt org cmpl) e b l fresh = some-data (statements.Put target to from len tgt org cmpl) e refl l fresh
+      uncopied-issued (statements.Wait counter value) e b l fresh = no-data (statements.Wait counter value) e refl
+      uncopied-issued (statements.Set counter value) e b l fresh = no-data (statements.Set counter value) e refl
+      uncopied-issued (statements.Read counter) e b l fresh = no-data (statements.Read counter) e refl
+      uncopied-issued _ e b l fresh = absurd (false≢true b)
+
+      pub issued-holds : (after : Task) (old new : Outcome) (s : Statement) → statement script t before.next ≡ s → is_built_statement s ≡ true → Suits s before.memory before.counters → before.next < length (operations.statements script t) → done (Copied (message t before.next Go)) J ≡ false → IsIssued s before after old new → HoldsFor script t after (Issue t before.next ∷ J)
+      issued-holds after old new s e b u within fresh g =
+          let i = before.next in
+          let step = g.past.next in
+          let was = h.next in
+          let r = after-issue i in
+          record {
+            number = g.past.number ∙ h.number;
+            next = (let x : after.next ≡ suc (next J t) = omega (arith, step, was) in x) ∙ sym r.0;
+            ahead = λ k l. issued-later i k (omega (arith, l, step)) (h.ahead k (omega (arith, l, step)));
+            reads = g.reads ∙ reads-issued s b u ∙ sym (reads-issue i s e);
+            refusals = g.refusals ∙ h.refusals ∙ sym r.1;
+            memory = g.memory ∙ memory-issued s e b u;
+            counter_count = ap length g.counters ∙ count-issued s b ∙ h.counter_count;
+            counters = λ c l. ap (λ xs. slice_index xs c) g.counters ∙ counters-issued s b u c l ∙ sym (count-issue i c s e);
+            uncopied = g.uncopied ∙ uncopied-issued s e b within fresh;
+            jobless = λ w. runs-issue i w ∙ h.jobless w;
+          }

@@ -1,0 +1,273 @@
+-- What a step does, by the event that it adds.
+use Rattle.std.proofs.Common.{◌≡◌, ℕ, suc, zero, ◌+◌, ◌<◌, ◌≤◌, ◌^◌, ◌==◌, Bool, true, false, cond, List, [], ◌∷◌, ◌++◌, length, Option, Some, None, refl, sym, ap, ◌∙◌, subst, ⊎_elim, arith}
+use Rattle.std.specs.Prelude.{slice_get, slice_index, nat_lt, nat_le}
+use Rattle.std.proofs.lemmas.Bool.{false≢true, cond-true, cond-false, lt-ltb, le-ltb, le-leb, lt-leb, cases_lt, both_ways, false_from_ne_true}
+use Rattle.std.proofs.lemmas.List.{append-nil}
+use Rattle.std.proofs.lemmas.Option.{slice_get_within}
+use Rattle.lapi_base.specs.declared.script.Script.{Script}
+use Rattle.lapi_base.specs.declared.statement.Statement.{Statement}
+use Rattle.lapi_base.specs.declared.statement.Statement.TheVariants as statements
+use Rattle.lapi_base.specs.declared.refusal.Refusal.{Refusal}
+use Rattle.lapi_base.specs.declared.event.Event.{Event}
+use Rattle.lapi_base.specs.declared.event.Event.TheVariants.{Issue, Refuse, Pass}
+use Rattle.lapi_base.specs.declared.message.Leg.TheVariants.{Go}
+use Rattle.lapi_base.specs.declared.message.MsgName.{MsgName}
+use Rattle.lapi_base.specs.declared.reply.Reply.{Reply}
+use Rattle.lapi_base.specs.declared.reply.Reply.TheVariants.{Did, Idle, Blocked}
+use Rattle.lapi_base.specs.Atomic.{needs}
+use Rattle.lapi_base.specs.Built.{is_built_statement}
+use Rattle.lapi_base.specs.Counters.{count}
+use Rattle.lapi_base.specs.Names.{message, done, Issued, Copied}
+use Rattle.lapi_base.specs.Operations.{statement}
+use Rattle.lapi_base.specs.Operations as operations
+use Rattle.lapi_base.specs.Record.{Run, out, step, event_if, add_event, unless_refused, reply_with, with_events, followed, proposed}
+use Rattle.lapi_base.specs.Refusals.{next, why}
+use Rattle.lapi_base.specs.Seen.{no_rules, IsRecord}
+use Rattle.lapi_base.specs.Values.{values}
+use Rattle.lapi_base.specs.Written as written
+use Rattle.lapi_laws.proofs.Backward.{closed}
+use Rattle.lapi_link.specs.Sender.{SendingEnd}
+use Rattle.lapi_parts.proofs.Records.{record-sound}
+use Rattle.lapi_task.specs.declared.outcome.Outcome.{Outcome}
+use Rattle.lapi_task.specs.declared.task.Task.{Task}
+use Rattle.lapi_task.specs.Performed.{IsPerformed, reason_of}
+use Rattle.lapi_task.specs.Sends.{packet_at, SendsFor}
+use Rattle.lapi_task.specs.StandsFor.{SenderAt, ReceiverAt, HoldsFor, StandsFor}
+use Rattle.lapi_task.specs.Does.{IsAt, Does}
+use Rattle.lapi_task.specs.Steps.{Suits, IsPast, IsRefused, IsIssued, IsPassed, IsBlocked}
+use Rattle.lapi_task.proofs.ReasonForms.{why-is, statement-is, statement-built, few-statements}
+use Rattle.lapi_task.proofs.StepMemories.{memory-length}
+use Rattle.lapi_task.proofs.StepFields.{suits, refused-holds, passed-holds, issued-holds}
+
+get-none : {X : Type 0} (xs : List X) (n : ℕ) → slice_get xs n ≡ None → length xs ≤ n
+get-none [] n h = omega arith
+get-none (x ∷ xs) zero h = absurd (cc)
+get-none (x ∷ xs) (suc n) h = let l = get-none xs n h in omega (arith, l)
+
+module _ (script : Script) where
+  -- the record with an event and a reply more
+  abbrev pub stepped : Run → Event → Run
+  stepped r e = reply_with script no_rules (with_events script no_rules r (e ∷ [])) Did
+
+  -- the event puts no packet onto a link, and leaves those that are there as they were
+  pub record IsQuiet (e : Event) (J : List Event) : Type 0 where
+    pub numbers : (a b : ℕ) → out script (e ∷ J) a b ≡ out script J a b
+    pub packets : (a b n : ℕ) → packet_at script (e ∷ J) a b n ≡ packet_at script J a b n
+
+  refuse-quiet : (t i : ℕ) (reason : Refusal) (J : List Event) → IsQuiet (Refuse t i reason) J
+  unfolding out packet_at values
+  refuse-quiet t i reason J = record { numbers = λ a b. refl; packets = λ a b n. refl }
+
+  issue-quiet : (t i : ℕ) (J : List Event) → IsQuiet (Issue t i) J
+  unfolding out packet_at values
+  issue-quiet t i J = record { numbers = λ a b. refl; packets = λ a b n. refl }
+
+  pass-quiet : (t i : ℕ) (J : List Event) → IsQuiet (Pass t i) J
+  unfolding out packet_at values
+  pass-quiet t i J = record { numbers = λ a b. refl; packets = λ a b n. refl }
+
+  sends-on : (r : Run) (e : Event) (a b : ℕ) (s : SendingEnd) → IsQuiet e r.journal → SendsFor script s r a b → SendsFor script s (stepped r e) a b
+  unfolding followed
+  sends-on r e a b s q h = record {
+    numbers = record { size = h.numbers.size; numbers = h.numbers.numbers ∙ sym (ap length (q.numbers a b)); sent = h.numbers.sent; acked = h.numbers.acked };
+    whole = h.whole;
+    kept = λ n l u. h.kept n l u ∙ sym (q.packets a b n);
+    waiting = λ i. h.waiting i ∙ sym (q.packets a b _);
+  }
+
+  sender-on : (r : Run) (e : Event) (a b : ℕ) (o : Option SendingEnd) → IsQuiet e r.journal → SenderAt script r a b o → SenderAt script (stepped r e) a b o
+  sender-on r e a b None q h = absurd h
+  sender-on r e a b (Some s) q h = sends-on r e a b s q h
+
+  does-event : (t : ℕ) (r : Run) (e : Event) (before after : Task) (old new : Outcome) → IsQuiet e r.journal → StandsFor script t before r → IsPast e before after old new → HoldsFor script t after (e ∷ r.journal) → Does script t r (stepped r e) after old new
+  unfolding followed
+  does-event t r e before after old new q h g holds = record {
+    events = e ∷ [];
+    entries = [];
+    stands = record {
+      holds = holds;
+      sender_count = ap length g.senders ∙ h.sender_count;
+      receiver_count = ap length g.receivers ∙ h.receiver_count;
+      senders = λ b l. subst (λ xs. SenderAt script (stepped r e) t b (slice_get xs b)) (sym g.senders) (sender-on r e t b (slice_get before.senders.items b) q (h.senders b l));
+      receivers = λ a l. subst (λ xs. ReceiverAt script (r.handed a t) (slice_get xs a)) (sym g.receivers) (h.receivers a l);
+    };
+    happened = refl;
+    events_added = g.events;
+    put = λ b l. sym (append-nil _);
+    entries_added = g.entries ∙ sym (append-nil old.entries);
+    ends = tt;
+  }
+
+  stands-on : (t : ℕ) (r : Run) (reply : Reply) (task : Task) → StandsFor script t task r → StandsFor script t task (reply_with script no_rules r reply)
+  stands-on t r reply task h = record {
+    holds = h.holds;
+    sender_count = h.sender_count;
+    receiver_count = h.receiver_count;
+    senders = λ b l. sender-reply b (slice_get task.senders.items b) (h.senders b l);
+    receivers = h.receivers;
+  }
+    where
+      sender-reply : (b : ℕ) (o : Option SendingEnd) → SenderAt script r t b o → SenderAt script (reply_with script no_rules r reply) t b o
+      sender-reply b None x = absurd x
+      sender-reply b (Some s) x = record {
+        numbers = record { size = x.numbers.size; numbers = x.numbers.numbers; sent = x.numbers.sent; acked = x.numbers.acked };
+        whole = x.whole;
+        kept = x.kept;
+        waiting = x.waiting;
+      }
+
+  does-nothing : (t : ℕ) (r : Run) (reply : Reply) (task : Task) (o : Outcome) → StandsFor script t task r → Does script t r (reply_with script no_rules r reply) task o o
+  unfolding followed
+  does-nothing t r reply task o h = record {
+    events = [];
+    entries = [];
+    stands = stands-on t r reply task h;
+    happened = refl;
+    events_added = sym (append-nil o.events);
+    put = λ b l. sym (append-nil _);
+    entries_added = sym (append-nil o.entries);
+    ends = tt;
+  }
+
+  module _ (p : IsPerformed script) where
+    -- what a step adds, by its statement
+    step-some : (r : Run) (t i : ℕ) (s : Statement) → i ≡ next r.journal t → slice_get (operations.statements script t) i ≡ Some s → step script no_rules r t ≡ add_event script no_rules r (unless_refused script no_rules r t i (reason_of script s))
+    unfolding step
+    step-some r t i s e found =
+        let within = slice_get_within (operations.statements script t) i s found in
+        ap (λ j. cond (nat_lt j (length (operations.statements script t))) (add_event script no_rules r (unless_refused script no_rules r t j (why script no_rules r.journal t j))) (reply_with script no_rules r Idle)) (sym e)
+        ∙ cond-true (nat_lt i (length (operations.statements script t))) _ _ (lt-ltb i (length (operations.statements script t)) within)
+        ∙ ap (λ o. add_event script no_rules r (unless_refused script no_rules r t i o)) (why-is script r.journal t i s (statement-is script t i s found) (statement-built script p t i s found))
+
+    step-none : (r : Run) (t i : ℕ) → i ≡ next r.journal t → slice_get (operations.statements script t) i ≡ None → step script no_rules r t ≡ reply_with script no_rules r Idle
+    unfolding step
+    step-none r t i e found =
+        ap (λ j. cond (nat_lt j (length (operations.statements script t))) (add_event script no_rules r (unless_refused script no_rules r t j (why script no_rules r.journal t j))) (reply_with script no_rules r Idle)) (sym e)
+        ∙ cond-false (nat_lt i (length (operations.statements script t))) _ _ (le-ltb i (length (operations.statements script t)) (get-none (operations.statements script t) i found))
+
+    step-by : (r : Run) (t i : ℕ) (s : Statement) → i ≡ next r.journal t → slice_get (operations.statements script t) i ≡ Some s → reason_of script s ≡ None → step script no_rules r t ≡ add_event script no_rules r (proposed script no_rules r t i s)
+    step-by r t i s e found h =
+        step-some r t i s e found
+        ∙ ap (λ o. add_event script no_rules r (unless_refused script no_rules r t i o)) h
+        ∙ ap (λ x. add_event script no_rules r (proposed script no_rules r t i x)) (statement-is script t i s found)
+
+    -- a statement that is no wait is issued
+    issues : (r : Run) (t i : ℕ) (s : Statement) → is_built_statement s ≡ true → ((counter value : ℕ) → s ≡ statements.Wait counter value → ⊥) → proposed script no_rules r t i s ≡ Some (Issue t i)
+    unfolding is_built_statement
+    issues r t i (statements.Store at bytes) b no-wait = refl
+    issues r t i (statements.Put target to from len tgt org cmpl) b no-wait = refl
+    issues r t i (statements.Set counter value) b no-wait = refl
+    issues r t i (statements.Read counter) b no-wait = refl
+    issues r t i (statements.Wait counter value) b no-wait = absurd (no-wait counter value refl)
+    issues r t i _ b no-wait = absurd (false≢true b)
+
+    -- A task before one of its statements, or past them all.
+    module _ (before : Task) (t : ℕ) (r : Run) (at : IsAt script t before r) where
+      own : (o : Option Statement) → slice_get (operations.statements script before.number) before.next ≡ o → slice_get (operations.statements script t) before.next ≡ o
+      own o h = ap (λ n. slice_get (operations.statements script n) before.next) (sym at.stands.holds.number) ∙ h
+
+      named : (f : ℕ → ℕ → Event) (after : Task) (old new : Outcome) → IsPast (f before.number before.next) before after old new → IsPast (f t before.next) before after old new
+      named f after old new = subst (λ n. IsPast (f n before.next) before after old new) at.stands.holds.number
+
+      idle-step : slice_get (operations.statements script before.number) before.next ≡ None → step script no_rules r t ≡ reply_with script no_rules r Idle
+      idle-step found = step-none r t before.next at.stands.holds.next (own None found)
+
+      pub idle-does : (o : Outcome) → slice_get (operations.statements script before.number) before.next ≡ None → Does script t r (step script no_rules r t) before o o
+      idle-does o found = subst (λ x. Does script t r x before o o) (sym (idle-step found)) (does-nothing t r Idle before o at.stands)
+
+      pub idle-replies : slice_get (operations.statements script before.number) before.next ≡ None → (step script no_rules r t).replies ≡ r.replies ++ Idle ∷ []
+      idle-replies found = ap (λ (x : Run). x.replies) (idle-step found)
+
+      module _ (s : Statement) (found : slice_get (operations.statements script before.number) before.next ≡ Some s) where
+        here : slice_get (operations.statements script t) before.next ≡ Some s
+        here = own (Some s) found
+
+        is : statement script t before.next ≡ s
+        is = statement-is script t before.next s here
+
+        built : is_built_statement s ≡ true
+        built = statement-built script p t before.next s here
+
+        within : before.next < length (operations.statements script t)
+        within = slice_get_within (operations.statements script t) before.next s here
+
+        pub next-fits : before.next + 1 < 2 ^ 32
+        next-fits = let few = few-statements script p t in let l = within in omega (arith, few, l)
+
+        pub is-suited : reason_of script s ≡ None → Suits s before.memory before.counters
+        is-suited h = suits script s before.memory before.counters (ap length at.stands.holds.memory ∙ memory-length script r.journal t) at.stands.holds.counter_count built h
+
+        -- It is refused;
+        refused-step : (reason : Refusal) → reason_of script s ≡ Some reason → step script no_rules r t ≡ stepped r (Refuse t before.next reason)
+        refused-step reason h = step-some r t before.next s at.stands.holds.next here ∙ ap (λ o. add_event script no_rules r (unless_refused script no_rules r t before.next o)) h
+
+        pub refused-does : (reason : Refusal) (after : Task) (old new : Outcome) → reason_of script s ≡ Some reason → IsRefused reason before after old new → Does script t r (step script no_rules r t) after old new
+        refused-does reason after old new h g =
+            subst (λ x. Does script t r x after old new) (sym (refused-step reason h))
+            (does-event t r (Refuse t before.next reason) before after old new (refuse-quiet t before.next reason r.journal) at.stands
+            (named (λ n i. Refuse n i reason) after old new g.past)
+            (refused-holds script t r.journal before after old new reason at.stands.holds g))
+
+        pub refused-replies : (reason : Refusal) → reason_of script s ≡ Some reason → (step script no_rules r t).replies ≡ r.replies ++ Did ∷ []
+        refused-replies reason h = ap (λ (x : Run). x.replies) (refused-step reason h)
+
+        -- it is issued;
+        fresh : done (Copied (message t before.next Go)) r.journal ≡ false
+        unfolding needs
+        fresh =
+            let sound = record-sound script no_rules r at.recorded in
+            false_from_ne_true _ (λ d. both_ways _ (at.stands.holds.ahead before.next (omega arith)) (closed script no_rules (Copied (message t before.next Go)) r.journal sound.atomic d).0)
+
+        issued-step : ((counter value : ℕ) → s ≡ statements.Wait counter value → ⊥) → reason_of script s ≡ None → step script no_rules r t ≡ stepped r (Issue t before.next)
+        issued-step no-wait h = step-by r t before.next s at.stands.holds.next here h ∙ ap (add_event script no_rules r) (issues r t before.next s built no-wait)
+
+        pub issued-does : (after : Task) (old new : Outcome) → ((counter value : ℕ) → s ≡ statements.Wait counter value → ⊥) → reason_of script s ≡ None → IsIssued s before after old new → Does script t r (step script no_rules r t) after old new
+        issued-does after old new no-wait h g =
+            subst (λ x. Does script t r x after old new) (sym (issued-step no-wait h))
+            (does-event t r (Issue t before.next) before after old new (issue-quiet t before.next r.journal) at.stands
+            (named Issue after old new g.past)
+            (issued-holds script t r.journal before at.stands.holds after old new s is built (is-suited h) within fresh g))
+
+        pub issued-replies : ((counter value : ℕ) → s ≡ statements.Wait counter value → ⊥) → reason_of script s ≡ None → (step script no_rules r t).replies ≡ r.replies ++ Did ∷ []
+        issued-replies no-wait h = ap (λ (x : Run). x.replies) (issued-step no-wait h)
+
+      -- or it is a wait, which passes or not.
+      module _ (counter value : ℕ) (found : slice_get (operations.statements script before.number) before.next ≡ Some (statements.Wait counter value)) (accepted : reason_of script (statements.Wait counter value) ≡ None) where
+        wait : Statement
+        wait = statements.Wait counter value
+
+        there : counter < length before.counters
+        there = is-suited (statements.Wait counter value) found accepted
+
+        has : slice_index before.counters counter ≡ count script no_rules r.journal t counter
+        has = at.stands.holds.counters counter (let l = there in let n = at.stands.holds.counter_count in omega (arith, l, n))
+
+        waited : (b : Bool) → nat_le value (count script no_rules r.journal t counter) ≡ b → step script no_rules r t ≡ add_event script no_rules r (event_if script no_rules b (Pass t before.next))
+        waited b h =
+            step-by r t before.next (statements.Wait counter value) at.stands.holds.next (here (statements.Wait counter value) found) accepted
+            ∙ ap (λ x. add_event script no_rules r (event_if script no_rules x (Pass t before.next))) h
+
+        passed-step : value ≤ slice_index before.counters counter → step script no_rules r t ≡ stepped r (Pass t before.next)
+        passed-step l = waited true (le-leb value _ (let e = has in omega (arith, l, e)))
+
+        blocked-step : slice_index before.counters counter < value → step script no_rules r t ≡ reply_with script no_rules r Blocked
+        blocked-step l = waited false (lt-leb value _ (let e = has in omega (arith, l, e)))
+
+        pub passed-does : (after : Task) (old new : Outcome) → IsPassed counter value before after old new → Does script t r (step script no_rules r t) after old new
+        passed-does after old new g =
+            subst (λ x. Does script t r x after old new) (sym (passed-step g.enough))
+            (does-event t r (Pass t before.next) before after old new (pass-quiet t before.next r.journal) at.stands
+            (named Pass after old new g.past)
+            (passed-holds script t r.journal before after old new counter value (is (statements.Wait counter value) found) there at.stands.holds g))
+
+        pub passed-replies : value ≤ slice_index before.counters counter → (step script no_rules r t).replies ≡ r.replies ++ Did ∷ []
+        passed-replies l = ap (λ (x : Run). x.replies) (passed-step l)
+
+        pub blocked-does : (after : Task) (old new : Outcome) → IsBlocked counter value before after old new → Does script t r (step script no_rules r t) after old new
+        blocked-does after old new g =
+            subst (λ x. Does script t r x after old new) (sym (blocked-step g.less))
+            (subst (λ x. Does script t r (reply_with script no_rules r Blocked) x old new) (sym g.task)
+            (subst (λ x. Does script t r (reply_with script no_rules r Blocked) before old x) (sym g.outcome) (does-nothing t r Blocked before old at.stands)))
+
+        pub blocked-replies : slice_index before.counters counter < value → (step script no_rules r t).replies ≡ r.replies ++ Blocked ∷ []
+        blocked-replies l = ap (λ (x : Run). x.replies) (blocked-step l)

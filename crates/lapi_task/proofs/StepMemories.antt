@@ -1,0 +1,86 @@
+-- The bytes of a memory after an event.
+use Rattle.std.proofs.Common.{◌≡◌, ℕ, zero, suc, ◌+◌, ◌-◌, ◌<◌, ◌≤◌, ◌==◌, Bool, true, false, cond, List, [], ◌∷◌, ◌++◌, map, length, get_or, replicate, refl, sym, ap, ◌∙◌, ⊎_elim, arith}
+use Rattle.std.proofs.lemmas.Bool.{cond-true, cases_lt}
+use Rattle.std.proofs.lemmas.List.{same_lists, length-append, length-map, get_or_append_left, get_or-append_right, get_or_default, map-append, length-replicate, get_or-replicate, places}
+use Rattle.lapi_base.specs.declared.script.Script.{Script}
+use Rattle.lapi_base.specs.declared.event.Event.{Event}
+use Rattle.lapi_base.specs.Below.{below}
+use Rattle.lapi_base.specs.Operations.{upto}
+use Rattle.lapi_base.specs.Seen.{no_rules}
+use Rattle.lapi_base.specs.Values.{Write, values, memory_bytes, byte_after, writes, writer}
+use Rattle.lapi_laws.proofs.Deeds.{eqb-refl}
+use Rattle.lapi_laws.proofs.Places.{upto-length}
+use Rattle.lapi_memory.specs.TaskMemory.{written}
+use Rattle.lapi_memory.proofs.Writes.{byte_written}
+
+length-over : {X : Type 0} (f : ℕ → X) (n : ℕ) → length (map f (upto n)) ≡ n
+length-over f n = length-map (upto n) f ∙ upto-length n
+
+over-more : {X : Type 0} (f : ℕ → X) (n : ℕ) → map f (upto (suc n)) ≡ map f (upto n) ++ f n ∷ []
+unfolding upto below
+over-more f n = map-append f (upto n) (n ∷ [])
+
+over-at : {X : Type 0} (f : ℕ → X) (n k : ℕ) (d : X) → k < n → get_or (map f (upto n)) k d ≡ f k
+over-at f zero k d l = absurd (omega arith)
+over-at f (suc n) k d l =
+    ap (λ xs. get_or xs k d) (over-more f n)
+    ∙ ⊎_elim
+    (λ (lt : k < n). get_or_append_left (map f (upto n)) (f n ∷ []) d k (let e = length-over f n in omega (arith, e)) ∙ over-at f n k d lt)
+    (λ (ge : n ≤ k).
+    get_or-append_right (map f (upto n)) (f n ∷ []) n k d (length-over f n) ge
+    ∙ ap (λ j. get_or (f n ∷ []) j d) (let e : k - n ≡ 0 = omega arith in e)
+    ∙ ap f (let e : n ≡ k = omega arith in e))
+    (cases_lt k n)
+
+-- the list of what holds at each place
+is-over : {X : Type 0} (xs : List X) (f : ℕ → X) (n : ℕ) → length xs ≡ n → ((k : ℕ) (d : X) → k < n → get_or xs k d ≡ f k) → xs ≡ map f (upto n)
+is-over xs f n e at = same_lists xs (map f (upto n)) (e ∙ sym (length-over f n)) (λ k d l. let q : k < n = omega (arith, e) in at k d q ∙ sym (over-at f n k d q))
+
+over-same : {X : Type 0} (f g : ℕ → X) (n : ℕ) → ((x : ℕ) → f x ≡ g x) → map f (upto n) ≡ map g (upto n)
+over-same f g n h = λ i. map (λ x. h x i) (upto n)
+
+length-written : (memory : List ℕ) (at : ℕ) (bytes : List ℕ) → at + length bytes ≤ length memory → length (written memory at bytes) ≡ length memory
+length-written memory at bytes l = grind (arith, places)
+
+-- a write of bytes, place by place
+written-over : (f : ℕ → ℕ) (size at : ℕ) (bytes : List ℕ) → at + length bytes ≤ size → written (map f (upto size)) at bytes ≡ map (λ x. byte_after ((at, bytes) ∷ []) x (f x)) (upto size)
+written-over f size at bytes l =
+    let memory = map f (upto size) in
+    let whole = length-over f size in
+    let fits : at + length bytes ≤ length memory = omega (arith, whole) in
+    let long = length-written memory at bytes fits ∙ whole in
+    is-over (written memory at bytes) (λ x. byte_after ((at, bytes) ∷ []) x (f x)) size long
+    (λ k d lt.
+    get_or_default (written memory at bytes) k d 0 (omega (arith, long))
+    ∙ byte_written (written memory at bytes) memory at bytes refl fits k
+    ∙ ap (byte_after ((at, bytes) ∷ []) k) (over-at f size k 0 lt))
+
+module _ (script : Script) where
+  -- the memory of a task after an event that writes nothing
+  pub memory-none : (e : Event) (J : List Event) (t : ℕ) → writes script no_rules (values script no_rules J) e ≡ [] → memory_bytes script no_rules (e ∷ J) t ≡ memory_bytes script no_rules J t
+  unfolding memory_bytes values byte_after
+  memory-none e J t h =
+      over-same (λ x. cond (t == writer script no_rules e) (byte_after (writes script no_rules (values script no_rules J) e) x ((values script no_rules J).memory t x)) ((values script no_rules J).memory t x)) ((values script no_rules J).memory t) script.memory
+      (λ x. ap (λ (ws : List Write). cond (t == writer script no_rules e) (byte_after ws x ((values script no_rules J).memory t x)) ((values script no_rules J).memory t x)) h ∙ same (t == writer script no_rules e) ((values script no_rules J).memory t x))
+    where
+      same : (b : Bool) (n : ℕ) → cond b n n ≡ n
+      same true n = refl
+      same false n = refl
+
+  -- and of the task whose memory it writes
+  pub memory-written : (e : Event) (J : List Event) (at : ℕ) (bytes : List ℕ) → writes script no_rules (values script no_rules J) e ≡ (at, bytes) ∷ [] → at + length bytes ≤ script.memory → written (memory_bytes script no_rules J (writer script no_rules e)) at bytes ≡ memory_bytes script no_rules (e ∷ J) (writer script no_rules e)
+  unfolding memory_bytes values
+  memory-written e J at bytes h l =
+      let f = (values script no_rules J).memory (writer script no_rules e) in
+      written-over f script.memory at bytes l
+      ∙ over-same (λ x. byte_after ((at, bytes) ∷ []) x (f x)) (λ x. cond (writer script no_rules e == writer script no_rules e) (byte_after (writes script no_rules (values script no_rules J) e) x (f x)) (f x)) script.memory
+      (λ x. sym (cond-true (writer script no_rules e == writer script no_rules e) _ (f x) (eqb-refl (writer script no_rules e)) ∙ ap (λ (ws : List Write). byte_after ws x (f x)) h))
+
+  pub memory-length : (J : List Event) (t : ℕ) → length (memory_bytes script no_rules J t) ≡ script.memory
+  unfolding memory_bytes
+  memory-length J t = length-over ((values script no_rules J).memory t) script.memory
+
+  -- the memory before any event
+  pub memory-blank : (t : ℕ) → replicate script.memory 0 ≡ memory_bytes script no_rules [] t
+  unfolding memory_bytes values
+  memory-blank t = is-over (replicate script.memory 0) (λ x. 0) script.memory (length-replicate script.memory 0) (λ k d l. get_or-replicate script.memory k 0 d l)

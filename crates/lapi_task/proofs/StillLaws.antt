@@ -1,0 +1,227 @@
+-- A task is still where it has nothing to copy and its links are settled.
+use Rattle.std.proofs.Common.{◌≡◌, ℕ, zero, suc, ◌+◌, ◌-◌, ◌<◌, ◌==◌, Bool, true, false, cond, ◌&&◌, not, IsTrue, List, [], ◌∷◌, ◌++◌, length, map, get_or, min, Option, Some, refl, sym, ap, ◌∙◌, subst, ⊎_elim, inl, inr, arith, append_assoc}
+use Rattle.std.specs.Prelude.{slice_get, is_some}
+use Rattle.std.specs.List.{AllByRecursion, flat_map, list_all}
+use Rattle.std.proofs.lemmas.Bool.{false≢true, and_left, and_right, and_cases, cases_Bool, ltb-true, eqb-true, ne_eqb, not-true, not-false}
+use Rattle.std.proofs.lemmas.List.{append-nil}
+use Rattle.std.proofs.lemmas.List.Folds.{list_all-append}
+use Rattle.std.proofs.lemmas.Option.{slice_get_within}
+use Rattle.lapi_base.specs.declared.script.Script.{Script}
+use Rattle.lapi_base.specs.declared.statement.Statement.{Statement}
+use Rattle.lapi_base.specs.declared.statement.Statement.TheVariants as statements
+use Rattle.lapi_base.specs.declared.event.Event.{Event}
+use Rattle.lapi_base.specs.declared.message.Leg.TheVariants.{Go}
+use Rattle.lapi_base.specs.declared.message.MsgName.{MsgName}
+use Rattle.lapi_base.specs.declared.packet.Packet.{Packet}
+use Rattle.lapi_base.specs.declared.packet.Packet.TheVariants.{Data, Ack}
+use Rattle.lapi_base.specs.Below.{below, every_below, least_missing}
+use Rattle.lapi_base.specs.Built.{is_built_statement, IsBuiltList}
+use Rattle.lapi_base.specs.Final.{is_empty, is_idle, is_settled, is_told}
+use Rattle.lapi_base.specs.Jobs.{runs}
+use Rattle.lapi_base.specs.Layout.{window_of}
+use Rattle.lapi_base.specs.Names.{Issued, Entered, Copied, done, message}
+use Rattle.lapi_base.specs.Operations.{upto, statement, is_data, has_join}
+use Rattle.lapi_base.specs.Operations as operations
+use Rattle.lapi_base.specs.Record.{Run, out, base, fresh, ready, to_copy_of, joins, has_number, is_number, is_acked}
+use Rattle.lapi_base.specs.Seen.{no_rules, IsRecord}
+use Rattle.lapi_laws.proofs.Deeds.{eqb-refl}
+use Rattle.lapi_laws.proofs.NumberLaws.{every_below-at, every_below-from, any-all, any-get, all-weaker, list_all-at, list_all-each}
+use Rattle.lapi_laws.proofs.Out.{all-get}
+use Rattle.lapi_link.specs.Sender.{SendingEnd, sendable}
+use Rattle.lapi_parts.proofs.HandedPackets.{same-tests}
+use Rattle.lapi_parts.proofs.LocalQuestions.{by_points}
+use Rattle.lapi_parts.proofs.SentFront.{polls-next}
+use Rattle.lapi_window.specs.SendWindow.{sent_count, base_of, unacked}
+use Rattle.lapi_window.specs.SendWindow as window
+use Rattle.lapi_task.specs.declared.task.Task.{Task}
+use Rattle.lapi_task.specs.Does.{IsAt}
+use Rattle.lapi_task.specs.Performed.{IsPerformed}
+use Rattle.lapi_task.specs.Sends.{SendsFor}
+use Rattle.lapi_task.specs.StandsFor.{is_uncopied, SenderAt, HoldsFor}
+use Rattle.lapi_task.proofs.Jobless.{no-queue}
+
+-- Lists and numbers below a bound.
+get-some : {X : Type 0} (xs : List X) (n : ℕ) → n < length xs → (x : X) × (slice_get xs n ≡ Some x)
+get-some [] n l = absurd (omega arith)
+get-some (x ∷ xs) zero l = (x, refl)
+get-some (x ∷ xs) (suc n) l = get-some xs n (let q : n < length xs = omega arith in q)
+
+all-from : {X : Type 0} (P : X → Type 0) (xs : List X) → ((k : ℕ) (x : X) → slice_get xs k ≡ Some x → P x) → AllByRecursion P xs
+all-from P [] f = tt
+all-from P (x ∷ xs) f = (f zero x refl, all-from P xs (λ k y e. f (suc k) y e))
+
+all-or : {X : Type 0} (P : X → Type 0) (xs : List X) (n : ℕ) (d : X) → AllByRecursion P xs → P d → P (get_or xs n d)
+all-or P [] n d h e = e
+all-or P (x ∷ xs) zero d h e = h.0
+all-or P (x ∷ xs) (suc n) d h e = all-or P xs n d h.1 e
+
+all-at : {X : Type 0} (p : X → Bool) (q : ℕ → Bool) (xs : List X) → ((k : ℕ) (x : X) → slice_get xs k ≡ Some x → p x ≡ q k) → list_all p xs ≡ every_below (length xs) q
+all-at p q xs f =
+    same-tests (list_all p xs) (every_below (length xs) q)
+    (λ all. every_below-from (length xs) q (λ k lt. let some = get-some xs k lt in sym (f k some.0 some.1) ∙ all-get (λ x. p x ≡ true) xs k some.0 (list_all-each p xs all) some.1))
+    (λ all. list_all-at p xs (all-from (λ x. p x ≡ true) xs (λ k x at. f k x at ∙ every_below-at (length xs) q k all (slice_get_within xs k x at))))
+
+all-over : {X : Type 0} (p : X → Bool) (f : ℕ → List X) (n : ℕ) → list_all p (flat_map f (upto n)) ≡ every_below n (λ i. list_all p (f i))
+unfolding upto below every_below
+all-over p f zero = refl
+all-over p f (suc n) = ap (list_all p) (over-push f (upto n) n) ∙ list_all-append p (flat_map f (upto n)) (f n) ∙ ap (λ b. b && list_all p (f n)) (all-over p f n)
+  where
+    over-push : {X : Type 0} (f : ℕ → List X) (xs : List ℕ) (x : ℕ) → flat_map f (xs ++ x ∷ []) ≡ flat_map f xs ++ f x
+    over-push f [] x = append-nil (f x)
+    over-push f (y ∷ xs) x = ap (λ zs. f y ++ zs) (over-push f xs x) ∙ sym (append_assoc (f y) (flat_map f xs) (f x))
+
+some : (n : ℕ) → (suc n == 0) ≡ false
+some n = ne_eqb (suc n) 0 (λ e. absurd (omega arith))
+
+pushed : (xs : List ℕ) (x : ℕ) → (length (xs ++ x ∷ []) == 0) ≡ false
+pushed [] x = refl
+pushed (y ∷ xs) x = some (length (xs ++ x ∷ []))
+
+and-true : (b : Bool) → (b && true) ≡ b
+and-true true = refl
+and-true false = refl
+
+none-below : (n : ℕ) (p : ℕ → Bool) → every_below n (λ i. not (p i)) ≡ (length (below n p) == 0)
+unfolding every_below below
+none-below zero p = refl
+none-below (suc n) p = elim (p n) as (λ b. (every_below n (λ i. not (p i)) && not b) ≡ (length (cond b (below n p ++ n ∷ []) (below n p)) == 0)) [
+  | true ↦ and_right (every_below n (λ i. not (p i))) false refl ∙ sym (pushed (below n p) n)
+  | false ↦ and-true (every_below n (λ i. not (p i))) ∙ none-below n p
+]
+
+blank-push : (f : ℕ → ℕ) (xs : List ℕ) (x : ℕ) → is_empty (map f (xs ++ x ∷ [])) ≡ false
+blank-push f [] x = refl
+blank-push f (y ∷ xs) x = refl
+
+blank-upto : (f : ℕ → ℕ) (n : ℕ) → is_empty (map f (upto n)) ≡ (n == 0)
+unfolding upto below
+blank-upto f zero = refl
+blank-upto f (suc n) = blank-push f (upto n) n ∙ sym (some n)
+
+room : (n m low low' size size' sent waits : ℕ) → n ≡ m → low ≡ low' → size' ≡ size → sent + waits ≡ m → min n (low + size) - sent ≡ min waits (low' + size' - sent)
+room n m low low' size size' sent waits a b c d = omega arith
+
+-- the test that an end of a link makes
+abbrev pub settled : SendingEnd → Bool
+settled s = length (unacked s.window) == 0 && sendable s == 0
+
+module _ (script : Script) (r : Run) (a b : ℕ) (s : SendingEnd) (h : SendsFor script s r a b) where
+  left : ℕ → Bool
+  left n = window.is_sent s.window n && not (window.is_acked s.window n)
+
+  told-number : (n : ℕ) (p : Packet) → is_number n p ≡ true → is_told script no_rules r a b p ≡ true → is_acked r a b n ≡ true
+  told-number n (Data p) e t = subst (λ k. is_acked r a b k ≡ true) (eqb-true p.seq n e) t
+  told-number n (Ack from to least bits) e t = absurd (false≢true e)
+
+  none-left : list_all (is_told script no_rules r a b) (r.wire a b) ≡ true → (n : ℕ) → not (left n) ≡ true
+  unfolding has_number left
+  none-left all n = elim (cases_Bool (window.is_sent s.window n)) [
+    | inl sent ↦
+        let found = any-all (is_number n) (λ p. is_told script no_rules r a b p ≡ true) (r.wire a b) (list_all-each (is_told script no_rules r a b) (r.wire a b) all) (h.numbers.sent n ∙ sent) in
+        let acked = sym (h.numbers.acked n) ∙ told-number n found.0 found.2 found.1 in
+        ap not (and_right (window.is_sent s.window n) (not (window.is_acked s.window n)) (ap not acked))
+    | inr waits ↦ ap not (and_left (window.is_sent s.window n) (not (window.is_acked s.window n)) waits)
+  ]
+
+  told-each : ((n : ℕ) → n < s.window.numbers → not (left n) ≡ true) → (k : ℕ) (p : Packet) → slice_get (r.wire a b) k ≡ Some p → is_told script no_rules r a b p ≡ true
+  unfolding has_number left
+  told-each none k (Ack from to least bits) at = refl
+  told-each none k (Data p) at =
+      let sent : window.is_sent s.window p.seq ≡ true = sym (h.numbers.sent p.seq) ∙ any-get (is_number p.seq) (r.wire a b) k (Data p) at (eqb-refl p.seq) in
+      let early = ltb-true p.seq (sent_count s.window) sent in
+      let whole = h.whole in
+      let within : p.seq < s.window.numbers = omega (arith, early, whole) in
+      h.numbers.acked p.seq
+      ∙ ⊎_elim
+      (λ (waits : window.is_sent s.window p.seq ≡ false). absurd (false≢true (sym waits ∙ sent)))
+      (λ (no : not (window.is_acked s.window p.seq) ≡ false). not-false (window.is_acked s.window p.seq) no)
+      (and_cases (window.is_sent s.window p.seq) (not (window.is_acked s.window p.seq)) (not-true (left p.seq) (none p.seq within)))
+
+  told-is : list_all (is_told script no_rules r a b) (r.wire a b) ≡ (length (unacked s.window) == 0)
+  unfolding left
+  told-is =
+      same-tests (list_all (is_told script no_rules r a b) (r.wire a b)) (every_below s.window.numbers (λ n. not (left n)))
+      (λ all. every_below-from s.window.numbers (λ n. not (left n)) (λ n lt. none-left all n))
+      (λ none. list_all-at (is_told script no_rules r a b) (r.wire a b) (all-from (λ p. is_told script no_rules r a b p ≡ true) (r.wire a b) (told-each (λ n lt. every_below-at s.window.numbers (λ k. not (left k)) n none lt))))
+      ∙ none-below s.window.numbers left
+
+  base-is : base script r a b ≡ base_of s.window
+  unfolding base
+  base-is = λ i. least_missing (sym h.numbers.numbers i) (λ n. h.numbers.acked n i)
+
+  fresh-is : IsRecord script no_rules r → is_empty (fresh script no_rules r r.journal a b) ≡ (sendable s == 0)
+  fresh-is is =
+      let sent = sent_count s.window in
+      ap is_empty (polls-next script no_rules r is r.journal a b sent h.numbers.sent)
+      ∙ blank-upto (λ i. sent + i) (min (length (out script r.journal a b)) (base script r a b + window_of script) - sent)
+      ∙ ap (λ n. n == 0) (room (length (out script r.journal a b)) s.window.numbers (base script r a b) (base_of s.window) (window_of script) s.window.window sent (length s.waiting) (sym h.numbers.numbers) base-is h.numbers.size h.whole)
+
+  pub settled-is : IsRecord script no_rules r → settled s ≡ is_settled script no_rules r a b
+  unfolding is_settled
+  settled-is is =
+      ap (λ x. x && sendable s == 0) (sym told-is)
+      ∙ ap (λ x. list_all (is_told script no_rules r a b) (r.wire a b) && x) (sym (fresh-is is))
+
+module _ (script : Script) (p : IsPerformed script) where
+  -- No statement of these forms is one that all tasks join.
+  built-join : (s : Statement) → is_built_statement s ≡ true → has_join s ≡ false
+  unfolding is_built_statement
+  built-join (statements.Store at bytes) h = refl
+  built-join (statements.Put target to from len tgt org cmpl) h = refl
+  built-join (statements.Wait counter value) h = refl
+  built-join (statements.Set counter value) h = refl
+  built-join (statements.Read counter) h = refl
+  built-join _ h = absurd (false≢true h)
+
+  no-join : (t i : ℕ) → has_join (statement script t i) ≡ false
+  unfolding statement
+  no-join t i =
+      let list = operations.statements script t in
+      let built : IsBuiltList list = all-or IsBuiltList script.lists t [] p.built tt in
+      all-or (λ s. has_join s ≡ false) list i statements.Fence (all-weaker (λ s. IsTrue (is_built_statement s)) (λ s. has_join s ≡ false) built-join list built) refl
+
+  -- A statement's messages are copied where it isn't one that waits for its copy.
+  copied-cases : (d i : Bool) (f : MsgName → Bool) (m : MsgName) → list_all f (cond (d && i) (m ∷ []) []) ≡ not (d && (i && not (f m)))
+  copied-cases true true f m = twice (f m)
+    where
+      twice : (b : Bool) → (b && true) ≡ not (not b)
+      twice true = refl
+      twice false = refl
+  copied-cases true false f m = refl
+  copied-cases false i f m = refl
+
+  copied-is : (J : List Event) (t i : ℕ) → list_all (λ m. done (Copied m) J) (to_copy_of script J t i) ≡ not (is_uncopied script J t i)
+  copied-is J t i =
+      let is = is_data (statement script t i) in
+      let issued = done (Issued t i) J in
+      ap (λ x. list_all (λ m. done (Copied m) J) (cond (is && issued) (message t i Go ∷ []) (cond (x && done (Entered t i) J) (joins script t i) []))) (no-join t i)
+      ∙ copied-cases is issued (λ m. done (Copied m) J) (message t i Go)
+
+  pub idle-is : (t : ℕ) (task : Task) (r : Run) → HoldsFor script t task r.journal → is_idle script no_rules r t ≡ (length task.uncopied.items == 0)
+  unfolding is_idle ready
+  idle-is t task r h =
+      let count = length (operations.statements script t) in
+      let free : every_below script.workers (λ w. not (is_some (runs r.journal t w))) ≡ true = every_below-from script.workers (λ w. not (is_some (runs r.journal t w))) (λ w l. ap (λ o. not (is_some o)) (h.jobless w)) in
+      ap (λ ms. (is_empty ms && every_below script.workers (λ w. not (is_some (runs r.journal t w)))) && list_all (λ m. done (Copied m) r.journal) (ready script r.journal t)) (no-queue script r.journal t)
+      ∙ ap (λ b. b && list_all (λ m. done (Copied m) r.journal) (ready script r.journal t)) free
+      ∙ all-over (λ m. done (Copied m) r.journal) (to_copy_of script r.journal t) count
+      ∙ ap (every_below count) (by_points _ _ (copied-is r.journal t))
+      ∙ none-below count (is_uncopied script r.journal t)
+      ∙ ap (λ (xs : List ℕ). length xs == 0) (sym h.uncopied)
+
+  sender-there : (r : Run) (t b : ℕ) (o : Option SendingEnd) (s : SendingEnd) → SenderAt script r t b o → o ≡ Some s → SendsFor script s r t b
+  sender-there r t b o s h e = subst (SenderAt script r t b) e h
+
+  pub links-settled : (t : ℕ) (task : Task) (r : Run) → IsAt script t task r → list_all settled task.senders.items ≡ every_below script.tasks (is_settled script no_rules r t)
+  links-settled t task r at =
+      let ends = task.senders.items in
+      let stands = at.stands in
+      all-at settled (is_settled script no_rules r t) ends (λ b s there.
+      let known : b < script.tasks = subst (λ n. b < n) stands.sender_count (slice_get_within ends b s there) in
+      settled-is script r t b s (sender-there r t b (slice_get ends b) s (stands.senders b known) there) at.recorded)
+      ∙ ap (λ n. every_below n (is_settled script no_rules r t)) stands.sender_count
+
+  pub still-is : (t : ℕ) (task : Task) (r : Run) → IsAt script t task r → (length task.uncopied.items == 0 && list_all settled task.senders.items) ≡ (is_idle script no_rules r t && every_below script.tasks (is_settled script no_rules r t))
+  still-is t task r at =
+      ap (λ x. x && list_all settled task.senders.items) (sym (idle-is t task r at.stands.holds))
+      ∙ ap (λ x. is_idle script no_rules r t && x) (links-settled t task r at)

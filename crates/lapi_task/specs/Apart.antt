@@ -1,0 +1,17 @@
+-- Lines at other tasks.
+use Rattle.std.specs.Prelude.{◌≡◌, ℕ, ◌==◌, false}
+use Rattle.lapi_base.specs.declared.script.Script.{Script}
+use Rattle.lapi_base.specs.declared.schedule.Act.{Act}
+use Rattle.lapi_base.specs.Record.{Run}
+use Rattle.lapi_base.specs.Seen.{no_rules, performed}
+use Rattle.lapi_base.specs.Spelling.{spells_packet}
+use Rattle.lapi_base.specs.TaskPart.{actor}
+use Rattle.lapi_base.specs.Valid.{ValidAct}
+use Rattle.lapi_task.specs.declared.task.Task.{Task}
+use Rattle.lapi_task.specs.Does.{IsAt}
+use Rattle.lapi_task.specs.Performed.{IsPerformed}
+use Rattle.lapi_task.specs.StandsFor.{StandsFor}
+
+-- where task t stands for a record, it stands for the one after a line at another task
+abbrev pub TasksStayApart : Type 0
+TasksStayApart = (script : Script) (t : ℕ) (task : Task) (r : Run) (act : Act) → IsPerformed script → IsAt script t task r → ValidAct script spells_packet act → (actor act == t) ≡ false → StandsFor script t task (performed script no_rules r act)

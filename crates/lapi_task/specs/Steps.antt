@@ -1,0 +1,83 @@
+-- What a statement changes in its task.
+use Rattle.std.specs.Prelude.{◌≡◌, ℕ, ◌+◌, ◌-◌, ◌<◌, ◌≤◌, List, [], ◌∷◌, ◌++◌, length, slice_index, slice_set}
+use Rattle.lapi_base.specs.declared.statement.Statement.{Statement}
+use Rattle.lapi_base.specs.declared.statement.Statement.TheVariants.{Store, Put, Wait, Set, Read}
+use Rattle.lapi_base.specs.declared.event.Event.{Event}
+use Rattle.lapi_base.specs.declared.event.Event.TheVariants.{Issue, Refuse, Pass}
+use Rattle.lapi_base.specs.declared.refusal.Refusal.{Refusal}
+use Rattle.lapi_memory.specs.TaskMemory.{written, IsWithin}
+use Rattle.lapi_base.specs.declared.script.Script.{Script}
+use Rattle.lapi_base.specs.Layout.{window_of, unit_of}
+use Rattle.lapi_link.specs.Receiver.{ReceivingEnd, ReceivesFor}
+use Rattle.lapi_task.specs.declared.outcome.Outcome.{Outcome}
+use Rattle.lapi_task.specs.declared.task.Task.{Task}
+
+-- the places and the counter that the statement names are there
+abbrev pub Suits : Statement → (memory counters : List ℕ) → Type 0
+Suits (Store at bytes) memory counters = IsWithin memory at (length bytes)
+Suits (Wait counter value) memory counters = counter < length counters
+Suits (Set counter value) memory counters = counter < length counters
+Suits (Read counter) memory counters = counter < length counters
+Suits _ memory counters = Unit {0}
+
+-- what the issue of a statement makes of a memory and of counters; what was read, and what is to be copied, with statement i
+abbrev pub stored : Statement → (memory : List ℕ) → List ℕ
+stored (Store at bytes) memory = written memory at bytes
+stored _ memory = memory
+
+abbrev pub counters_set : Statement → (counters : List ℕ) → List ℕ
+counters_set (Set counter value) counters = slice_set counters counter value
+counters_set _ counters = counters
+
+abbrev pub with_read : Statement → (counters : List ℕ) → (i : ℕ) → List (ℕ × ℕ) → List (ℕ × ℕ)
+with_read (Read counter) counters i before = before ++ (i, slice_index counters counter) ∷ []
+with_read _ counters i before = before
+
+abbrev pub with_uncopied : Statement → (i : ℕ) → List ℕ → List ℕ
+with_uncopied (Put target to from len tgt org cmpl) i before = before ++ i ∷ []
+with_uncopied _ i before = before
+
+-- an event was added, and the task is past a statement
+pub record IsPast (e : Event) (before after : Task) (old new : Outcome) : Type 0 where
+  pub number : after.number ≡ before.number
+  pub next : after.next ≡ before.next + 1
+  pub senders : after.senders.items ≡ before.senders.items
+  pub receivers : after.receivers.items ≡ before.receivers.items
+  pub events : new.events ≡ old.events ++ e ∷ []
+  pub entries : new.entries ≡ old.entries
+
+-- the statement was refused, issued, or passed
+pub record IsRefused (why : Refusal) (before after : Task) (old new : Outcome) : Type 0 where
+  pub past : IsPast (Refuse before.number before.next why) before after old new
+  pub memory : after.memory ≡ before.memory
+  pub counters : after.counters ≡ before.counters
+  pub reads : after.reads.items ≡ before.reads.items
+  pub refusals : after.refusals.items ≡ before.refusals.items ++ (before.next, why) ∷ []
+  pub uncopied : after.uncopied.items ≡ before.uncopied.items
+
+pub record IsIssued (s : Statement) (before after : Task) (old new : Outcome) : Type 0 where
+  pub past : IsPast (Issue before.number before.next) before after old new
+  pub memory : after.memory ≡ stored s before.memory
+  pub counters : after.counters ≡ counters_set s before.counters
+  pub reads : after.reads.items ≡ with_read s before.counters before.next before.reads.items
+  pub refusals : after.refusals.items ≡ before.refusals.items
+  pub uncopied : after.uncopied.items ≡ with_uncopied s before.next before.uncopied.items
+
+pub record IsPassed (counter value : ℕ) (before after : Task) (old new : Outcome) : Type 0 where
+  pub enough : value ≤ slice_index before.counters counter
+  pub past : IsPast (Pass before.number before.next) before after old new
+  pub memory : after.memory ≡ before.memory
+  pub counters : after.counters ≡ slice_set before.counters counter (slice_index before.counters counter - value)
+  pub reads : after.reads.items ≡ before.reads.items
+  pub refusals : after.refusals.items ≡ before.refusals.items
+  pub uncopied : after.uncopied.items ≡ before.uncopied.items
+
+-- the counter has less than the value, and nothing was changed
+pub record IsBlocked (counter value : ℕ) (before after : Task) (old new : Outcome) : Type 0 where
+  pub less : slice_index before.counters counter < value
+  pub task : after ≡ before
+  pub outcome : new ≡ old
+
+-- nothing was handed over on the link of this end
+abbrev pub IsBlank : ReceivingEnd → Type 0
+IsBlank made = (script : Script) → window_of script ≡ 32 → unit_of script ≡ 256 → ReceivesFor script made []

@@ -1,0 +1,71 @@
+ghost use Rattle.std.specs.Prelude.{◌≡◌, ◌+◌, nat_le, nat_lt, not, option_to_list};
+ghost use Rattle.std.specs.List.{list_any};
+ghost use Rattle.lapi_task.specs.Performed.{reason_of};
+
+use lapi_base::{Addr, Refusal, Script, Statement};
+
+/// The longest message.
+const LONGEST: u32 = 16_384;
+
+/// Why the statement is refused, if it is.
+#[tactic(auto, unfolding(lapi_base::specs::Layout::longest_of))]
+pub fn reason_of(script: &Script, statement: &Statement) -> Option<Refusal>
+    ensures { result ≡ reason_of script.now statement.now }
+{
+    match statement {
+        Statement::Store { at, bytes } => {
+            let is_within = lies_within(script.memory, *at, bytes.as_slice().len());
+            (!is_within).then_some(Refusal::BadOriginRange)
+        }
+        Statement::Put {
+            target,
+            to: Addr::Plain(to),
+            from,
+            len,
+            tgt,
+            org,
+            cmpl,
+        } => {
+            if *target >= script.tasks {
+                Some(Refusal::BadTask)
+            } else if !lies_within(script.memory, *to, *len as usize) {
+                Some(Refusal::BadTargetRange)
+            } else if !lies_within(script.memory, *from, *len as usize) {
+                Some(Refusal::BadOriginRange)
+            } else if is_missing(script, *tgt)
+                || is_missing(script, *org)
+                || is_missing(script, *cmpl)
+            {
+                Some(Refusal::BadCounter)
+            } else if *len > LONGEST {
+                Some(Refusal::TooLong)
+            } else {
+                None
+            }
+        }
+        Statement::Wait { counter, .. }
+        | Statement::Set { counter, .. }
+        | Statement::Read { counter } => {
+            let is_missing = *counter >= script.counters;
+            is_missing.then_some(Refusal::BadCounter)
+        }
+        _ => None,
+    }
+}
+
+/// Whether a counter is named that isn't there.
+fn is_missing(script: &Script, counter: Option<u32>) -> bool
+    ensures { result ≡ list_any (λ c. not (nat_lt c script.now.counters)) (option_to_list counter) }
+{
+    match counter {
+        Some(counter) => counter >= script.counters,
+        None => false,
+    }
+}
+
+/// Whether so many bytes from `at` on lie below `size`.
+fn lies_within(size: u32, at: u32, len: usize) -> bool
+    ensures { result ≡ nat_le (at + len) size }
+{
+    at <= size && len <= (size - at) as usize
+}

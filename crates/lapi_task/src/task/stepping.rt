@@ -1,0 +1,157 @@
+//! How a task begins, and how it performs its statements.
+ghost use Rattle.std.specs.Prelude.{◌≡◌, ℕ, ◌+◌, ◌<◌, ◌^◌, ◌∷◌, [], ◌++◌, false, IsTrue, IfOk, OnOk, length};
+ghost use Rattle.std.specs.List.{AllByRecursion};
+ghost use Rattle.lapi_base.specs.Record.{Run, start, step};
+ghost use Rattle.lapi_base.specs.Seen.{no_rules};
+ghost use Rattle.lapi_link.specs.Sender.{IsFresh};
+ghost use Rattle.lapi_task.specs.Performed.{IsPerformed};
+ghost use Rattle.lapi_task.specs.StandsFor.{StandsFor};
+ghost use Rattle.lapi_task.specs.Steps.{Suits, IsRefused, IsIssued, IsPassed, IsBlocked, IsPast, IsBlank};
+ghost use Rattle.lapi_task.specs.Does.{IsAt, IsAtSome, Does};
+
+use crate::outcome::Outcome;
+use crate::reason::reason_of;
+use crate::statement::statement_of;
+use crate::task::Task;
+use lapi_base::{Event, Memory, Refusal, Reply, Script, Statement};
+use lapi_counters::Counters;
+use lapi_link::{Receiver, Sender};
+use lapi_memory::TaskMemory;
+use std::alloc::Global;
+use std::collections::VecDeque;
+
+impl Task {
+    /// A task of the script before its first line.
+    pub fn new(alloc: Global, script: &Script, task: u32) -> Result<Task, Memory>
+        requires script { IsPerformed script.now }
+        requires task { task < script.now.tasks }
+        ensures { IfOk result (λ made. StandsFor script.now task made start) }
+    {
+        let memory = TaskMemory::new(alloc, script.memory)?;
+        let counters = Counters::new(alloc, script.counters)?;
+        let senders = senders(alloc, script.tasks)?;
+        let receivers = receivers(alloc, script.tasks)?;
+        Ok(Task {
+            number: task,
+            next: 0,
+            memory,
+            counters,
+            reads: Vec::new(alloc),
+            refusals: Vec::new(alloc),
+            uncopied: VecDeque::new(alloc),
+            senders,
+            receivers,
+        })
+    }
+
+    /// Performs the next statement, if its condition holds.
+    pub fn step(&mut self, script: &Script, out: &mut Outcome) -> Result<Reply, Memory>
+        requires script { IsPerformed script.now }
+        requires record { IsAtSome script.now self.old }
+        ensures does { OnOk result ((t : ℕ) (r : Run) → IsAt script.now t self.old r → Does script.now t r (step script.now no_rules r t) self.new out.old out.new) }
+        ensures reply { IfOk result (λ reply. (t : ℕ) (r : Run) → IsAt script.now t self.old r → (step script.now no_rules r t).replies ≡ r.replies ++ reply ∷ []) }
+    {
+        let Some(statement) = statement_of(script, self.number, self.next) else {
+            return Ok(Reply::Idle);
+        };
+        if let Some(why) = reason_of(script, statement) {
+            self.refuse(why, out)?;
+            return Ok(Reply::Did);
+        }
+        if let Statement::Wait { counter, value } = statement {
+            let is_past = self.wait(*counter, *value, out)?;
+            return Ok(if is_past { Reply::Did } else { Reply::Blocked });
+        }
+        self.issue(statement, out)?;
+        Ok(Reply::Did)
+    }
+
+    /// The next statement is refused.
+    fn refuse(&mut self, why: Refusal, out: &mut Outcome) -> Result<(), Memory>
+        requires { self.old.next + 1 < 2 ^ 32 }
+        ensures { OnOk result (IsRefused why self.old self.new out.old out.new) }
+    {
+        self.refusals.push((self.next, why))?;
+        let event = Event::Refuse {
+            task: self.number,
+            statement: self.next,
+            why,
+        };
+        self.advance(event, out)
+    }
+
+    /// The next statement takes the value from the counter, or waits; whether it did.
+    fn wait(&mut self, counter: u32, value: u32, out: &mut Outcome) -> Result<bool, Memory>
+        requires next { self.old.next + 1 < 2 ^ 32 }
+        requires counter { counter < length self.old.counters }
+        ensures passed { IfOk result (λ is_past. IsTrue is_past → IsPassed counter value self.old self.new out.old out.new) }
+        ensures blocked { IfOk result (λ is_past. is_past ≡ false → IsBlocked counter value self.old self.new out.old out.new) }
+    {
+        if !self.counters.try_wait(counter, value) {
+            return Ok(false);
+        }
+        let event = Event::Pass {
+            task: self.number,
+            statement: self.next,
+        };
+        self.advance(event, out)?;
+        Ok(true)
+    }
+
+    /// The next statement is issued.
+    fn issue(&mut self, statement: &Statement, out: &mut Outcome) -> Result<(), Memory>
+        requires next { self.old.next + 1 < 2 ^ 32 }
+        requires suits { Suits statement.now self.old.memory self.old.counters }
+        ensures { OnOk result (IsIssued statement.now self.old self.new out.old out.new) }
+    {
+        match statement {
+            Statement::Store { at, bytes } => self.memory.write(*at, bytes.as_slice()),
+            Statement::Put { .. } => self.uncopied.push_back(self.next)?,
+            Statement::Set { counter, value } => self.counters.set(*counter, *value),
+            Statement::Read { counter } => {
+                let value = self.counters.get(*counter);
+                self.reads.push((self.next, value))?;
+            }
+            _ => {}
+        }
+        let event = Event::Issue {
+            task: self.number,
+            statement: self.next,
+        };
+        self.advance(event, out)
+    }
+
+    fn advance(&mut self, event: Event, out: &mut Outcome) -> Result<(), Memory>
+        requires { self.old.next + 1 < 2 ^ 32 }
+        ensures past { OnOk result (IsPast event self.old self.new out.old out.new) }
+        ensures rest { self.new ≡ record self.old { next = self.new.next } }
+    {
+        out.events.push(event)?;
+        self.next += 1;
+        Ok(())
+    }
+}
+
+/// The sending ends of so many links.
+fn senders(alloc: Global, count: u32) -> Result<Vec<Sender>, Memory>
+    ensures { IfOk result (λ made. (length made.items ≡ count) × AllByRecursion IsFresh made.items) }
+{
+    let mut senders = Vec::new(alloc);
+    for _task in 0..count {
+        let sender = Sender::new(alloc)?;
+        senders.push(sender)?;
+    }
+    Ok(senders)
+}
+
+/// The receiving ends of so many links.
+fn receivers(alloc: Global, count: u32) -> Result<Vec<Receiver>, Memory>
+    ensures { IfOk result (λ made. (length made.items ≡ count) × AllByRecursion IsBlank made.items) }
+{
+    let mut receivers = Vec::new(alloc);
+    for _task in 0..count {
+        let receiver = Receiver::new(alloc)?;
+        receivers.push(receiver)?;
+    }
+    Ok(receivers)
+}
