@@ -21,6 +21,7 @@ use Rattle.lapi_base.specs.Valid.{ValidAct}
 use Rattle.lapi_base.specs.Written as written
 use Rattle.lapi_parts.proofs.OtherTasks.{others-stay}
 use Rattle.lapi_parts.proofs.SameParts.{same-part}
+use Rattle.lapi_task.proofs.Apart.{stays-apart}
 use Rattle.lapi_task.specs.declared.outcome.Outcome.{Outcome}
 use Rattle.lapi_task.specs.declared.task.Task.{Task}
 use Rattle.lapi_task.specs.Does.{IsAt, IsAtSome, Does, bytes_to}
@@ -29,7 +30,6 @@ use Rattle.lapi_task.specs.StandsFor.{StandsFor}
 use Rattle.lapi_world.specs.declared.kept.Kept.{Kept}
 use Rattle.lapi_world.specs.Grows.{bytes_at, ArePut, IsAdded}
 use Rattle.lapi_world.specs.Stands.{TaskAt, TasksStand, WiresStand, Stands, StandsForOne}
-use Rattle.lapi_world.proofs.Apart.{StayApart}
 use Rattle.lapi_world.proofs.Lists.{get-set, get-set-other, found-at}
 use Rattle.lapi_world.proofs.Putting.{reverse-followed, put-length, own-bytes, other-bytes}
 
@@ -95,7 +95,7 @@ module _ (script : Script) where
   moved r s u f (Some task) h = f task h
 
   -- A task's outcome was added.
-  module _ (perf : IsPerformed script) (apart : StayApart) (r : Run) (is : IsRecord script no_rules r) (act : Act) (valid : ValidAct script spells_packet act) (t : ℕ) (acts-at : actor act ≡ t) (known : t < script.tasks) where
+  module _ (perf : IsPerformed script) (r : Run) (is : IsRecord script no_rules r) (act : Act) (valid : ValidAct script spells_packet act) (t : ℕ) (acts-at : actor act ≡ t) (known : t < script.tasks) where
     abbrev after : Run
     after = performed script no_rules r act
 
@@ -108,7 +108,7 @@ module _ (script : Script) where
         (λ (same : u ≡ t). subst (λ v. TaskAt script after v (slice_get (set old.tasks.items t task) v)) (sym same) (let before = task-found r t old h known in subst (TaskAt script after t) (sym (get-set old.tasks.items t before.0 task before.1)) new))
         (λ (differs : u ≡ t → ⊥).
         subst (TaskAt script after u) (sym (get-set-other old.tasks.items t u task differs))
-        (moved r after u (λ x s. apart script u x r act perf (record { recorded = is; known = l; stands = s }) valid (other-actor u differs)) (slice_get old.tasks.items u) (h.tasks u l)))
+        (moved r after u (λ x s. stays-apart script u x r act perf (record { recorded = is; known = l; stands = s }) valid (other-actor u differs)) (slice_get old.tasks.items u) (h.tasks u l)))
         (cases_eq u t)
 
     wires-after : (old new : Kept) (task : Task) (blank out : Outcome) → Stands script old r → Does script t r after task blank out → blank.entries ≡ [] → ArePut script.tasks t out.entries old.wires.items new.wires.items → WiresStand script after new.wires.items

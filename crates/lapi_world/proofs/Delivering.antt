@@ -55,6 +55,8 @@ module _ (script : Script) where
     task-with t None h = absurd h
     task-with t (Some task) h = record {
       holds = h.holds;
+      sender_count = h.sender_count;
+      receiver_count = h.receiver_count;
       senders = λ b l. sender-with t b (slice_get task.senders.items b) (h.senders b l);
       receivers = h.receivers;
     }

@@ -2,7 +2,6 @@ pub mod Lists
 pub mod Pairs
 pub mod Putting
 pub mod Beginnings
-pub mod Apart
 pub mod Acts
 pub mod Delivering
 pub mod Quietness
