@@ -1,6 +1,6 @@
 -- Lists by their places.
 use Rattle.std.proofs.Common.{◌≡◌, ℕ, zero, suc, ◌<◌, List, [], ◌∷◌, ◌++◌, length, get_or, set, take, Some, refl, sym, ap, ◌∙◌, subst, arith}
-use Rattle.std.specs.Prelude.{slice_get, Result, Ok, Err, OnOk}
+use Rattle.std.specs.Prelude.{slice_get, Result, Ok, Err, IfOk}
 use Rattle.std.specs.List.{AllByRecursion}
 use Rattle.std.proofs.lemmas.List.{length_push, take_more}
 use Rattle.std.proofs.lemmas.Option.{get_or_from_slice_get}
@@ -27,10 +27,10 @@ get-set-other (z ∷ xs) (suc n) (suc k) y apart = get-set-other xs n k y (λ e.
 pub at-place : {X : Type 0} (xs : List X) (n : ℕ) (x y : X) → slice_get xs n ≡ Some x → y ≡ get_or xs n y → y ≡ x
 at-place xs n x y h e = e ∙ get_or_from_slice_get xs n x y h
 
--- what follows from a fact of the answer Ok
-pub on-ok : {A B : Type 0} (P Q : Type 0) (result : Result A B) → (P → Q) → OnOk result P → OnOk result Q
-on-ok P Q (Ok x) f h = f h
-on-ok P Q (Err e) f h = h
+-- what follows from a fact of what an Ok holds
+pub if-ok : {A B : Type 0} (P Q : A → Type 0) (result : Result A B) → ((x : A) → P x → Q x) → IfOk result P → IfOk result Q
+if-ok P Q (Ok x) f h = f x h
+if-ok P Q (Err e) f h = h
 
 -- an item that is read within the list stands there
 pub found-at : {X : Type 0} (xs : List X) (n : ℕ) (x : X) → n < length xs → x ≡ get_or xs n x → slice_get xs n ≡ Some x
