@@ -1,4 +1,5 @@
 pub mod Apart
+pub mod CopyLaws
 pub mod CopyLists
 pub mod Forms
 pub mod Jobless

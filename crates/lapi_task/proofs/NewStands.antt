@@ -1,21 +1,18 @@
 -- A task before its first statement.
-use Rattle.std.proofs.Common.{◌≡◌, ℕ, zero, suc, ◌+◌, ◌<◌, ◌==◌, Bool, true, false, not, ◌&&◌, List, [], ◌∷◌, length, replicate, Some, None, refl, sym, ap, ◌∙◌, subst, arith}
+use Rattle.std.proofs.Common.{◌≡◌, ℕ, zero, suc, ◌<◌, false, List, [], ◌∷◌, length, replicate, Some, refl, sym, ap, ◌∙◌, subst, arith}
 use Rattle.std.specs.Prelude.{slice_get, slice_index, nat_lt}
 use Rattle.std.specs.List.{AllByRecursion}
 use Rattle.std.proofs.lemmas.Bool.{and_right, le-ltb}
 use Rattle.std.proofs.lemmas.List.{length-replicate, get_or-replicate}
 use Rattle.lapi_base.specs.declared.script.Script.{Script}
-use Rattle.lapi_base.specs.declared.message.Leg.TheVariants.{Go}
 use Rattle.lapi_base.specs.Counters.{count, reads}
 use Rattle.lapi_base.specs.Jobs.{runs}
 use Rattle.lapi_base.specs.Layout.{window_of, unit_of}
-use Rattle.lapi_base.specs.Names.{message, done, Issued, Copied}
+use Rattle.lapi_base.specs.Names.{done}
 use Rattle.lapi_base.specs.Operations.{statements, statement, is_data}
 use Rattle.lapi_base.specs.Record.{start, out, has_number, has_ack}
 use Rattle.lapi_base.specs.Refusals.{next, refusals}
-use Rattle.lapi_base.specs.Seen.{no_rules}
 use Rattle.lapi_laws.proofs.Out.{all-get}
-use Rattle.lapi_link.specs.Receiver.{ReceivingEnd}
 use Rattle.lapi_link.specs.Sender.{SendingEnd, IsFresh}
 use Rattle.lapi_window.proofs.Sets.{below-none}
 use Rattle.lapi_task.specs.declared.task.Task.{Task}

@@ -1,10 +1,10 @@
 -- The statements of a script that is performed: why they are refused, and what they do otherwise.
-use Rattle.std.proofs.Common.{◌≡◌, ℕ, ◌+◌, ◌<◌, ◌≤◌, Bool, true, false, cond, not, ◌||◌, IsTrue, List, [], ◌∷◌, length, get_or, zero, suc, Option, Some, None, refl, sym, ap, ◌∙◌, subst, ⊎_elim, arith, lit≤}
+use Rattle.std.proofs.Common.{◌≡◌, ℕ, ◌+◌, ◌<◌, ◌≤◌, Bool, true, false, cond, not, ◌||◌, IsTrue, List, [], ◌∷◌, length, get_or, zero, suc, Option, Some, None, refl, sym, ap, ◌∙◌, ⊎_elim, lit≤}
 use Rattle.std.specs.Prelude.{slice_get, nat_le, nat_lt}
-use Rattle.std.specs.List.{AllByRecursion, list_any}
+use Rattle.std.specs.List.{AllByRecursion}
 use Rattle.std.proofs.lemmas.Bool.{false≢true, cases_lt, le-leb, lt-leb, le-ltb, lt-ltb}
 use Rattle.std.proofs.lemmas.Option.{get_or_from_slice_get}
-use Rattle.lapi_base.specs.declared.address.Addr.TheVariants.{Plain, Table}
+use Rattle.lapi_base.specs.declared.address.Addr.TheVariants.{Plain}
 use Rattle.lapi_base.specs.declared.statement.Statement.{Statement}
 use Rattle.lapi_base.specs.declared.statement.Statement.TheVariants as statements
 use Rattle.lapi_base.specs.declared.script.Script.{Script}
@@ -16,6 +16,7 @@ use Rattle.lapi_base.specs.Operations.{statement, address}
 use Rattle.lapi_base.specs.Operations as operations
 use Rattle.lapi_base.specs.Refusals.{first_reason, why_by, why}
 use Rattle.lapi_base.specs.Seen.{no_rules}
+use Rattle.lapi_base.specs.Valid.{ValidStatement}
 use Rattle.lapi_laws.proofs.Out.{all-get}
 use Rattle.lapi_task.specs.Performed.{IsPerformed, names_no_counter, reason_of}
 
@@ -90,6 +91,6 @@ statement-built script p a i s h = all-get (λ x. IsTrue (is_built_statement x))
 pub few-statements : (script : Script) → IsPerformed script → (a : ℕ) → length (operations.statements script a) ≤ 512
 few-statements script p a = all-or (λ (list : List Statement). length list ≤ 512) script.lists a [] (firsts script.lists p.valid.lists) (lit≤ tt)
   where
-    firsts : (lists : List (List Statement)) → AllByRecursion (λ (list : List Statement). (length list ≤ 512) × AllByRecursion Rattle.lapi_base.specs.Valid.ValidStatement list) lists → AllByRecursion (λ (list : List Statement). length list ≤ 512) lists
+    firsts : (lists : List (List Statement)) → AllByRecursion (λ (list : List Statement). (length list ≤ 512) × AllByRecursion ValidStatement list) lists → AllByRecursion (λ (list : List Statement). length list ≤ 512) lists
     firsts [] h = tt
     firsts (x ∷ xs) h = (h.0.0, firsts xs h.1)

@@ -1,7 +1,7 @@
 -- What a step does, by the event that it adds.
-use Rattle.std.proofs.Common.{◌≡◌, ℕ, suc, zero, ◌+◌, ◌<◌, ◌≤◌, ◌^◌, ◌==◌, Bool, true, false, cond, List, [], ◌∷◌, ◌++◌, length, Option, Some, None, refl, sym, ap, ◌∙◌, subst, ⊎_elim, arith}
+use Rattle.std.proofs.Common.{◌≡◌, ℕ, suc, zero, ◌+◌, ◌<◌, ◌≤◌, ◌^◌, Bool, true, false, cond, List, [], ◌∷◌, ◌++◌, length, Option, Some, None, refl, sym, ap, ◌∙◌, subst, arith}
 use Rattle.std.specs.Prelude.{slice_get, slice_index, nat_lt, nat_le}
-use Rattle.std.proofs.lemmas.Bool.{false≢true, cond-true, cond-false, lt-ltb, le-ltb, le-leb, lt-leb, cases_lt, both_ways, false_from_ne_true}
+use Rattle.std.proofs.lemmas.Bool.{false≢true, cond-true, cond-false, lt-ltb, le-ltb, le-leb, lt-leb, both_ways, false_from_ne_true}
 use Rattle.std.proofs.lemmas.List.{append-nil}
 use Rattle.std.proofs.lemmas.Option.{slice_get_within}
 use Rattle.lapi_base.specs.declared.script.Script.{Script}
@@ -11,20 +11,18 @@ use Rattle.lapi_base.specs.declared.refusal.Refusal.{Refusal}
 use Rattle.lapi_base.specs.declared.event.Event.{Event}
 use Rattle.lapi_base.specs.declared.event.Event.TheVariants.{Issue, Refuse, Pass}
 use Rattle.lapi_base.specs.declared.message.Leg.TheVariants.{Go}
-use Rattle.lapi_base.specs.declared.message.MsgName.{MsgName}
 use Rattle.lapi_base.specs.declared.reply.Reply.{Reply}
 use Rattle.lapi_base.specs.declared.reply.Reply.TheVariants.{Did, Idle, Blocked}
 use Rattle.lapi_base.specs.Atomic.{needs}
 use Rattle.lapi_base.specs.Built.{is_built_statement}
 use Rattle.lapi_base.specs.Counters.{count}
-use Rattle.lapi_base.specs.Names.{message, done, Issued, Copied}
+use Rattle.lapi_base.specs.Names.{message, done, Copied}
 use Rattle.lapi_base.specs.Operations.{statement}
 use Rattle.lapi_base.specs.Operations as operations
 use Rattle.lapi_base.specs.Record.{Run, out, step, event_if, add_event, unless_refused, reply_with, with_events, followed, proposed}
 use Rattle.lapi_base.specs.Refusals.{next, why}
-use Rattle.lapi_base.specs.Seen.{no_rules, IsRecord}
+use Rattle.lapi_base.specs.Seen.{no_rules}
 use Rattle.lapi_base.specs.Values.{values}
-use Rattle.lapi_base.specs.Written as written
 use Rattle.lapi_laws.proofs.Backward.{closed}
 use Rattle.lapi_link.specs.Sender.{SendingEnd}
 use Rattle.lapi_parts.proofs.Records.{record-sound}

@@ -1,7 +1,7 @@
 -- The bytes of a memory after an event.
-use Rattle.std.proofs.Common.{◌≡◌, ℕ, zero, suc, ◌+◌, ◌-◌, ◌<◌, ◌≤◌, ◌==◌, Bool, true, false, cond, List, [], ◌∷◌, ◌++◌, map, length, get_or, replicate, refl, sym, ap, ◌∙◌, ⊎_elim, arith}
+use Rattle.std.proofs.Common.{◌≡◌, ℕ, zero, suc, ◌+◌, ◌-◌, ◌<◌, ◌≤◌, ◌==◌, Bool, true, false, cond, List, [], ◌∷◌, ◌++◌, map, length, get_or, take, drop, replicate, refl, sym, ap, ◌∙◌, ⊎_elim, arith}
 use Rattle.std.proofs.lemmas.Bool.{cond-true, cases_lt}
-use Rattle.std.proofs.lemmas.List.{same_lists, length-append, length-map, get_or_append_left, get_or-append_right, get_or_default, map-append, length-replicate, get_or-replicate, places}
+use Rattle.std.proofs.lemmas.List.{same_lists, length-append, length-map, get_or_append_left, get_or-append_right, get_or_default, get_or-take, get_or-drop, length-take-le, length-drop, map-append, length-replicate, get_or-replicate, places}
 use Rattle.lapi_base.specs.declared.script.Script.{Script}
 use Rattle.lapi_base.specs.declared.event.Event.{Event}
 use Rattle.lapi_base.specs.Below.{below}
@@ -13,14 +13,14 @@ use Rattle.lapi_laws.proofs.Places.{upto-length}
 use Rattle.lapi_memory.specs.TaskMemory.{written}
 use Rattle.lapi_memory.proofs.Writes.{byte_written}
 
-length-over : {X : Type 0} (f : ℕ → X) (n : ℕ) → length (map f (upto n)) ≡ n
+pub length-over : {X : Type 0} (f : ℕ → X) (n : ℕ) → length (map f (upto n)) ≡ n
 length-over f n = length-map (upto n) f ∙ upto-length n
 
 over-more : {X : Type 0} (f : ℕ → X) (n : ℕ) → map f (upto (suc n)) ≡ map f (upto n) ++ f n ∷ []
 unfolding upto below
 over-more f n = map-append f (upto n) (n ∷ [])
 
-over-at : {X : Type 0} (f : ℕ → X) (n k : ℕ) (d : X) → k < n → get_or (map f (upto n)) k d ≡ f k
+pub over-at : {X : Type 0} (f : ℕ → X) (n k : ℕ) (d : X) → k < n → get_or (map f (upto n)) k d ≡ f k
 over-at f zero k d l = absurd (omega arith)
 over-at f (suc n) k d l =
     ap (λ xs. get_or xs k d) (over-more f n)
@@ -33,11 +33,19 @@ over-at f (suc n) k d l =
     (cases_lt k n)
 
 -- the list of what holds at each place
-is-over : {X : Type 0} (xs : List X) (f : ℕ → X) (n : ℕ) → length xs ≡ n → ((k : ℕ) (d : X) → k < n → get_or xs k d ≡ f k) → xs ≡ map f (upto n)
+pub is-over : {X : Type 0} (xs : List X) (f : ℕ → X) (n : ℕ) → length xs ≡ n → ((k : ℕ) (d : X) → k < n → get_or xs k d ≡ f k) → xs ≡ map f (upto n)
 is-over xs f n e at = same_lists xs (map f (upto n)) (e ∙ sym (length-over f n)) (λ k d l. let q : k < n = omega (arith, e) in at k d q ∙ sym (over-at f n k d q))
 
 over-same : {X : Type 0} (f g : ℕ → X) (n : ℕ) → ((x : ℕ) → f x ≡ g x) → map f (upto n) ≡ map g (upto n)
 over-same f g n h = λ i. map (λ x. h x i) (upto n)
+
+-- the bytes that are read are those of the places
+pub read-over : (f : ℕ → ℕ) (size at len : ℕ) → at + len ≤ size → take len (drop at (map f (upto size))) ≡ map (λ k. f (at + k)) (upto len)
+read-over f size at len l =
+    let whole = length-over f size in
+    let rest = length-drop at (map f (upto size)) in
+    is-over (take len (drop at (map f (upto size)))) (λ k. f (at + k)) len (length-take-le len (drop at (map f (upto size))) (omega (arith, whole, rest)))
+    (λ k d lt. get_or-take len (drop at (map f (upto size))) k d lt ∙ get_or-drop at (map f (upto size)) k d ∙ over-at f size (at + k) d (omega arith))
 
 length-written : (memory : List ℕ) (at : ℕ) (bytes : List ℕ) → at + length bytes ≤ length memory → length (written memory at bytes) ≡ length memory
 length-written memory at bytes l = grind (arith, places)

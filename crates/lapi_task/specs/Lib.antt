@@ -1,5 +1,6 @@
 pub mod Apart
 pub mod Counting
+pub mod Copies
 pub mod Does
 pub mod Performed
 pub mod Puts

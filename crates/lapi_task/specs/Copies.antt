@@ -1,0 +1,59 @@
+-- What a copy changes in its task, and what a poll sends.
+use Rattle.std.specs.Prelude.{◌≡◌, ◌≢◌, ℕ, ◌+◌, ◌<◌, ◌≤◌, ◌^◌, List, ◌∷◌, length, map, take, drop, set, slice_get, Option, Some, option_map}
+use Rattle.lapi_base.specs.declared.event.Event.TheVariants.{Copy}
+use Rattle.lapi_base.specs.declared.script.Script.{Script}
+use Rattle.lapi_base.specs.declared.message.Leg.TheVariants.{Go}
+use Rattle.lapi_base.specs.declared.packet.Packet.TheVariants.{Data}
+use Rattle.lapi_base.specs.Atomic.{Atomic}
+use Rattle.lapi_base.specs.Fragments.{fragments_in, fragment_bytes}
+use Rattle.lapi_base.specs.Names.{message}
+use Rattle.lapi_base.specs.Record.{Run}
+use Rattle.lapi_base.specs.Seen.{no_rules}
+use Rattle.lapi_base.specs.Spelling.{HasSpelling}
+use Rattle.lapi_link.specs.Sender.{SendingEnd, sendable, sent}
+use Rattle.lapi_memory.specs.TaskMemory.{bytes_at, IsWithin}
+use Rattle.lapi_task.specs.declared.put.Put.{Put}
+use Rattle.lapi_task.specs.declared.task.Task.{Task}
+use Rattle.lapi_task.specs.Counting.{announced}
+use Rattle.lapi_task.specs.Puts.{put_packet, put_packets, extended}
+use Rattle.lapi_task.specs.StandsFor.{StandsFor}
+
+-- the bytes that a put reads
+abbrev pub source : Task → Put → List ℕ
+source task put = bytes_at task.memory put.from put.len
+
+-- A put may be copied: its target, its source and its counter are there, it isn't too long, and its packets have spellings;
+pub record IsCopyable (task : Task) (put : Put) (i : ℕ) : Type 0 where
+  pub target : put.target < length task.senders.items
+  pub within : IsWithin task.memory put.from put.len
+  pub short : put.len ≤ 16384
+  pub counter : (c : ℕ) → put.org ≡ Some c → c < length task.counters
+  pub spelled : (n j : ℕ) → n < 2 ^ 32 → j < fragments_in 256 put.len → HasSpelling (Data (put_packet put task.number i n j (fragment_bytes 256 j (source task put))))
+
+-- and this was changed as it was.
+pub record IsCopied (put : Put) (i : ℕ) (before after : Task) : Type 0 where
+  pub sender : SendingEnd
+  pub senders : after.senders.items ≡ set before.senders.items put.target sender
+  pub change : (s : SendingEnd) → slice_get before.senders.items put.target ≡ Some s → sender ≡ extended s (put_packets put before.number i s.window.numbers (source before put))
+  pub counters : after.counters ≡ announced before.counters put.org
+  pub rest : after ≡ record before { senders = after.senders; counters = after.counters }
+
+-- Statement i is the first whose data wait, and its Copy may be the next event.
+pub record CopiesNext (script : Script) (t : ℕ) (task : Task) (r : Run) (i : ℕ) (rest : List ℕ) : Type 0 where
+  pub known : t < script.tasks
+  pub stands : StandsFor script t task r
+  pub first : task.uncopied.items ≡ i ∷ rest
+  pub atomic : Atomic script no_rules (Copy (message t i Go) ∷ r.journal)
+
+-- an end once all was sent that may be
+abbrev pub sent_now : SendingEnd → SendingEnd
+sent_now s = sent s (sendable s)
+
+abbrev pub packets_now : SendingEnd → List (List ℕ)
+packets_now s = take (sendable s) s.waiting
+
+-- so many of the ends have sent what they may
+pub record AllSent (count : ℕ) (before after : List SendingEnd) : Type 0 where
+  pub done : (b : ℕ) → b < count → slice_get after b ≡ option_map sent_now (slice_get before b)
+  pub others : (b : ℕ) → count ≤ b → slice_get after b ≡ slice_get before b
+  pub size : length after ≡ length before
