@@ -223,7 +223,15 @@ fn packet_delivered_twice_lands_once(rt: HostRuntime) -> Result<(), Fail> {
 fn tick_sends_again_until_it_is_told(rt: HostRuntime) -> Result<(), Fail> {
     let there = Plan::Deliver(End::First, End::Second);
     let back = Plan::Deliver(End::Second, End::First);
-    let plans = [Plan::Step, Plan::Step, Plan::Poll, Plan::Tick, there, back, Plan::Tick];
+    let plans = [
+        Plan::Step,
+        Plan::Step,
+        Plan::Poll,
+        Plan::Tick,
+        there,
+        back,
+        Plan::Tick,
+    ];
     let mut world = world_of(rt.alloc(), 1, &plans)?;
     take(rt.alloc(), &mut world, 7)?;
     assert!(rt; is_wire(world.wire(0, 1), &[DATA, DATA]) && world.quiet());
