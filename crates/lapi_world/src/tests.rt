@@ -107,7 +107,7 @@ fn schedule_of(alloc: Global, plans: &[Plan]) -> Result<Schedule, Memory>
 /// A store of eight bytes, and a put of them.
 #[tactic(auto, unfolding(lapi_base::specs::Built::is_built_statement))]
 fn statements_of(alloc: Global, target: u32) -> Result<Statements, Memory>
-    ensures { IfOk result (λ list. IsBuiltList list × AllByRecursion ValidStatement list) }
+    ensures { IfOk result (λ list. IsBuiltList list × AllByRecursion ValidStatement list × (length list ≡ 2)) }
 {
     let mut list = Statements::new(alloc);
     list.push(Statement::Store {
