@@ -14,8 +14,9 @@ ghost use Rattle.lapi_report.specs.Written.{Wrote};
 use crate::memory::write_memory;
 use crate::parts::add_refusal;
 use crate::text_line::TextLine;
-use lapi_base::{Refusal, Script};
+use lapi_base::{Refusal, Script, Span};
 use lapi_io::{Failed, Sink};
+use lapi_memory::TaskMemory;
 use lapi_world::World;
 
 #[tactic(auto, unfolding(lapi_base::specs::ReportText::task_text))]
@@ -29,7 +30,16 @@ pub(crate) fn write_task<K: Sink>(world: &World, t: u32, sink: &mut K) -> Result
     write_standing(world, t, sink)?;
     write_statements(world, t, sink)?;
     write_counters(world, t, sink)?;
-    write_memory(t, world.bytes(t), sink)
+    write_memory(t, bytes_of(world.task(t).memory()), sink)
+}
+
+fn bytes_of(memory: &TaskMemory) -> &[u8]
+    ensures { result.now ≡ memory.now }
+{
+    memory.read(&Span {
+        at: 0,
+        len: memory.size(),
+    })
 }
 
 /// How many statements the task has.
@@ -49,17 +59,18 @@ fn write_standing<K: Sink>(world: &World, t: u32, sink: &mut K) -> Result<(), Fa
     ensures cause { HasCause (K.faults sink.old) (K.faults sink.new) result }
     ensures room { K.room sink.new ≡ K.room sink.old }
 {
+    let task = world.task(t);
     let mut line = TextLine::new();
     line.begin("task ");
     line.number(u64::from(t));
     line.text(" at ");
-    line.number(u64::from(world.next(t)));
+    line.number(u64::from(task.next()));
     line.text(" of ");
     line.number(statement_count(world.script(), t) as u64);
     line.text(" queued ");
-    line.number(u64::from(world.queued(t)));
+    line.number(u64::from(task.queued()));
     line.text(" running ");
-    line.number(u64::from(world.running(t)));
+    line.number(u64::from(task.running()));
     line.text("\n");
     line.write(sink)
 }
@@ -72,8 +83,9 @@ fn write_statements<K: Sink>(world: &World, t: u32, sink: &mut K) -> Result<(), 
     ensures cause { HasCause (K.faults sink.old) (K.faults sink.new) result }
     ensures room { K.room sink.new ≡ K.room sink.old }
 {
+    let task = world.task(t);
     for s in 0..statement_count(world.script(), t) {
-        write_statement(t, s, world.refusals(t), world.reads(t), sink)?;
+        write_statement(t, s, task.refusals(), task.reads(), sink)?;
     }
     Ok(())
 }
@@ -173,8 +185,9 @@ fn write_counters<K: Sink>(world: &World, t: u32, sink: &mut K) -> Result<(), Fa
     ensures cause { HasCause (K.faults sink.old) (K.faults sink.new) result }
     ensures room { K.room sink.new ≡ K.room sink.old }
 {
+    let task = world.task(t);
     for c in 0..world.script().counters {
-        write_counter(t, c, world.counter(t, c), sink)?;
+        write_counter(t, c, task.counter(c), sink)?;
     }
     Ok(())
 }

@@ -1,57 +1,44 @@
--- A record in which nothing happened yet.
-use Rattle.std.proofs.Common.{◌≡◌, ℕ, ◌+◌, ◌*◌, List, [], ◌∷◌, ◌++◌, length, replicate, sym, ap, ◌∙◌, subst, arith}
-use Rattle.std.specs.Prelude.{slice_get, nat_lt, ◌==◌}
-use Rattle.std.proofs.lemmas.Bool.{le-ltb}
-use Rattle.std.specs.List.{AllByRecursion, list_any}
-use Rattle.std.proofs.lemmas.List.{length-replicate, get_or-replicate, length_push}
+-- What is kept before the first line.
+use Rattle.std.proofs.Common.{◌≡◌, ℕ, zero, suc, ◌+◌, ◌*◌, ◌<◌, ◌≤◌, List, [], ◌∷◌, ◌++◌, length, map, replicate, Some, refl, sym, ap, ◌∙◌, subst, ⊎_elim, arith}
+use Rattle.std.specs.Prelude.{slice_get}
+use Rattle.std.proofs.lemmas.Bool.{cases_lt}
+use Rattle.std.proofs.lemmas.List.{length_push, length-replicate}
 use Rattle.std.proofs.lemmas.Nat.{mul-add-lt}
 use Rattle.lapi_base.specs.declared.script.Script.{Script}
-use Rattle.lapi_base.specs.Record.{start, out, has_number, has_ack}
-use Rattle.lapi_base.specs.Refusals.{next, refusals}
-use Rattle.lapi_base.specs.Values.{values, memory_bytes}
-use Rattle.lapi_laws.proofs.NumberLaws.{all-append}
-use Rattle.lapi_laws.proofs.Out.{all-get}
-use Rattle.lapi_world.specs.declared.link.Link.{Link}
-use Rattle.lapi_world.specs.declared.record.Record.{Record}
-use Rattle.lapi_world.specs.declared.task.TaskState.{TaskState}
-use Rattle.lapi_world.specs.LinkParts.{IsEmpty, tells_of}
-use Rattle.lapi_world.specs.Stands.{TaskStands, TaskAt, LinkStands, LinkAt, Stands, IsUntouched}
-use Rattle.lapi_world.proofs.Lists.{get-some}
-use Rattle.lapi_world.proofs.Memories.{is-over}
-
--- one item more
-pub all-more : {X : Type 0} (P : X → Type 0) (xs : List X) (x : X) (n : ℕ) → (length xs ≡ n) × AllByRecursion P xs → P x → (length (xs ++ x ∷ []) ≡ n + 1) × AllByRecursion P (xs ++ x ∷ [])
-all-more P xs x n h p = (length_push xs x ∙ ap (λ k. k + 1) h.0, all-append P xs (x ∷ []) h.1 (p, tt))
+use Rattle.lapi_base.specs.Record.{start}
+use Rattle.lapi_task.specs.declared.task.Task.{Task}
+use Rattle.lapi_task.specs.StandsFor.{StandsFor}
+use Rattle.lapi_world.specs.declared.kept.Kept.{Kept}
+use Rattle.lapi_world.specs.Stands.{TaskAt, TasksStand, Stands}
+use Rattle.lapi_world.proofs.Lists.{get-some, get-push, get-before}
 
 module _ (script : Script) where
-  untouched-task : (t : ℕ) (task : TaskState) → IsUntouched script.memory task → TaskStands script [] t task
-  unfolding next refusals memory_bytes values
-  untouched-task t task h = record {
-    next = h.next;
-    refusals = h.refusals;
-    memory = h.memory ∙ is-over (replicate script.memory 0) (λ x. 0) script.memory (length-replicate script.memory 0) (λ k d l. get_or-replicate script.memory k 0 d l);
-  }
+  -- one task more
+  pub task-more : (tasks : List Task) (task : Task) (n : ℕ) → length tasks ≡ n → ((t : ℕ) → t < n → TaskAt script start t (slice_get tasks t)) → StandsFor script n task start → (length (tasks ++ task ∷ []) ≡ n + 1) × ((t : ℕ) → t < n + 1 → TaskAt script start t (slice_get (tasks ++ task ∷ []) t))
+  task-more tasks task n e h new = (
+    length_push tasks task ∙ ap (λ k. k + 1) e,
+    λ t l.
+        ⊎_elim
+        (λ (lt : t < n). subst (TaskAt script start t) (sym (get-before tasks task t (omega (arith, lt, e)))) (h t lt))
+        (λ (ge : n ≤ t).
+        let last : n ≡ t = omega arith in
+        subst (λ k. TaskAt script start k (slice_get (tasks ++ task ∷ []) k)) last (subst (TaskAt script start n) (sym (get-push tasks task n e)) new))
+        (cases_lt t n),
+  )
 
-  empty-link : (a b : ℕ) (link : Link) → IsEmpty link → LinkStands script [] [] [] [] a b link
-  unfolding out has_number has_ack
-  empty-link a b link h = record {
-    entries = h.entries;
-    taken = λ n. ap (list_any (λ k. k == n)) h.taken;
-    told = λ n. ap (list_any (tells_of n)) h.acks;
-    sent = λ n. sym (ap (nat_lt n) h.sent ∙ le-ltb n 0 (omega arith));
-    count = ap length h.copied;
-    copied = λ n. ap (λ xs. slice_get xs n) h.copied;
-  }
+  same-item : {X : Type 0} (n k : ℕ) (x : X) → k < n → slice_get (replicate n x) k ≡ Some x
+  same-item n k x l = let some = get-some (replicate n x) k (let e = length-replicate n x in omega (arith, e)) in some.1 ∙ ap Some (all-same n k x some.0 some.1)
+    where
+      all-same : {X : Type 0} (n k : ℕ) (x y : X) → slice_get (replicate n x) k ≡ Some y → y ≡ x
+      all-same zero k x y e = absurd (cc)
+      all-same (suc n) zero x y e = let q : x ≡ y = cc in sym q
+      all-same (suc n) (suc k) x y e = all-same n k x y e
 
-  pub begins : (kept : Record) → kept.journal ≡ [] → (length kept.tasks.items ≡ script.tasks) × AllByRecursion (IsUntouched script.memory) kept.tasks.items → (length kept.links.items ≡ script.tasks * script.tasks) × AllByRecursion IsEmpty kept.links.items → Stands script kept start
-  begins kept e ts ls = record {
+  pub begins : (kept : Kept) → kept.journal ≡ [] → (length kept.tasks.items ≡ script.tasks) × TasksStand script start kept.tasks.items → kept.wires.items ≡ replicate (script.tasks * script.tasks) [] → Stands script kept start
+  begins kept e ts ws = record {
     journal = e;
-    plain = tt;
-    tasks = λ t l.
-        let some = get-some kept.tasks.items t (omega (arith, l, ts.0)) in
-        subst (TaskAt script [] t) (sym some.1) (untouched-task t some.0 (all-get (IsUntouched script.memory) kept.tasks.items t some.0 ts.1 some.1));
-    links = λ a b la lb.
-        let place = mul-add-lt a script.tasks b script.tasks la lb in
-        let some = get-some kept.links.items (a * script.tasks + b) (omega (arith, place, ls.0)) in
-        subst (LinkAt script start a b) (sym some.1) (empty-link a b some.0 (all-get IsEmpty kept.links.items (a * script.tasks + b) some.0 ls.1 some.1));
+    task_count = ts.0;
+    wire_count = ap length ws ∙ length-replicate (script.tasks * script.tasks) [];
+    tasks = ts.1;
+    wires = λ a b la lb. ap (λ (xs : List (List (List ℕ))). slice_get xs (a * script.tasks + b)) ws ∙ same-item (script.tasks * script.tasks) (a * script.tasks + b) [] (mul-add-lt a script.tasks b script.tasks la lb);
   }

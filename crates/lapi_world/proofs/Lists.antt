@@ -1,9 +1,10 @@
 -- Lists by their places.
-use Rattle.std.proofs.Common.{◌≡◌, ℕ, zero, suc, ◌<◌, ◌≤◌, List, [], ◌∷◌, length, get_or, set, Some, None, refl, ap, ◌∙◌, arith}
-use Rattle.std.specs.Prelude.{slice_get}
-use Rattle.std.specs.Prelude.{Result, Ok, Err, OnOk}
+use Rattle.std.proofs.Common.{◌≡◌, ℕ, zero, suc, ◌<◌, List, [], ◌∷◌, ◌++◌, length, get_or, set, take, Some, refl, sym, ap, ◌∙◌, subst, arith}
+use Rattle.std.specs.Prelude.{slice_get, Result, Ok, Err, IfOk}
 use Rattle.std.specs.List.{AllByRecursion}
+use Rattle.std.proofs.lemmas.List.{length_push, take_more}
 use Rattle.std.proofs.lemmas.Option.{get_or_from_slice_get}
+use Rattle.lapi_laws.proofs.Out.{all-get}
 
 pub get-some : {X : Type 0} (xs : List X) (n : ℕ) → n < length xs → (x : X) × (slice_get xs n ≡ Some x)
 get-some [] n l = absurd (omega arith)
@@ -22,21 +23,32 @@ get-set-other (z ∷ xs) zero (suc k) y apart = refl
 get-set-other (z ∷ xs) (suc n) zero y apart = refl
 get-set-other (z ∷ xs) (suc n) (suc k) y apart = get-set-other xs n k y (λ e. apart (ap suc e))
 
-pub get-none : {X : Type 0} (xs : List X) (n : ℕ) → slice_get xs n ≡ None → length xs ≤ n
-get-none [] n h = omega arith
-get-none (x ∷ xs) zero h = absurd (cc)
-get-none (x ∷ xs) (suc n) h = let l = get-none xs n h in omega (arith, l)
-
 -- what is read at a place is what stands there
 pub at-place : {X : Type 0} (xs : List X) (n : ℕ) (x y : X) → slice_get xs n ≡ Some x → y ≡ get_or xs n y → y ≡ x
 at-place xs n x y h e = e ∙ get_or_from_slice_get xs n x y h
 
-pub all-or : {X : Type 0} (P : X → Type 0) (xs : List X) (n : ℕ) (d : X) → AllByRecursion P xs → P d → P (get_or xs n d)
-all-or P [] n d h e = e
-all-or P (x ∷ xs) zero d h e = h.0
-all-or P (x ∷ xs) (suc n) d h e = all-or P xs n d h.1 e
+-- what follows from a fact of what an Ok holds
+pub if-ok : {A B : Type 0} (P Q : A → Type 0) (result : Result A B) → ((x : A) → P x → Q x) → IfOk result P → IfOk result Q
+if-ok P Q (Ok x) f h = f x h
+if-ok P Q (Err e) f h = h
 
--- what follows from a fact of the answer Ok
-pub on-ok : {A B : Type 0} (P Q : Type 0) (result : Result A B) → (P → Q) → OnOk result P → OnOk result Q
-on-ok P Q (Ok x) f h = f h
-on-ok P Q (Err e) f h = h
+-- an item that is read within the list stands there
+pub found-at : {X : Type 0} (xs : List X) (n : ℕ) (x : X) → n < length xs → x ≡ get_or xs n x → slice_get xs n ≡ Some x
+found-at xs n x l e = let some = get-some xs n l in some.1 ∙ ap Some (sym (at-place xs n some.0 x some.1 e))
+
+pub all-at : {X : Type 0} (P : X → Type 0) (xs : List X) (n : ℕ) (x : X) → AllByRecursion P xs → n < length xs → x ≡ get_or xs n x → P x
+all-at P xs n x h l e = all-get P xs n x h (found-at xs n x l e)
+
+-- the first items, with the next one
+pub taken-more : {X : Type 0} (xs ys : List X) (x : X) → length ys < length xs → x ≡ get_or xs (length ys) x → take (length (ys ++ x ∷ [])) xs ≡ take (length ys) xs ++ x ∷ []
+taken-more xs ys x l e = ap (λ n. take n xs) (length_push ys x) ∙ take_more xs (length ys) x l ∙ ap (λ y. take (length ys) xs ++ y ∷ []) (sym e)
+
+pub get-push : {X : Type 0} (xs : List X) (x : X) (n : ℕ) → length xs ≡ n → slice_get (xs ++ x ∷ []) n ≡ Some x
+get-push [] x n e = subst (λ k. slice_get (x ∷ []) k ≡ Some x) e refl
+get-push (y ∷ xs) x zero e = absurd (omega (arith, e))
+get-push (y ∷ xs) x (suc n) e = get-push xs x n (let q : length xs ≡ n = omega (arith, e) in q)
+
+pub get-before : {X : Type 0} (xs : List X) (x : X) (n : ℕ) → n < length xs → slice_get (xs ++ x ∷ []) n ≡ slice_get xs n
+get-before [] x n l = absurd (omega arith)
+get-before (y ∷ xs) x zero l = refl
+get-before (y ∷ xs) x (suc n) l = get-before xs x n (let q : n < length xs = omega arith in q)

@@ -1,54 +1,28 @@
 -- A world, line by line.
-use Rattle.std.proofs.Common.{◌≡◌, ℕ, Bool, true, false, List, [], ◌∷◌, ◌++◌, reverse, Option, Some, None, refl, sym, ap, ◌∙◌, subst}
-use Rattle.std.specs.Prelude.{slice_get, option_map, Result, Ok, Err, IfOk}
+use Rattle.std.proofs.Common.{◌≡◌, ℕ, ◌<◌, Bool, true, false, List, [], ◌∷◌, ◌++◌, reverse, Option, Some, None, refl, sym, ap, ◌∙◌, subst}
+use Rattle.std.specs.Prelude.{slice_get, option_map}
 use Rattle.std.specs.List.{AllByRecursion}
-use Rattle.std.proofs.lemmas.Bool.{false≢true}
 use Rattle.lapi_base.specs.declared.script.Script.{Script}
 use Rattle.lapi_base.specs.declared.event.Event.{Event}
 use Rattle.lapi_base.specs.declared.schedule.Act.{Act}
-use Rattle.lapi_base.specs.declared.schedule.Act.TheVariants as acts
 use Rattle.lapi_base.specs.declared.schedule.Line.{Line}
 use Rattle.lapi_base.specs.declared.reply.Reply.{Reply}
 use Rattle.lapi_base.specs.Atomic.{AtomicInTime}
 use Rattle.lapi_base.specs.Built.{is_built_act}
 use Rattle.lapi_base.specs.Headline.{HoldsOfRuns}
-use Rattle.lapi_base.specs.Record.{Run, start, step, poll, deliver, perform}
+use Rattle.lapi_base.specs.Record.{Run, start}
 use Rattle.lapi_base.specs.Seen.{no_rules, IsRecord, act_at, acts_of, record_of, record_at, performed}
 use Rattle.lapi_base.specs.Spelling.{refusal, spells_packet}
 use Rattle.lapi_base.specs.Valid.{ValidAct, ValidLine}
 use Rattle.lapi_base.specs.Written.{packet_size}
 use Rattle.lapi_laws.proofs.Out.{all-get}
 use Rattle.lapi_parts.proofs.LinesTaken.{record-first, record-more, acts-valid}
-use Rattle.lapi_world.specs.declared.record.Record.{Record}
-use Rattle.lapi_world.specs.Stands.{Stands, IsPerformedLine, IsWorld}
-
--- what follows from a fact of what an Ok holds
-pub if-ok : {A B : Type 0} (P Q : A → Type 0) (result : Result A B) → ((x : A) → P x → Q x) → IfOk result P → IfOk result Q
-if-ok P Q (Ok x) f h = f x h
-if-ok P Q (Err e) f h = h
+use Rattle.lapi_task.specs.declared.task.Task.{Task}
+use Rattle.lapi_task.specs.Does.{IsAt}
+use Rattle.lapi_world.specs.declared.kept.Kept.{Kept}
+use Rattle.lapi_world.specs.Stands.{TaskAt, Stands, IsPerformedLine, IsWorld}
 
 module _ (script : Script) where
-  -- What a line of each form does.
-  pub performed-step : (r : Run) (t : ℕ) → performed script no_rules r (acts.Step t) ≡ step script no_rules r t
-  unfolding performed perform
-  performed-step r t = refl
-
-  pub performed-poll : (r : Run) (t : ℕ) → performed script no_rules r (acts.Poll t) ≡ poll script no_rules r t
-  unfolding performed perform
-  performed-poll r t = refl
-
-  pub performed-deliver : (r : Run) (a b k : ℕ) → performed script no_rules r (acts.Deliver a b k) ≡ deliver script no_rules r a b k
-  unfolding performed perform
-  performed-deliver r a b k = refl
-
-  -- there is no other
-  pub no-other : (act : Act) → is_built_act act ≡ true → ((t : ℕ) → act ≡ acts.Step t → ⊥) → ((t : ℕ) → act ≡ acts.Poll t → ⊥) → ((a b k : ℕ) → act ≡ acts.Deliver a b k → ⊥) → ⊥
-  unfolding is_built_act
-  no-other (acts.Step t) h s p d = s t refl
-  no-other (acts.Poll t) h s p d = p t refl
-  no-other (acts.Deliver a b k) h s p d = d a b k refl
-  no-other _ h s p d = false≢true h
-
   -- A line of the schedule.
   act-of : (o : Option Line) (act : Act) → option_map (λ (line : Line). line.act) o ≡ Some act → (line : Line) × (o ≡ Some line) × (line.act ≡ act)
   act-of None act e = absurd (cc)
@@ -60,26 +34,34 @@ module _ (script : Script) where
       (subst (ValidAct script spells_packet) line.2 (all-get (ValidLine script spells_packet) schedule n line.0 valid line.1).1, subst (λ x. is_built_act x ≡ true) line.2 (all-get IsPerformedLine schedule n line.0 built line.1))
 
   -- The record of the lines taken.
-  pub recorded : (schedule : List Line) (kept : Record) (taken : List ℕ) (replies : List Reply) (spent : Bool) → IsWorld script schedule kept taken replies spent → IsRecord script no_rules (record_at script no_rules schedule taken)
+  pub recorded : (schedule : List Line) (kept : Kept) (taken : List ℕ) (replies : List Reply) (spent : Bool) → IsWorld script schedule kept taken replies spent → IsRecord script no_rules (record_at script no_rules schedule taken)
   recorded schedule kept taken replies spent w = (acts_of schedule taken, acts-valid script schedule taken w.schedule_valid, refl)
+
+  -- A task of it.
+  pub task-stands : (schedule : List Line) (kept : Kept) (taken : List ℕ) (replies : List Reply) (spent : Bool) (t : ℕ) (task : Task) → IsWorld script schedule kept taken replies spent → spent ≡ false → t < script.tasks → slice_get kept.tasks.items t ≡ Some task → IsAt script t task (record_at script no_rules schedule taken)
+  task-stands schedule kept taken replies spent t task w free l at = record {
+    recorded = recorded schedule kept taken replies spent w;
+    known = l;
+    stands = subst (TaskAt script (record_at script no_rules schedule taken) t) at ((w.stands free).tasks t l);
+  }
 
   one-more : (schedule : List Line) (old new : List ℕ) (n : ℕ) (act : Act) → act_at schedule n ≡ Some act → new ≡ old ++ n ∷ [] → record_at script no_rules schedule new ≡ performed script no_rules (record_at script no_rules schedule old) act
   one-more schedule old new n act at push = ap (record_at script no_rules schedule) push ∙ record-more script no_rules schedule old n act at
 
-  pub line-stands : (schedule : List Line) (old new : List ℕ) (n : ℕ) (act : Act) (kept : Record) → act_at schedule n ≡ Some act → new ≡ old ++ n ∷ [] → Stands script kept (performed script no_rules (record_at script no_rules schedule old) act) → Stands script kept (record_at script no_rules schedule new)
+  pub line-stands : (schedule : List Line) (old new : List ℕ) (n : ℕ) (act : Act) (kept : Kept) → act_at schedule n ≡ Some act → new ≡ old ++ n ∷ [] → Stands script kept (performed script no_rules (record_at script no_rules schedule old) act) → Stands script kept (record_at script no_rules schedule new)
   line-stands schedule old new n act kept at push h = subst (Stands script kept) (sym (one-more schedule old new n act at push)) h
 
   pub line-replies : (schedule : List Line) (old new : List ℕ) (n : ℕ) (act : Act) (reply : Reply) → act_at schedule n ≡ Some act → new ≡ old ++ n ∷ [] → (performed script no_rules (record_at script no_rules schedule old) act).replies ≡ (record_at script no_rules schedule old).replies ++ reply ∷ [] → (record_at script no_rules schedule new).replies ≡ (record_at script no_rules schedule old).replies ++ reply ∷ []
   line-replies schedule old new n act reply at push h = ap (λ (r : Run). r.replies) (one-more schedule old new n act at push) ∙ h
 
-  pub first-stands : (schedule : List Line) (kept : Record) (taken : List ℕ) → taken ≡ [] → Stands script kept start → Stands script kept (record_at script no_rules schedule taken)
+  pub first-stands : (schedule : List Line) (kept : Kept) (taken : List ℕ) → taken ≡ [] → Stands script kept start → Stands script kept (record_at script no_rules schedule taken)
   first-stands schedule kept taken e h = subst (Stands script kept) (sym (ap (record_at script no_rules schedule) e ∙ record-first script no_rules schedule)) h
 
   pub first-replies : (schedule : List Line) (taken : List ℕ) → taken ≡ [] → [] ≡ (record_at script no_rules schedule taken).replies
   first-replies schedule taken e = sym (ap (λ (r : Run). r.replies) (ap (record_at script no_rules schedule) e ∙ record-first script no_rules schedule))
 
   -- Its journal is atomic.
-  pub world-atomic : HoldsOfRuns (λ script rules r. AtomicInTime script rules (reverse r.journal)) → (schedule : List Line) (kept : Record) (taken : List ℕ) (replies : List Reply) (spent : Bool) (journal : List Event) → IsWorld script schedule kept taken replies spent → spent ≡ false → journal ≡ kept.journal → AtomicInTime script no_rules journal
+  pub world-atomic : HoldsOfRuns (λ script rules r. AtomicInTime script rules (reverse r.journal)) → (schedule : List Line) (kept : Kept) (taken : List ℕ) (replies : List Reply) (spent : Bool) (journal : List Event) → IsWorld script schedule kept taken replies spent → spent ≡ false → journal ≡ kept.journal → AtomicInTime script no_rules journal
   unfolding record_of
   world-atomic law schedule kept taken replies spent journal w free told =
       subst (AtomicInTime script no_rules) (sym (told ∙ (w.stands free).journal))

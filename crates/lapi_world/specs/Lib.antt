@@ -1,5 +1,2 @@
-pub mod LinkParts
-pub mod Built
 pub mod Stands
-pub mod Steps
-pub mod Arrivals
+pub mod Grows

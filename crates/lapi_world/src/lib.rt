@@ -1,13 +1,7 @@
 //! Worlds: tasks, the wires between them and a journal, line by line.
 #![tactic(auto)]
 
-mod ack;
-mod link;
-mod memory;
-mod name;
-mod put;
-mod record;
-mod task;
+mod kept;
 mod wire;
 mod world;
 

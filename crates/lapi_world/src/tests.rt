@@ -9,9 +9,11 @@ ghost use Rattle.lapi_base.specs.Valid.{ValidScript, ValidSchedule, ValidStateme
 
 use crate::World;
 use lapi_base::{
-    Act, Addr, Bytes, Event, Leg, Line, Memory, MsgName, Refusal, Reply, Schedule, Script,
+    Act, Addr, Bytes, Event, Leg, Line, Memory, MsgName, Refusal, Reply, Schedule, Script, Span,
     Statement, StatementLists, Statements,
 };
+use lapi_memory::TaskMemory;
+use lapi_task::Task;
 use std::alloc::Global;
 use std::test::Fail;
 
@@ -39,18 +41,18 @@ const ISSUED: [Event; 2] = [
 ];
 
 #[derive(Clone, Copy)]
-enum Task {
+enum End {
     First,
     Second,
 }
 
-impl Task {
+impl End {
     fn number(self) -> u32
         ensures { result < 2 }
     {
         match self {
-            Task::First => 0,
-            Task::Second => 1,
+            End::First => 0,
+            End::Second => 1,
         }
     }
 }
@@ -59,18 +61,19 @@ impl Task {
 enum Plan {
     Step,
     Poll,
-    Deliver(Task, Task),
+    Tick,
+    Deliver(End, End),
 }
 
 const SMALLEST: [Plan; 5] = [
     Plan::Step,
     Plan::Step,
     Plan::Poll,
-    Plan::Deliver(Task::First, Task::Second),
-    Plan::Deliver(Task::Second, Task::First),
+    Plan::Deliver(End::First, End::Second),
+    Plan::Deliver(End::Second, End::First),
 ];
 
-/// Task 0's step or poll, or the delivery of a wire's first entry.
+/// Task 0's step, poll or tick, or the delivery of a wire's first entry.
 #[tactic(auto, unfolding(lapi_base::specs::Built::is_built_act))]
 fn act_of(plan: Plan) -> Act
     ensures { (script : Script) → script.tasks ≡ 2 → ValidAct script spells_packet result × (is_built_act result ≡ true) }
@@ -78,6 +81,7 @@ fn act_of(plan: Plan) -> Act
     match plan {
         Plan::Step => Act::Step(0),
         Plan::Poll => Act::Poll(0),
+        Plan::Tick => Act::Tick(0),
         Plan::Deliver(from, to) => Act::Deliver {
             a: from.number(),
             b: to.number(),
@@ -103,7 +107,7 @@ fn schedule_of(alloc: Global, plans: &[Plan]) -> Result<Schedule, Memory>
 /// A store of eight bytes, and a put of them.
 #[tactic(auto, unfolding(lapi_base::specs::Built::is_built_statement))]
 fn statements_of(alloc: Global, target: u32) -> Result<Statements, Memory>
-    ensures { IfOk result (λ list. IsBuiltList list × AllByRecursion ValidStatement list) }
+    ensures { IfOk result (λ list. IsBuiltList list × AllByRecursion ValidStatement list × (length list ≡ 2)) }
 {
     let mut list = Statements::new(alloc);
     list.push(Statement::Store {
@@ -181,18 +185,17 @@ fn has_smallest_wires(world: &World) -> bool
 }
 
 /// The bytes stand from place 16 on, and all else is 0.
-fn has_smallest_bytes(bytes: &[u8]) -> bool {
+fn has_smallest_bytes(memory: &TaskMemory) -> bool {
     let mut wanted = [0; 64];
     wanted[16..24].copy_from_slice(b"abcdefgh");
-    bytes == wanted.as_slice()
+    let whole = Span { at: 0, len: 64 };
+    memory.size() == 64 && memory.fits(&whole) && memory.read(&whole) == wanted.as_slice()
 }
 
-fn is_blank(world: &World) -> bool
-    requires { (world.now.script.tasks ≡ 2) × (world.now.script.counters ≡ 4) }
-{
-    world.refusals(0).is_empty()
-        && world.reads(0).is_empty()
-        && (world.counter(1, 3), world.queued(1), world.running(1)) == (0, 0, 0)
+fn is_blank(task: &Task) -> bool {
+    task.refusals().is_empty()
+        && task.reads().is_empty()
+        && (task.queued(), task.running()) == (0, 0)
 }
 
 #[test]
@@ -200,19 +203,38 @@ fn smallest_run_leaves_the_known_packets_and_bytes(rt: HostRuntime) -> Result<()
     let mut world = world_of(rt.alloc(), 1, &SMALLEST)?;
     take(rt.alloc(), &mut world, 5)?;
     assert!(rt; has_smallest_events(&world) && has_smallest_wires(&world));
-    assert!(rt; has_smallest_bytes(world.bytes(1)) && is_blank(&world));
-    assert!(rt; world.quiet() && !world.spent() && world.next(0) == 2);
+    assert!(rt; has_smallest_bytes(world.task(1).memory()) && is_blank(world.task(1)));
+    assert!(rt; world.quiet() && !world.spent() && world.task(0).next() == 2);
     Ok(())
 }
 
 #[test]
 fn packet_delivered_twice_lands_once(rt: HostRuntime) -> Result<(), Fail> {
-    let there = Plan::Deliver(Task::First, Task::Second);
+    let there = Plan::Deliver(End::First, End::Second);
     let plans = [Plan::Step, Plan::Step, Plan::Poll, there, there];
     let mut world = world_of(rt.alloc(), 1, &plans)?;
     take(rt.alloc(), &mut world, 5)?;
     let is_told_twice = is_wire(world.wire(1, 0), &[ACKNOWLEDGEMENT, ACKNOWLEDGEMENT]);
     assert!(rt; has_smallest_events(&world) && is_told_twice && !world.quiet());
+    Ok(())
+}
+
+#[test]
+fn tick_sends_again_until_it_is_told(rt: HostRuntime) -> Result<(), Fail> {
+    let there = Plan::Deliver(End::First, End::Second);
+    let back = Plan::Deliver(End::Second, End::First);
+    let plans = [
+        Plan::Step,
+        Plan::Step,
+        Plan::Poll,
+        Plan::Tick,
+        there,
+        back,
+        Plan::Tick,
+    ];
+    let mut world = world_of(rt.alloc(), 1, &plans)?;
+    take(rt.alloc(), &mut world, 7)?;
+    assert!(rt; is_wire(world.wire(0, 1), &[DATA, DATA]) && world.quiet());
     Ok(())
 }
 
@@ -227,7 +249,7 @@ fn has_refused(world: &World) -> bool
         why: Refusal::BadTask,
     };
     world.journal() == [first, refused].as_slice()
-        && world.refusals(0) == [(1, Refusal::BadTask)].as_slice()
+        && world.task(0).refusals() == [(1, Refusal::BadTask)].as_slice()
         && world.wire(0, 1).is_empty()
 }
 

@@ -1,21 +1,17 @@
 ghost use Rattle.std.specs.Prelude.{◌≡◌, ◌<◌, true, false, ◌∷◌, [], ◌++◌, length, map, reverse, OnOk, OnErr, IfOk, Some};
 ghost use Rattle.lapi_base.specs.Atomic.{AtomicInTime};
 ghost use Rattle.lapi_base.specs.Final.{is_quiet};
-ghost use Rattle.lapi_base.specs.Counters.{count, reads};
-ghost use Rattle.lapi_base.specs.Jobs.{queue, busy};
-ghost use Rattle.lapi_base.specs.Refusals.{next, refusals};
 ghost use Rattle.lapi_base.specs.Seen.{seen_record, no_rules, act_at};
 ghost use Rattle.lapi_base.specs.Built.{IsBuilt};
 ghost use Rattle.lapi_base.specs.Spelling.{spells_packet};
 ghost use Rattle.lapi_base.specs.Valid.{ValidScript, ValidSchedule};
-ghost use Rattle.lapi_base.specs.Values.{memory_bytes};
 ghost use Rattle.lapi_base.specs.Written as written;
+ghost use Rattle.lapi_task.specs.Does.{IsAt};
 
-use crate::record::Record;
-use lapi_base::{
-    Act, Bytes, Event, Line, Memory, Numbers, Refusal, Replies, Reply, Schedule, Script,
-};
+use crate::kept::Kept;
+use lapi_base::{Act, Bytes, Event, Line, Memory, Numbers, Replies, Reply, Schedule, Script};
 use lapi_laws::journal_is_atomic;
+use lapi_task::Task;
 use std::alloc::Global;
 use std::marker::Model;
 
@@ -27,7 +23,7 @@ use std::marker::Model;
 pub struct World {
     script: Script,
     schedule: Schedule,
-    kept: Record,
+    kept: Kept,
     taken: Numbers,
     replies: Replies,
     spent: bool,
@@ -52,7 +48,7 @@ impl World {
         requires built { IsBuilt (record { script = script; schedule = schedule }) }
         ensures { IfOk result (λ w. w ≡ record { script = script; rules = no_rules; schedule = schedule; taken = []; spent = false }) }
     {
-        let kept = Record::new(alloc, &script)?;
+        let kept = Kept::new(alloc, &script)?;
         Ok(World {
             script,
             schedule,
@@ -126,68 +122,20 @@ impl World {
         self.kept.entries(self.script.tasks, a, b)
     }
 
-    /// How many statements of task `t` were issued, refused or passed.
-    pub fn next(&self, t: u32) -> u32
+    /// Task `t`: its part of all that was said and done.
+    pub fn task(&self, t: u32) -> &Task
         requires { t < self.now.script.tasks }
-        ensures { self.now.spent ≡ false → result ≡ next (seen_record self.now).journal t }
+        ensures stands { self.now.spent ≡ false → IsAt self.now.script t result.now (seen_record self.now) }
+        ensures rules { self.now.rules ≡ no_rules }
     {
-        self.kept.next(t)
-    }
-
-    /// The statements of task `t` that were refused, each with the reason, in order.
-    pub fn refusals(&self, t: u32) -> &[(u32, Refusal)]
-        requires { t < self.now.script.tasks }
-        ensures { self.now.spent ≡ false → result.now ≡ refusals (seen_record self.now).journal t }
-    {
-        self.kept.refusals(t)
-    }
-
-    /// The counters that task `t` read, each with the number of the statement, in order.
-    pub fn reads(&self, t: u32) -> &[(u32, u64)]
-        requires { t < self.now.script.tasks }
-        ensures { self.now.spent ≡ false → result.now ≡ reads self.now.script self.now.rules (seen_record self.now).journal t }
-    {
-        self.kept.reads(t)
-    }
-
-    /// The value of counter `c` of task `t`.
-    pub fn counter(&self, t: u32, c: u32) -> u64
-        requires t { t < self.now.script.tasks }
-        requires c { c < self.now.script.counters }
-        ensures { self.now.spent ≡ false → result ≡ count self.now.script self.now.rules (seen_record self.now).journal t c }
-    {
-        self.kept.counter(t, c)
-    }
-
-    /// How many jobs of task `t` wait for a worker.
-    pub fn queued(&self, t: u32) -> u32
-        requires { t < self.now.script.tasks }
-        ensures { self.now.spent ≡ false → result ≡ length (queue self.now.script self.now.rules (seen_record self.now).journal t) }
-    {
-        self.kept.queued(t)
-    }
-
-    /// How many workers of task `t` run a job.
-    pub fn running(&self, t: u32) -> u32
-        requires { t < self.now.script.tasks }
-        ensures { self.now.spent ≡ false → result ≡ length (busy self.now.script (seen_record self.now).journal t) }
-    {
-        self.kept.running(t)
-    }
-
-    /// The memory of task `t`.
-    pub fn bytes(&self, t: u32) -> &[u8]
-        requires { t < self.now.script.tasks }
-        ensures { self.now.spent ≡ false → result.now ≡ memory_bytes self.now.script self.now.rules (seen_record self.now).journal t }
-    {
-        self.kept.memory(t)
+        self.kept.task(t)
     }
 
     /// Whether everything sent is acknowledged, no job waits or runs, and nothing is left to copy or to send.
     pub fn quiet(&self) -> bool
         ensures { self.now.spent ≡ false → result ≡ is_quiet self.now.script self.now.rules (seen_record self.now) }
     {
-        self.kept.is_quiet(&self.script)
+        self.kept.is_quiet()
     }
 
     /// Whether an earlier call answered Memory.

@@ -1,4 +1,6 @@
-use Rattle.std.proofs.Common.{rules, ◌<◌, ◌≤◌}
+use Rattle.std.proofs.Common.{rules, ◌<◌, ◌≤◌, sym, ap, ◌∙◌}
+use Rattle.lapi_base.specs.declared.rule.Rules.{Rules}
+use Rattle.lapi_base.specs.Counters.{count}
 use Rattle.lapi_base.specs.Seen.{seen_record}
 use Rattle.lapi_base.specs.ReportText.{counter_text_of}
 use Rattle.lapi_report.proofs.Progress.{refused}
@@ -8,13 +10,15 @@ use Rattle.lapi_report.proofs.task.write_counters.Goals as goal
 pub returns-in_err-write_counter-clause-text : goal.returns-in_err-write_counter-clause-text
 returns-in_err-write_counter-clause-text g c =
     let lt : c.loop-c.c < c.args.world.now.script.counters = search rules in
-    refused _ _ _ _ c.from_residual.ensures.0 (number_stops (counter_text_of c.args.world.now.script c.args.world.now.rules (seen_record c.args.world.now) c.args.t) _ _ _ _ _ _ lt c.loop-c.invariant.written (rw (c.counter.ensures c.requires.spent) at c.in_err-write_counter.ensures.text))
+    let told = c.counter.ensures c.args.world.now.script c.args.t (seen_record c.args.world.now) (c.task-task.ensures.stands c.requires.spent).stands lt ∙ ap (λ (rules : Rules). count c.args.world.now.script rules (seen_record c.args.world.now).journal c.args.t c.loop-c.c) (sym c.task-task.ensures.rules) in
+    refused _ _ _ _ c.from_residual.ensures.0 (number_stops (counter_text_of c.args.world.now.script c.args.world.now.rules (seen_record c.args.world.now) c.args.t) _ _ _ _ _ _ lt c.loop-c.invariant.written (rw told at c.in_err-write_counter.ensures.text))
 
 pub loop-c-preserved : goal.loop-c-preserved
 loop-c-preserved g c =
     let lt : c.loop-c.c < c.args.world.now.script.counters = search rules in
+    let told = c.counter.ensures c.args.world.now.script c.args.t (seen_record c.args.world.now) (c.task-task.ensures.stands c.requires.spent).stands lt ∙ ap (λ (rules : Rules). count c.args.world.now.script rules (seen_record c.args.world.now).journal c.args.t c.loop-c.c) (sym c.task-task.ensures.rules) in
     record {
-      written = number_written (counter_text_of c.args.world.now.script c.args.world.now.rules (seen_record c.args.world.now) c.args.t) _ _ _ _ _ _ lt c.loop-c.invariant.written (rw (c.counter.ensures c.requires.spent) at c.in_ok-write_counter.ensures.text);
+      written = number_written (counter_text_of c.args.world.now.script c.args.world.now.rules (seen_record c.args.world.now) c.args.t) _ _ _ _ _ _ lt c.loop-c.invariant.written (rw told at c.in_ok-write_counter.ensures.text);
       later = search rules;
       room = search rules;
     }

@@ -1,4 +1,5 @@
-use Rattle.std.proofs.Common.{rules, ◌<◌, ◌≤◌}
+use Rattle.std.proofs.Common.{rules, ◌<◌, ◌≤◌, sym, ap, ◌∙◌}
+use Rattle.lapi_base.specs.declared.rule.Rules.{Rules}
 use Rattle.lapi_base.specs.Seen.{seen_record}
 use Rattle.std.specs.Prelude.{length}
 use Rattle.lapi_base.specs.Operations.{statements}
@@ -12,13 +13,19 @@ use Rattle.lapi_report.proofs.task.write_statements.Goals as goal
 pub returns-in_err-write_statement-clause-text : goal.returns-in_err-write_statement-clause-text
 returns-in_err-write_statement-clause-text g c =
     let lt : c.loop-s.s < length (statements c.args.world.now.script c.args.t) = search rules in
-    refused _ _ _ _ c.from_residual.ensures.0 (number_stops (statement_text c.args.t (refusals (seen_record c.args.world.now).journal c.args.t) (reads c.args.world.now.script c.args.world.now.rules (seen_record c.args.world.now).journal c.args.t)) _ _ _ _ _ _ lt c.loop-s.invariant.written (rw (c.refusals.ensures c.requires.spent, c.reads.ensures c.requires.spent) at c.in_err-write_statement.ensures.text))
+    let stands = (c.task-task.ensures.stands c.requires.spent).stands in
+    let refused-told = c.refusals.ensures c.args.world.now.script c.args.t (seen_record c.args.world.now) stands in
+    let read-told = c.reads.ensures c.args.world.now.script c.args.t (seen_record c.args.world.now) stands ∙ ap (λ (rules : Rules). reads c.args.world.now.script rules (seen_record c.args.world.now).journal c.args.t) (sym c.task-task.ensures.rules) in
+    refused _ _ _ _ c.from_residual.ensures.0 (number_stops (statement_text c.args.t (refusals (seen_record c.args.world.now).journal c.args.t) (reads c.args.world.now.script c.args.world.now.rules (seen_record c.args.world.now).journal c.args.t)) _ _ _ _ _ _ lt c.loop-s.invariant.written (rw (refused-told, read-told) at c.in_err-write_statement.ensures.text))
 
 pub loop-s-preserved : goal.loop-s-preserved
 loop-s-preserved g c =
     let lt : c.loop-s.s < length (statements c.args.world.now.script c.args.t) = search rules in
+    let stands = (c.task-task.ensures.stands c.requires.spent).stands in
+    let refused-told = c.refusals.ensures c.args.world.now.script c.args.t (seen_record c.args.world.now) stands in
+    let read-told = c.reads.ensures c.args.world.now.script c.args.t (seen_record c.args.world.now) stands ∙ ap (λ (rules : Rules). reads c.args.world.now.script rules (seen_record c.args.world.now).journal c.args.t) (sym c.task-task.ensures.rules) in
     record {
-      written = number_written (statement_text c.args.t (refusals (seen_record c.args.world.now).journal c.args.t) (reads c.args.world.now.script c.args.world.now.rules (seen_record c.args.world.now).journal c.args.t)) _ _ _ _ _ _ lt c.loop-s.invariant.written (rw (c.refusals.ensures c.requires.spent, c.reads.ensures c.requires.spent) at c.in_ok-write_statement.ensures.text);
+      written = number_written (statement_text c.args.t (refusals (seen_record c.args.world.now).journal c.args.t) (reads c.args.world.now.script c.args.world.now.rules (seen_record c.args.world.now).journal c.args.t)) _ _ _ _ _ _ lt c.loop-s.invariant.written (rw (refused-told, read-told) at c.in_ok-write_statement.ensures.text);
       later = search rules;
       room = search rules;
     }

@@ -27,6 +27,7 @@ invariant_of-self-2 c =
       script_performed = c.self.invariant.script_performed;
       schedule_valid = c.self.invariant.schedule_valid;
       schedule_performed = c.self.invariant.schedule_performed;
+      task_count = c.perform.ensures.count ∙ c.self.invariant.task_count;
       stands = λ _. line-stands w.script w.schedule w.taken c.push-2.new.self c.args.n act c.perform.new.self at c.in_ok-push-2.ensures.ok (c.in_ok-reply.ensures.ok r is stands);
       answers = λ _.
           c.in_ok-push.ensures.ok

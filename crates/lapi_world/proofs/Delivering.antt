@@ -1,0 +1,129 @@
+-- A delivery, by what stands on the wire.
+use Rattle.std.proofs.Common.{◌≡◌, ℕ, ◌+◌, ◌*◌, ◌^◌, ◌<◌, List, [], ◌∷◌, ◌++◌, map, get_or, Option, Some, None, refl, sym, ap, ◌∙◌, subst, lit≤, arith}
+use Rattle.std.specs.Prelude.{slice_get, option_map}
+use Rattle.std.proofs.lemmas.Option.{slice_get-map}
+use Rattle.std.proofs.lemmas.Nat.{mul-add-lt}
+use Rattle.lapi_base.specs.declared.script.Script.{Script}
+use Rattle.lapi_base.specs.declared.schedule.Act.TheVariants.{Deliver}
+use Rattle.lapi_base.specs.declared.packet.Packet.{Packet}
+use Rattle.lapi_base.specs.declared.packet.Packet.TheVariants.{Data, Ack}
+use Rattle.lapi_base.specs.declared.reply.Reply.{Reply}
+use Rattle.lapi_base.specs.declared.reply.Reply.TheVariants.{Did, Absent}
+use Rattle.lapi_base.specs.Record.{Run, deliver, deliver_entry, hand_over, reply_with}
+use Rattle.lapi_base.specs.Seen.{no_rules, IsRecord, performed}
+use Rattle.lapi_base.specs.Spelling.{packet_form, Spells}
+use Rattle.lapi_base.specs.Written as written
+use Rattle.lapi_link.specs.Receiver.{ReceivingEnd}
+use Rattle.lapi_link.specs.Sender.{SendingEnd}
+use Rattle.lapi_packet.proofs.Answering.{ok_is}
+use Rattle.lapi_packet.proofs.Forms.{answer_spelled}
+use Rattle.lapi_parts.proofs.SpelledPackets.{packets-written}
+use Rattle.lapi_task.specs.declared.task.Task.{Task}
+use Rattle.lapi_task.specs.Does.{IsAt, IsOnWire}
+use Rattle.lapi_task.specs.Performed.{IsPerformed}
+use Rattle.lapi_task.specs.Sends.{SendsFor}
+use Rattle.lapi_task.specs.StandsFor.{SenderAt, StandsFor}
+use Rattle.lapi_world.specs.declared.kept.Kept.{Kept}
+use Rattle.lapi_world.specs.Stands.{TaskAt, Stands, StandsForOne}
+use Rattle.lapi_world.proofs.Acts.{task-read, performed-deliver}
+use Rattle.lapi_world.proofs.Lists.{found-at}
+
+module _ (script : Script) where
+  deliver-none : (r : Run) (a b k : ℕ) → slice_get (r.wire a b) k ≡ None → performed script no_rules r (Deliver a b k) ≡ reply_with script no_rules r Absent
+  unfolding deliver
+  deliver-none r a b k e = performed-deliver script r a b k ∙ ap (deliver_entry script no_rules r a b) e
+
+  deliver-some : (r : Run) (a b k : ℕ) (p : Packet) → slice_get (r.wire a b) k ≡ Some p → performed script no_rules r (Deliver a b k) ≡ reply_with script no_rules (hand_over script no_rules r a b p) Did
+  unfolding deliver
+  deliver-some r a b k p e = performed-deliver script r a b k ∙ ap (deliver_entry script no_rules r a b) e
+
+  -- Where there is no entry, the reply is all that is added.
+  module _ (r : Run) (reply : Reply) where
+    abbrev replied : Run
+    replied = reply_with script no_rules r reply
+
+    sender-with : (a b : ℕ) (o : Option SendingEnd) → SenderAt script r a b o → SenderAt script replied a b o
+    sender-with a b None h = absurd h
+    sender-with a b (Some s) h = record {
+      numbers = record { size = h.numbers.size; numbers = h.numbers.numbers; sent = h.numbers.sent; acked = h.numbers.acked };
+      whole = h.whole;
+      kept = h.kept;
+      waiting = h.waiting;
+    }
+
+    task-with : (t : ℕ) (o : Option Task) → TaskAt script r t o → TaskAt script replied t o
+    task-with t None h = absurd h
+    task-with t (Some task) h = record {
+      holds = h.holds;
+      sender_count = h.sender_count;
+      receiver_count = h.receiver_count;
+      senders = λ b l. sender-with t b (slice_get task.senders.items b) (h.senders b l);
+      receivers = h.receivers;
+    }
+
+    kept-with : (kept : Kept) → Stands script kept r → Stands script kept replied
+    kept-with kept h = record {
+      journal = h.journal;
+      task_count = h.task_count;
+      wire_count = h.wire_count;
+      tasks = λ t l. task-with t (slice_get kept.tasks.items t) (h.tasks t l);
+      wires = h.wires;
+    }
+
+  -- The wire that is read.
+  read-wire : (kept : Kept) (r : Run) (a b place : ℕ) (wire : List (List ℕ)) → Stands script kept r → a < script.tasks → b < script.tasks → place ≡ a * script.tasks + b → wire ≡ get_or kept.wires.items place wire → wire ≡ map written.packet (r.wire a b)
+  read-wire kept r a b place wire h la lb is e =
+      let room = mul-add-lt a script.tasks b script.tasks la lb in
+      let found = found-at kept.wires.items place wire (omega (arith, room, is, h.wire_count)) e in
+      let told = h.wires a b la lb in
+      let same : Some wire ≡ Some (map written.packet (r.wire a b)) = sym found ∙ ap (slice_get kept.wires.items) is ∙ told in
+      cc
+
+  no-packet : (o : Option Packet) → option_map written.packet o ≡ None → o ≡ None
+  no-packet None e = refl
+  no-packet (Some p) e = absurd (cc)
+
+  some-packet : (o : Option Packet) (bytes : List ℕ) → option_map written.packet o ≡ Some bytes → (p : Packet) × (o ≡ Some p) × (bytes ≡ written.packet p)
+  some-packet None bytes e = absurd (cc)
+  some-packet (Some p) bytes e = (p, refl, (let q : bytes ≡ written.packet p = cc in q))
+
+  module _ (kept : Kept) (r : Run) (a b k place : ℕ) (wire : List (List ℕ)) (h : Stands script kept r) (la : a < script.tasks) (lb : b < script.tasks) (at : place ≡ a * script.tasks + b) (e : wire ≡ get_or kept.wires.items place wire) where
+    entry-is : option_map written.packet (slice_get (r.wire a b) k) ≡ slice_get wire k
+    entry-is = sym (slice_get-map written.packet (r.wire a b) k) ∙ ap (λ (ws : List (List ℕ)). slice_get ws k) (sym (read-wire kept r a b place wire h la lb at e))
+
+    none-there : slice_get wire k ≡ None → slice_get (r.wire a b) k ≡ None
+    none-there none = no-packet (slice_get (r.wire a b) k) (entry-is ∙ none)
+
+    pub absent-stands : slice_get wire k ≡ None → Stands script kept (performed script no_rules r (Deliver a b k))
+    absent-stands none = subst (Stands script kept) (sym (deliver-none r a b k (none-there none))) (kept-with r Absent kept h)
+
+    pub absent-replies : slice_get wire k ≡ None → (performed script no_rules r (Deliver a b k)).replies ≡ r.replies ++ Absent ∷ []
+    absent-replies none = ap (λ (q : Run). q.replies) (deliver-none r a b k (none-there none))
+
+    -- The entry that is read spells the packet at its place.
+    pub entry-spells : IsPerformed script → IsRecord script no_rules r → (bytes : List ℕ) → slice_get wire k ≡ Some bytes → (p : Packet) × (slice_get (r.wire a b) k ≡ Some p) × Spells p bytes
+    entry-spells perf is bytes found =
+        let some = some-packet (slice_get (r.wire a b) k) bytes (entry-is ∙ found) in
+        (some.0, some.1, subst (Spells some.0) (sym some.2) (packets-written script no_rules r is perf.valid (lit≤ tt, lit≤ tt) a b k some.0 some.1))
+
+    pub on-wire : IsPerformed script → IsRecord script no_rules r → (bytes : List ℕ) → slice_get wire k ≡ Some bytes → (task : Task) → task ≡ get_or kept.tasks.items b task → (p : Packet) → Spells p bytes → IsOnWire task a p
+    on-wire perf is bytes found task read p spells =
+        let entry = entry-spells perf is bytes found in
+        record {
+          script = script;
+          performed = perf;
+          task = b;
+          run = r;
+          place = k;
+          at = task-read script r b kept task is h lb read;
+          from_known = la;
+          entry = entry.1 ∙ ap Some (ok_is entry.0 p (sym (answer_spelled packet_form entry.0 bytes entry.2) ∙ answer_spelled packet_form p bytes spells));
+        }
+
+  hand-replies : (r : Run) (a b : ℕ) (p : Packet) → (hand_over script no_rules r a b p).replies ≡ r.replies
+  unfolding hand_over
+  hand-replies r a b (Data p) = refl
+  hand-replies r a b (Ack from to base bits) = refl
+
+  pub did-replies : (r : Run) (a b k : ℕ) (p : Packet) → slice_get (r.wire a b) k ≡ Some p → (performed script no_rules r (Deliver a b k)).replies ≡ r.replies ++ Did ∷ []
+  did-replies r a b k p e = ap (λ (q : Run). q.replies) (deliver-some r a b k p e) ∙ ap (λ (rs : List Reply). rs ++ Did ∷ []) (hand-replies r a b p)

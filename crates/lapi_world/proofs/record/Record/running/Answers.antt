@@ -1,6 +1,0 @@
-use Rattle.std.proofs.Common.{sym, ap, length}
-use Rattle.lapi_world.proofs.BlankAnswers.{busy-none}
-use Rattle.lapi_world.proofs.record.Record.running.Goals as goal
-
-pub returns : goal.returns
-returns c = λ script r perf h. sym (ap length (busy-none script perf r.journal c.args.t h.plain))
