@@ -1,6 +1,7 @@
 pub mod Apart
 pub mod Counting
 pub mod Does
+pub mod Landed
 pub mod Performed
 pub mod Puts
 pub mod Sends

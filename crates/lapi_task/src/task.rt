@@ -8,6 +8,7 @@ mod calls;
 mod copying;
 mod lends;
 mod polling;
+mod receiving;
 mod stepping;
 mod ticking;
 
