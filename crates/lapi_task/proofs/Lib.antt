@@ -1,4 +1,5 @@
 pub mod Apart
+pub mod ArrivingFits
 pub mod Forms
 pub mod Jobless
 pub mod Lists
