@@ -8,6 +8,8 @@ pub mod Packets
 pub mod PutPackets
 pub mod ReasonForms
 pub mod ReceiveCounts
+pub mod ReceiveEvents
+pub mod ReceiveKinds
 pub mod SenderLaws
 pub mod StepFields
 pub mod StepLaws

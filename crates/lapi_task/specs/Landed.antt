@@ -108,7 +108,7 @@ pub record MayTake (ends : List ReceivingEnd) (a : ℕ) (p : DataPacket) : Type 
   pub fits : Fits script packets p
 
 -- the end of the link from task a took the packet, and is now this one
-pub record HasTaken (before after : List ReceivingEnd) (a : ℕ) (p : DataPacket) (old : ReceivingEnd) : Type 0 where
+pub record HasCome (before after : List ReceivingEnd) (a : ℕ) (p : DataPacket) (old : ReceivingEnd) : Type 0 where
   pub end : ReceivingEnd
   pub ends : after ≡ slice_set before a end
   pub stands : (script : Script) (packets : List Packet) → ReceivesFor script old packets → Fits script packets p → ReceivesFor script end (Data p ∷ packets)

@@ -13,7 +13,7 @@ ghost use Rattle.lapi_base.specs.Spelling.{Spells, decoded};
 ghost use Rattle.lapi_link.specs.Receiver.{ReceivingEnd, ReceivesFor, Fits, arrival_of};
 ghost use Rattle.lapi_task.specs.Performed.{IsPerformed};
 ghost use Rattle.lapi_task.specs.Does.{IsAt, Does, IsOnWire};
-ghost use Rattle.lapi_task.specs.Landed.{ArrivalSuits, HeadSuits, HasArrived, note_packet, with_note, MayTake, HasTaken};
+ghost use Rattle.lapi_task.specs.Landed.{ArrivalSuits, HeadSuits, HasArrived, note_packet, with_note, MayTake, HasCome};
 
 use crate::counting::announce;
 use crate::note::{append_note, note_of};
@@ -100,7 +100,7 @@ fn take(
     packet: &DataPacket,
 ) -> Result<Arrival, Memory>
     requires { MayTake receivers.old from packet.now }
-    ensures taken { OnOk result ((end : ReceivingEnd) → slice_get receivers.old from ≡ Some end → HasTaken receivers.old receivers.new from packet.now end) }
+    ensures taken { OnOk result ((end : ReceivingEnd) → slice_get receivers.old from ≡ Some end → HasCome receivers.old receivers.new from packet.now end) }
     ensures arrival { IfOk result (λ arrival. (end : ReceivingEnd) (script : TheScript) (packets : List ThePacket) → slice_get receivers.old from ≡ Some end → ReceivesFor script end packets → Fits script packets packet.now → arrival ≡ arrival_of script packets packet.now) }
 {
     receivers[from as usize].arrive(alloc, packet)
