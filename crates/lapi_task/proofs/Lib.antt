@@ -9,6 +9,7 @@ pub mod PutPackets
 pub mod ReasonForms
 pub mod ReceiveCounts
 pub mod ReceiveEvents
+pub mod ReceiveHolds
 pub mod ReceiveKinds
 pub mod SenderLaws
 pub mod StepFields

@@ -86,7 +86,7 @@ module _ (script : Script) where
         let exact = record-exact script no_rules r is in
         let own = all-get (Exact script no_rules r.journal) (r.wire a t) k (Data p) (exact.wires a t) at in
         let ends = out-copied script r.journal a t p.seq (p.name, p.fragment) (all-get (IsOf script no_rules r.journal r.handed a t) (r.wire a t) k (Data p) (sound.wires a t) at) in
-        let leg = (and_parts _ _ (there script no_rules (Copied p.name) r.journal sound.atomic ends.0)).1 in
+        let leg : has_leg script p.name.origin p.name.leg (statement script p.name.origin p.name.statement) ≡ true = (and_parts _ _ (there script no_rules (Copied p.name) r.journal sound.atomic ends.0)).1 in
         record {
           atomic = sound.atomic;
           copied = ends.0;
