@@ -11,6 +11,7 @@ pub mod ReceiveCounts
 pub mod ReceiveEvents
 pub mod ReceiveHolds
 pub mod ReceiveKinds
+pub mod ReceiveLaws
 pub mod ReceiveLinks
 pub mod SenderLaws
 pub mod StepFields

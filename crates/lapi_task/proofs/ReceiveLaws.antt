@@ -1,0 +1,147 @@
+-- What the delivery of a data packet makes of its task.
+use Rattle.std.proofs.Common.{◌≡◌, ◌⊎◌, ℕ, ◌+◌, ◌<◌, ◌≤◌, ◌^◌, ◌==◌, Bool, true, false, cond, not, ◌&&◌, ◌||◌, List, [], ◌∷◌, ◌++◌, map, length, slice_set, Option, Some, None, refl, sym, ap, ◌∙◌, subst, ⊎_elim, arith}
+use Rattle.std.specs.Prelude.{slice_get, slice_index}
+use Rattle.std.specs.List.{AllByRecursion, list_any}
+use Rattle.std.proofs.lemmas.Bool.{cond-true, cond-false, cond_both, cases_eq, and_from, and_left, and_right, ne_eqb}
+use Rattle.std.proofs.lemmas.List.{append-nil, length-set, map-append}
+use Rattle.std.proofs.lemmas.List.Folds.{list_any-append}
+use Rattle.lapi_base.specs.declared.script.Script.{Script}
+use Rattle.lapi_base.specs.declared.event.Event.{Event}
+use Rattle.lapi_base.specs.declared.event.Event.TheVariants.{Copy, Land}
+use Rattle.lapi_base.specs.declared.head.Head.{Head}
+use Rattle.lapi_base.specs.declared.head.Head.TheVariants as heads
+use Rattle.lapi_base.specs.declared.message.Leg.TheVariants.{Note}
+use Rattle.lapi_base.specs.declared.message.MsgName.{MsgName}
+use Rattle.lapi_base.specs.declared.packet.Packet.{Packet}
+use Rattle.lapi_base.specs.declared.packet.Packet.TheVariants.{Data}
+use Rattle.lapi_base.specs.declared.packet.DataPacket.{DataPacket}
+use Rattle.lapi_base.specs.declared.reply.Reply.TheVariants.{Did}
+use Rattle.lapi_base.specs.declared.wire.WireEntry.{WireEntry}
+use Rattle.lapi_base.specs.Arrived.{ack_of, comes}
+use Rattle.lapi_base.specs.Atomic.{Atomic}
+use Rattle.lapi_base.specs.Entries.{carried}
+use Rattle.lapi_base.specs.Names.{message}
+use Rattle.lapi_base.specs.Operations.{statement, sender, receiver, fragment_count}
+use Rattle.lapi_base.specs.Record.{Run, out, followed, is_number, covers, has_number, has_ack, is_sent, is_acked, is_delivered, arrival, ack, with_handed, hand_over, deliver_entry, deliver}
+use Rattle.lapi_base.specs.Receiving.{HeadFits, NamesCounter}
+use Rattle.lapi_base.specs.Seen.{no_rules, IsRecord}
+use Rattle.lapi_base.specs.Spelling.{HasSpelling}
+use Rattle.lapi_base.specs.Written as written
+use Rattle.lapi_laws.proofs.Deeds.{eqb-refl, done-head}
+use Rattle.lapi_laws.proofs.Lines.{deliver-sound}
+use Rattle.lapi_link.specs.declared.arrival.Arrival.{Arrival}
+use Rattle.lapi_link.specs.Receiver.{ReceivingEnd, ReceivesFor, arrival_of}
+use Rattle.lapi_link.specs.Sender.{SendingEnd, entries_to}
+use Rattle.lapi_parts.proofs.ArrivingPackets.{arrivals-told, next-acks-told}
+use Rattle.lapi_parts.proofs.Records.{record-sound}
+use Rattle.lapi_parts.proofs.SpelledPackets.{message-spelled}
+use Rattle.lapi_task.specs.declared.outcome.Outcome.{Outcome}
+use Rattle.lapi_task.specs.declared.put.Put.{Put}
+use Rattle.lapi_task.specs.declared.task.Task.{Task}
+use Rattle.lapi_task.specs.Does.{IsAt, Does, bytes_to}
+use Rattle.lapi_task.specs.Landed.{note_packet, ends_after, events_of, ArrivalSuits, HeadSuits, HasArrived, MayTake, HasCome}
+use Rattle.lapi_task.specs.Performed.{IsPerformed}
+use Rattle.lapi_task.specs.Puts.{statement_of}
+use Rattle.lapi_task.specs.StandsFor.{SenderAt, ReceiverAt, HoldsFor, StandsFor}
+use Rattle.lapi_task.proofs.ArrivingFits.{arriving-fits}
+use Rattle.lapi_task.proofs.Lists.{get-set, get-set-other}
+use Rattle.lapi_task.proofs.ReceiveEvents.{come, come-is, come-events, came_bytes, is_all, come-mild, mild-all}
+use Rattle.lapi_task.proofs.ReceiveHolds.{came-length, holds-arrived}
+use Rattle.lapi_task.proofs.ReceiveKinds.{IsKind, IsPut, IsNote, Comes, comes as what-comes, is-kind}
+use Rattle.lapi_task.proofs.ReceiveLinks.{told, Settled, notice-data, notice-carries, notice-count, notice-ends, ends-come, ends-length}
+use Rattle.lapi_task.proofs.SenderLaws.{bytes-here, bytes-there, entries-known}
+use Rattle.lapi_task.proofs.StepMemories.{memory-length}
+
+-- What has changed only in its receiving ends.
+pub record KeepsRest (before after : Task) : Type 0 where
+  pub number : after.number ≡ before.number
+  pub next : after.next ≡ before.next
+  pub reads : after.reads.items ≡ before.reads.items
+  pub refusals : after.refusals.items ≡ before.refusals.items
+  pub uncopied : after.uncopied.items ≡ before.uncopied.items
+  pub memory : after.memory ≡ before.memory
+  pub counters : after.counters ≡ before.counters
+  pub senders : after.senders.items ≡ before.senders.items
+
+or-none : (x : Bool) → (x || (false || false)) ≡ x
+or-none true = refl
+or-none false = refl
+
+receiver-there : (script : Script) (ps : List Packet) (o : Option ReceivingEnd) → ReceiverAt script ps o → (end : ReceivingEnd) × (o ≡ Some end) × ReceivesFor script end ps
+receiver-there script ps None h = absurd h
+receiver-there script ps (Some end) h = (end, refl, h)
+
+module _ (script : Script) where
+  holds-kept : (t : ℕ) (before after : Task) (J : List Event) → KeepsRest before after → HoldsFor script t before J → HoldsFor script t after J
+  holds-kept t before after J g h =
+      let next = g.next in
+      record {
+        number = g.number ∙ h.number;
+        next = g.next ∙ h.next;
+        ahead = λ i l. h.ahead i (omega (arith, l, next));
+        reads = g.reads ∙ h.reads;
+        refusals = g.refusals ∙ h.refusals;
+        memory = g.memory ∙ h.memory;
+        counter_count = ap length g.counters ∙ h.counter_count;
+        counters = λ c l. ap (λ xs. slice_index xs c) g.counters ∙ h.counters c l;
+        uncopied = g.uncopied ∙ h.uncopied;
+        jobless = h.jobless;
+      }
+
+  -- The record after a packet was handed over, but for its journal.
+  abbrev pub handed_on : Run → (a t : ℕ) → DataPacket → Packet → Run
+  handed_on r a t p q = record {
+    replies = r.replies ++ Did ∷ [];
+    wire = λ x y. cond (x == t && y == a) (r.wire x y ++ q ∷ []) (r.wire x y);
+    handed = λ x y. cond (x == a && y == t) (Data p ∷ r.handed x y) (r.handed x y);
+    journal = r.journal;
+  }
+
+
+  silent : (ps : List Packet) (a t n : ℕ) → is_number n (ack_of script ps a t) ≡ false
+  unfolding ack_of
+  silent ps a t n = refl
+
+  number-more : (xs : List Packet) (q : Packet) (n : ℕ) → is_number n q ≡ false → has_number (xs ++ q ∷ []) n ≡ has_number xs n
+  unfolding has_number
+  number-more xs q n e = list_any-append (is_number n) xs (q ∷ []) ∙ ap (λ b. list_any (is_number n) xs || (b || false)) e ∙ or-none (list_any (is_number n) xs)
+
+  ack-more : (p : DataPacket) (xs : List Packet) (n : ℕ) → has_ack (Data p ∷ xs) n ≡ has_ack xs n
+  unfolding has_ack
+  ack-more p xs n = refl
+
+  settled : (r : Run) (a t : ℕ) (p : DataPacket) (ps : List Packet) (b : ℕ) → Settled script r (handed_on r a t p (ack_of script ps a t)) t b
+  settled r a t p ps b =
+      let q = ack_of script ps a t in
+      record {
+        sent = λ n. cond_both (t == t && b == a) (r.wire t b ++ q ∷ []) (r.wire t b) (λ xs. has_number xs n ≡ has_number (r.wire t b) n) (λ _. number-more (r.wire t b) q n (silent ps a t n)) (λ _. refl);
+        acked = λ n. cond_both (b == a && t == t) (Data p ∷ r.handed b t) (r.handed b t) (λ xs. has_ack xs n ≡ has_ack (r.handed b t) n) (λ _. ack-more p (r.handed b t) n) (λ _. refl);
+      }
+
+  wires : (r : Run) (a t : ℕ) (p : DataPacket) (q : Packet) (b : ℕ) → map written.packet ((handed_on r a t p q).wire t b) ≡ map written.packet (r.wire t b) ++ bytes_to b (entries_to a (written.packet q ∷ []))
+  wires r a t p q b =
+      let old = r.wire t b in
+      let bytes = written.packet q ∷ [] in
+      ⊎_elim
+      (λ (same : b ≡ a).
+      ap (map written.packet) (cond-true (t == t && b == a) (old ++ q ∷ []) old (and_from (t == t) (b == a) (eqb-refl t) (subst (λ x. (b == x) ≡ true) same (eqb-refl b))))
+      ∙ map-append written.packet old (q ∷ [])
+      ∙ ap (λ xs. map written.packet old ++ xs) (sym (ap (λ x. bytes_to b (entries_to x bytes)) (sym same) ∙ bytes-here b bytes)))
+      (λ (apart : b ≡ a → ⊥).
+      ap (map written.packet) (cond-false (t == t && b == a) (old ++ q ∷ []) old (and_right (t == t) (b == a) (ne_eqb b a apart)))
+      ∙ sym (append-nil (map written.packet old))
+      ∙ ap (λ xs. map written.packet old ++ xs) (sym (bytes-there a b bytes (ne_eqb a b (λ e. apart (sym e))))))
+      (cases_eq b a)
+
+  handed-ends : (r w : Run) (a t : ℕ) (p : DataPacket) (q : Packet) (ends after : List ReceivingEnd) (old new : ReceivingEnd) → slice_get ends a ≡ Some old → after ≡ slice_set ends a new → ReceivesFor script new (Data p ∷ r.handed a t) → ((x : ℕ) → x < script.tasks → ReceiverAt script (r.handed x t) (slice_get ends x)) → (x : ℕ) → x < script.tasks → ReceiverAt script ((handed_on r a t p q).handed x t) (slice_get after x)
+  handed-ends r w a t p q ends after old new here set stands all x l =
+      subst (λ xs. ReceiverAt script ((handed_on r a t p q).handed x t) (slice_get xs x)) (sym set)
+      (⊎_elim
+      (λ (same : x ≡ a).
+      subst (λ y. ReceiverAt script ((handed_on r a t p q).handed y t) (slice_get (slice_set ends a new) y)) (sym same)
+      (subst (λ ps. ReceiverAt script ps (slice_get (slice_set ends a new) a)) (sym (cond-true (a == a && t == t) (Data p ∷ r.handed a t) (r.handed a t) (and_from (a == a) (t == t) (eqb-refl a) (eqb-refl t))))
+      (subst (ReceiverAt script (Data p ∷ r.handed a t)) (sym (get-set ends a old new here)) stands)))
+      (λ (apart : x ≡ a → ⊥).
+      subst (λ ps. ReceiverAt script ps (slice_get (slice_set ends a new) x)) (sym (cond-false (x == a && t == t) (Data p ∷ r.handed x t) (r.handed x t) (and_left (x == a) (t == t) (ne_eqb x a apart))))
+      (subst (ReceiverAt script (r.handed x t)) (sym (get-set-other ends a x new apart)) (all x l)))
+      (cases_eq x a))
