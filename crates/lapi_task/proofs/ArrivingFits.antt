@@ -1,5 +1,5 @@
 -- A packet on a wire may come to those that were handed over on it.
-use Rattle.std.proofs.Common.{◌≡◌, ℕ, ◌+◌, ◌*◌, ◌<◌, ◌≤◌, true, false, List, [], ◌∷◌, length, take, drop, Some, sym, ap, ◌∙◌, subst, arith}
+use Rattle.std.proofs.Common.{◌≡◌, ℕ, ◌*◌, ◌<◌, ◌≤◌, true, false, List, [], ◌∷◌, take, drop, Some, sym, ap, ◌∙◌, subst, arith}
 use Rattle.std.specs.Prelude.{slice_get}
 use Rattle.std.specs.List.{AllByRecursion}
 use Rattle.std.proofs.lemmas.Bool.{both_ways, false_from_ne_true}
@@ -21,7 +21,7 @@ use Rattle.lapi_laws.proofs.NumberLaws.{every_below-at}
 use Rattle.lapi_laws.proofs.Out.{all-get, out-copied}
 use Rattle.lapi_laws.proofs.Shorts.{copied-short}
 use Rattle.lapi_laws.proofs.Sound.{Fits as IsOf}
-use Rattle.lapi_link.specs.Receiver.{packet_of, is_complete, IsPartOnly, Fits}
+use Rattle.lapi_link.specs.Receiver.{is_complete, IsPartOnly, Fits}
 use Rattle.lapi_link.proofs.HeldPackets.{packet-found, some-there}
 use Rattle.lapi_parts.proofs.ArrivingPackets.{counts-is, length-is, repeats-known}
 use Rattle.lapi_parts.proofs.ExactBytes.{Exact, record-exact}

@@ -1,4 +1,7 @@
+pub mod AnswerLaws
+pub mod AnswerSpelled
 pub mod Apart
+pub mod ArrivingAcks
 pub mod ArrivingFits
 pub mod Forms
 pub mod Jobless

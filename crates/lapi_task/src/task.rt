@@ -4,6 +4,7 @@ use lapi_link::{Receiver, Sender};
 use lapi_memory::TaskMemory;
 use std::collections::VecDeque;
 
+mod answering;
 mod calls;
 mod copying;
 mod lends;
