@@ -145,3 +145,79 @@ module _ (script : Script) where
       subst (λ ps. ReceiverAt script ps (slice_get (slice_set ends a new) x)) (sym (cond-false (x == a && t == t) (Data p ∷ r.handed x t) (r.handed x t) (and_left (x == a) (t == t) (ne_eqb x a apart))))
       (subst (ReceiverAt script (r.handed x t)) (sym (get-set-other ends a x new apart)) (all x l)))
       (cases_eq x a))
+
+  -- ---- what a message finds at its task
+
+  notice-spelled : (performed : IsPerformed script) (J : List Event) (m : MsgName) (a t : ℕ) (put : Put) → statement script m.origin m.statement ≡ statement_of put → IsPut script m (heads.Put put.to put.tgt put.cmpl) → sender script m ≡ a → receiver script m ≡ t → (c n : ℕ) → put.cmpl ≡ Some c → n < 2 ^ 32 → Atomic script no_rules (Copy (message m.origin m.statement Note) ∷ J) → HasSpelling (Data (note_packet t a n m c))
+  notice-spelled performed J m a t put is kind from to c n named few atomic =
+      let note = message m.origin m.statement Note in
+      let K = Copy note ∷ J in
+      let own = notice-ends script m a t kind.leg from to in
+      let bytes = carried script no_rules K note in
+      let spells = message-spelled script no_rules performed.valid (omega arith, omega arith) K note n 0 atomic (done-head (Copy note) J) few (let e = notice-count script m put is c named in omega (arith, e)) in
+      subst HasSpelling (notice-data script m put is c named n bytes (notice-carries script m put is c named J) ∙ (λ i. Data (note_packet (own.0 i) (own.1 i) n m c))) (_, spells)
+
+  counter-there : (o : Option ℕ) (counters : List ℕ) → NamesCounter script o → length counters ≡ script.counters → (c : ℕ) → o ≡ Some c → c < length counters
+  counter-there None counters h e c x = absurd (cc)
+  counter-there (Some d) counters h e c x = let same : d ≡ c = cc in omega (arith, h, e, same)
+
+  module _ (performed : IsPerformed script) (r : Run) (a t : ℕ) (m : MsgName) (from : sender script m ≡ a) (to : receiver script m ≡ t) (n : ℕ) (bytes memory counters : List ℕ) (places : length memory ≡ script.memory) (count : length counters ≡ script.counters) where
+    suits-put : (put : Put) (cmpl : Option ℕ) → put.cmpl ≡ cmpl → IsPut script m (heads.Put put.to put.tgt put.cmpl) → statement script m.origin m.statement ≡ statement_of put → HeadFits script no_rules n (heads.Put put.to put.tgt cmpl) → length bytes ≡ n → Atomic script no_rules (followed r.journal (events_of (come false true m (heads.Put put.to put.tgt cmpl) bytes))) → HeadSuits t a m (heads.Put put.to put.tgt cmpl) bytes memory counters
+    unfolding followed
+    suits-put put None named kind is f size atomic = ((let l = f.0 in omega (arith, l, size, places)), counter-there put.tgt counters f.1 count, λ c k x few. absurd (cc))
+    suits-put put (Some d) named kind is f size atomic =
+        ((let l = f.0 in omega (arith, l, size, places)), counter-there put.tgt counters f.1 count, λ c k x few. let same : d ≡ c = cc in notice-spelled performed (Land m ∷ r.journal) m a t put is kind from to c k (named ∙ ap Some same) few atomic)
+
+    suits-note : (h : Head) → IsNote script m h → HeadFits script no_rules n h → HeadSuits t a m h bytes memory counters
+    suits-note (heads.Note op cmpl) note f = omega (arith, f, count)
+    suits-note (heads.Put at tgt cmpl) note f = absurd (note.counter at tgt cmpl refl)
+    suits-note _ note f = absurd note.head
+
+    suits-come : (known whole : Bool) (h : Head) → IsPut script m h ⊎ IsNote script m h → HeadFits script no_rules n h → (whole ≡ true → length bytes ≡ n) → Atomic script no_rules (followed r.journal (events_of (come known whole m h bytes))) → ArrivalSuits t a (come known whole m h bytes) memory counters
+    suits-come true whole h kind f size atomic = tt
+    suits-come false false h kind f size atomic = tt
+    suits-come false true h kind f size atomic =
+        ⊎_elim
+        (λ (x : IsPut script m h).
+        let head = x.head in
+        let good = λ (g : Head). Atomic script no_rules (followed r.journal (events_of (come false true m g bytes))) in
+        subst (λ (g : Head). HeadSuits t a m g bytes memory counters) (sym head) (suits-put x.put x.put.cmpl refl (subst (IsPut script m) head x) x.is (subst (HeadFits script no_rules n) head f) (size refl) (subst good head atomic)))
+        (λ (x : IsNote script m h). suits-note h x f)
+        kind
+
+  -- ---- a delivery
+
+  module _ (performed : IsPerformed script) (t : ℕ) (r : Run) (task : Task) (at : IsAt script t task r) (a k : ℕ) (known_task : a < script.tasks) (p : DataPacket) (entry : slice_get (r.wire a t) k ≡ Some (Data p)) where
+    before : List Packet
+    before = r.handed a t
+
+    abbrev arrives : Arrival
+    arrives = come (is_delivered r a t p.seq) (is_all script (r.handed a t) p) p.name p.head (came_bytes script (r.handed a t) p)
+
+    abbrev then : List Event
+    then = followed r.journal (events_of arrives)
+
+    packet-comes : Comes script r a t p
+    packet-comes = what-comes script performed r a t k p at.recorded entry
+
+    kind : IsKind p.head
+    kind = is-kind script performed p.name p.head packet-comes.kind
+
+    end-there : (end : ReceivingEnd) × (slice_get task.receivers.items a ≡ Some end) × ReceivesFor script end (r.handed a t)
+    end-there = receiver-there script (r.handed a t) (slice_get task.receivers.items a) (at.stands.receivers a known_task)
+
+    pub may-take : MayTake task.receivers.items a p
+    may-take = record { end = end-there.0; there = end-there.1; script = script; packets = r.handed a t; stands = end-there.2; fits = arriving-fits script performed r a t k p at.recorded entry }
+
+    abbrev next_run : Run
+    next_run = told script (handed_on r a t p (ack_of script (Data p ∷ r.handed a t) a t)) then
+
+    delivered : deliver script no_rules r a t k ≡ next_run
+    unfolding deliver hand_over
+    delivered =
+        let q = next-acks-told script no_rules r at.recorded a t k p entry in
+        let es = ap (λ es. cond (is_delivered r a t p.seq) [] es) (arrivals-told script no_rules r at.recorded a t k p entry) ∙ come-events script (r.handed a t) p kind (is_delivered r a t p.seq) in
+        ap (deliver_entry script no_rules r a t) entry ∙ (λ i. told script (handed_on r a t p (q i)) (followed r.journal (es i)))
+
+    atomic : Atomic script no_rules then
+    atomic = subst (λ (x : Run). Atomic script no_rules x.journal) delivered (deliver-sound script no_rules r a t k (record-sound script no_rules r at.recorded)).atomic
