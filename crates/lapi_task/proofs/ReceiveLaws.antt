@@ -30,7 +30,7 @@ use Rattle.lapi_base.specs.Written as written
 use Rattle.lapi_laws.proofs.Deeds.{eqb-refl, done-head}
 use Rattle.lapi_laws.proofs.Lines.{deliver-sound}
 use Rattle.lapi_link.specs.declared.arrival.Arrival.{Arrival}
-use Rattle.lapi_link.specs.Receiver.{ReceivingEnd, ReceivesFor, arrival_of}
+use Rattle.lapi_link.specs.Receiver.{ReceivingEnd, ReceivesFor, Fits, arrival_of}
 use Rattle.lapi_link.specs.Sender.{SendingEnd, entries_to}
 use Rattle.lapi_parts.proofs.ArrivingPackets.{arrivals-told, next-acks-told}
 use Rattle.lapi_parts.proofs.Records.{record-sound}
@@ -38,6 +38,7 @@ use Rattle.lapi_parts.proofs.SpelledPackets.{message-spelled}
 use Rattle.lapi_task.specs.declared.outcome.Outcome.{Outcome}
 use Rattle.lapi_task.specs.declared.put.Put.{Put}
 use Rattle.lapi_task.specs.declared.task.Task.{Task}
+use Rattle.lapi_task.specs.Answers.{HasTaken, answer}
 use Rattle.lapi_task.specs.Does.{IsAt, Does, bytes_to}
 use Rattle.lapi_task.specs.Landed.{note_packet, ends_after, events_of, ArrivalSuits, HeadSuits, HasArrived, MayTake, HasCome}
 use Rattle.lapi_task.specs.Performed.{IsPerformed}
@@ -133,8 +134,8 @@ module _ (script : Script) where
       ∙ ap (λ xs. map written.packet old ++ xs) (sym (bytes-there a b bytes (ne_eqb a b (λ e. apart (sym e))))))
       (cases_eq b a)
 
-  handed-ends : (r w : Run) (a t : ℕ) (p : DataPacket) (q : Packet) (ends after : List ReceivingEnd) (old new : ReceivingEnd) → slice_get ends a ≡ Some old → after ≡ slice_set ends a new → ReceivesFor script new (Data p ∷ r.handed a t) → ((x : ℕ) → x < script.tasks → ReceiverAt script (r.handed x t) (slice_get ends x)) → (x : ℕ) → x < script.tasks → ReceiverAt script ((handed_on r a t p q).handed x t) (slice_get after x)
-  handed-ends r w a t p q ends after old new here set stands all x l =
+  handed-ends : (r : Run) (a t : ℕ) (p : DataPacket) (q : Packet) (ends after : List ReceivingEnd) (old new : ReceivingEnd) → slice_get ends a ≡ Some old → after ≡ slice_set ends a new → ReceivesFor script new (Data p ∷ r.handed a t) → ((x : ℕ) → x < script.tasks → ReceiverAt script (r.handed x t) (slice_get ends x)) → (x : ℕ) → x < script.tasks → ReceiverAt script ((handed_on r a t p q).handed x t) (slice_get after x)
+  handed-ends r a t p q ends after old new here set stands all x l =
       subst (λ xs. ReceiverAt script ((handed_on r a t p q).handed x t) (slice_get xs x)) (sym set)
       (⊎_elim
       (λ (same : x ≡ a).
@@ -188,9 +189,6 @@ module _ (script : Script) where
   -- ---- a delivery
 
   module _ (performed : IsPerformed script) (t : ℕ) (r : Run) (task : Task) (at : IsAt script t task r) (a k : ℕ) (known_task : a < script.tasks) (p : DataPacket) (entry : slice_get (r.wire a t) k ≡ Some (Data p)) where
-    before : List Packet
-    before = r.handed a t
-
     abbrev arrives : Arrival
     arrives = come (is_delivered r a t p.seq) (is_all script (r.handed a t) p) p.name p.head (came_bytes script (r.handed a t) p)
 
@@ -221,3 +219,70 @@ module _ (script : Script) where
 
     atomic : Atomic script no_rules then
     atomic = subst (λ (x : Run). Atomic script no_rules x.journal) delivered (deliver-sound script no_rules r a t k (record-sound script no_rules r at.recorded)).atomic
+
+    pub arrival-is : (arrival : Arrival) → ((end : ReceivingEnd) (s : Script) (ps : List Packet) → slice_get task.receivers.items a ≡ Some end → ReceivesFor s end ps → Fits s ps p → arrival ≡ arrival_of s ps p) → arrival ≡ arrives
+    arrival-is arrival h = h end-there.0 script (r.handed a t) end-there.1 end-there.2 (arriving-fits script performed r a t k p at.recorded entry) ∙ come-is script (r.handed a t) p
+
+    pub suits-arrival : (mid : Task) (arrival : Arrival) → KeepsRest task mid → arrival ≡ arrives → ArrivalSuits mid.number a arrival mid.memory mid.counters
+    suits-arrival mid arrival g e =
+        let h = at.stands.holds in
+        let c = packet-comes in
+        subst (λ x. ArrivalSuits mid.number a x mid.memory mid.counters) (sym e)
+        (subst (λ n. ArrivalSuits n a arrives mid.memory mid.counters) (sym (g.number ∙ h.number))
+        (suits-come performed r a t p.name c.from c.to p.length (came_bytes script (r.handed a t) p) mid.memory mid.counters
+        (ap length (g.memory ∙ h.memory) ∙ memory-length script r.journal t)
+        (ap length g.counters ∙ h.counter_count)
+        (is_delivered r a t p.seq) (is_all script (r.handed a t) p) p.head c.kind c.fits.head (λ all. came-length script t r a p c all) atomic))
+
+    pub link-there : (mid : Task) → KeepsRest task mid → a < length mid.senders.items
+    link-there mid g = let n = ap length g.senders ∙ at.stands.sender_count in let l = known_task in omega (arith, n, l)
+
+    abbrev Took : Task → Type 0
+    Took mid = (end : ReceivingEnd) → slice_get task.receivers.items a ≡ Some end → HasCome task.receivers.items mid.receivers.items a p end
+
+    receives : (mid after : Task) → Took mid → after.receivers.items ≡ mid.receivers.items → (end : ReceivingEnd) × (after.receivers.items ≡ slice_set task.receivers.items a end) × ReceivesFor script end (Data p ∷ r.handed a t)
+    receives mid after took same =
+        let x = took end-there.0 end-there.1 in
+        (x.end, same ∙ x.ends, x.stands script (r.handed a t) end-there.2 (arriving-fits script performed r a t k p at.recorded entry))
+
+    pub has-taken : (mid after : Task) (arrival : Arrival) (old new : List Event) → KeepsRest task mid → Took mid → HasArrived a arrival mid after old new → HasTaken script t after a (Data p ∷ r.handed a t)
+    has-taken mid after arrival old new g took h =
+        let x = receives mid after took h.receivers in
+        record {
+          performed = performed;
+          number = h.number ∙ g.number ∙ at.stands.holds.number;
+          known = at.known;
+          from_known = known_task;
+          receiver = subst (ReceiverAt script (Data p ∷ r.handed a t)) (sym (ap (λ xs. slice_get xs a) x.1 ∙ get-set task.receivers.items a end-there.0 x.0 end-there.1)) x.2;
+        }
+
+    pub arrived-does : (mid after : Task) (arrival : Arrival) (old new : Outcome) → KeepsRest task mid → arrival ≡ arrives → Took mid → HasArrived a arrival mid after old.events new.events → new.entries ≡ old.entries ++ answer script (Data p ∷ r.handed a t) a t ∷ [] → Does script t r (deliver script no_rules r a t k) after old new
+    arrived-does mid after arrival old new g e took h added =
+        let ps = Data p ∷ r.handed a t in
+        let q = ack_of script ps a t in
+        let known = is_delivered r a t p.seq in
+        let whole = is_all script (r.handed a t) p in
+        let bytes = came_bytes script (r.handed a t) p in
+        let c = packet-comes in
+        let s = at.stands in
+        let own : HasArrived a arrives mid after old.events new.events = subst (λ x. HasArrived a x mid after old.events new.events) e h in
+        let same = mild-all script t (events_of arrives) r.journal (come-mild known whole p.name p.head bytes kind) in
+        let ends : after.senders.items ≡ ends_after t a arrives task.senders.items = own.senders ∙ ap (λ n. ends_after n a arrives mid.senders.items) (g.number ∙ s.holds.number) ∙ ap (ends_after t a arrives) g.senders in
+        let x = receives mid after took h.receivers in
+        subst (λ y. Does script t r y after old new) (sym delivered)
+        (record {
+          events = events_of arrives;
+          entries = answer script ps a t ∷ [];
+          stands = record {
+            holds = holds-arrived script t r a k p at.recorded entry c kind then (ap (λ (y : Run). y.journal) delivered) same mid after old.events new.events (holds-kept t task mid r.journal g s.holds) own;
+            sender_count = ap length ends ∙ ends-length script t a known whole p.name p.head bytes task.senders.items ∙ s.sender_count;
+            receiver_count = ap length x.1 ∙ length-set task.receivers.items a x.0 ∙ s.receiver_count;
+            senders = λ b l. subst (λ xs. SenderAt script next_run t b (slice_get xs b)) (sym ends) (ends-come script r (handed_on r a t p q) a t task.senders.items (λ y. settled r a t p ps y) known_task s.senders known whole p.name p.head bytes c.from c.to c.kind atomic b l);
+            receivers = handed-ends r a t p q task.receivers.items after.receivers.items end-there.0 x.0 end-there.1 x.1 x.2 s.receivers;
+          };
+          happened = refl;
+          events_added = own.events;
+          put = λ b l. wires r a t p q b;
+          entries_added = added;
+          ends = (known_task, tt);
+        })

@@ -30,23 +30,4 @@ impl Task {
     {
         Err(Memory)
     }
-
-    /// Takes what comes from task `from`. Bytes that spell no packet are refused, and change nothing.
-    pub fn receive(
-        &mut self,
-        _alloc: Global,
-        from: u32,
-        bytes: &[u8],
-        _out: &mut Outcome,
-    ) -> Result<Received, Memory>
-        requires { (p : Packet) → Spells p bytes.now → IsOnWire self.old from p }
-        ensures refused { (bad : Bad) → decoded bytes.now ≡ Err bad → (result ≡ Ok (Received.Refused bad)) × (self.new ≡ self.old) × (_out.new ≡ _out.old) }
-        ensures does { OnOk result ((script : TheScript) (t k : ℕ) (r : Run) (p : Packet) → IsPerformed script → IsAt script t self.old r → from < script.tasks → Spells p bytes.now → slice_get (r.wire from t) k ≡ Some p → Does script t r (deliver script no_rules r from t k) self.new _out.old _out.new) }
-    {
-        let _ = from;
-        match lapi_packet::decode(bytes) {
-            Err(bad) => Ok(Received::Refused(bad)),
-            Ok(_packet) => Err(Memory),
-        }
-    }
 }

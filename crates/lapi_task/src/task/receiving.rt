@@ -27,6 +27,47 @@ use lapi_reassembly::Message;
 use std::alloc::Global;
 
 impl Task {
+    /// Takes what comes from task `from`. Bytes that spell no packet are refused, and change nothing.
+    pub fn receive(
+        &mut self,
+        alloc: Global,
+        from: u32,
+        bytes: &[u8],
+        out: &mut Outcome,
+    ) -> Result<Received, Memory>
+        requires { (p : ThePacket) → Spells p bytes.now → IsOnWire self.old from p }
+        ensures refused { (bad : Bad) → decoded bytes.now ≡ Err bad → (result ≡ Ok (Received.Refused bad)) × (self.new ≡ self.old) × (out.new ≡ out.old) }
+        ensures does { OnOk result ((script : TheScript) (t k : ℕ) (r : Run) (p : ThePacket) → IsPerformed script → IsAt script t self.old r → from < script.tasks → Spells p bytes.now → slice_get (r.wire from t) k ≡ Some p → Does script t r (deliver script no_rules r from t k) self.new out.old out.new) }
+    {
+        match decode(bytes) {
+            Err(bad) => Ok(Received::Refused(bad)),
+            Ok(Packet::Ack { base, bits, .. }) => {
+                self.acknowledged(from, base, bits);
+                Ok(Received::Ack)
+            }
+            Ok(Packet::Data(packet)) => {
+                self.arrive(alloc, from, &packet, out)?;
+                Ok(Received::Data)
+            }
+        }
+    }
+
+    /// Takes a data packet, and tells task `from` what was taken of what it sent.
+    fn arrive(
+        &mut self,
+        alloc: Global,
+        from: u32,
+        packet: &DataPacket,
+        out: &mut Outcome,
+    ) -> Result<(), Memory>
+        requires { IsOnWire self.old from (Data packet.now) }
+        ensures { OnOk result ((script : TheScript) (t k : ℕ) (r : Run) → IsPerformed script → IsAt script t self.old r → from < script.tasks → slice_get (r.wire from t) k ≡ Some (Data packet.now) → Does script t r (deliver script no_rules r from t k) self.new out.old out.new) }
+    {
+        let arrival = take(&mut self.receivers, alloc, from, packet)?;
+        self.effect(alloc, from, &arrival, &mut out.events)?;
+        self.acknowledge(alloc, from, &mut out.entries)
+    }
+
     /// What came from task `from` takes effect.
     fn effect(
         &mut self,
