@@ -15,6 +15,11 @@ pub mod PollSends
 pub mod PutPackets
 pub mod ReasonForms
 pub mod ReceiveCounts
+pub mod ReceiveEvents
+pub mod ReceiveHolds
+pub mod ReceiveKinds
+pub mod ReceiveLaws
+pub mod ReceiveLinks
 pub mod SenderLaws
 pub mod StepFields
 pub mod StepLaws

@@ -5,10 +5,10 @@ use lapi_memory::TaskMemory;
 use std::collections::VecDeque;
 
 mod answering;
-mod calls;
 mod copying;
 mod lends;
 mod polling;
+mod receiving;
 mod stepping;
 mod ticking;
 
