@@ -1,7 +1,7 @@
 -- What the delivery of a data packet makes of its task.
-use Rattle.std.proofs.Common.{◌≡◌, ◌⊎◌, ℕ, ◌+◌, ◌<◌, ◌≤◌, ◌^◌, ◌==◌, Bool, true, false, cond, not, ◌&&◌, ◌||◌, List, [], ◌∷◌, ◌++◌, map, length, slice_set, Option, Some, None, refl, sym, ap, ◌∙◌, subst, ⊎_elim, arith}
+use Rattle.std.proofs.Common.{◌≡◌, ◌⊎◌, ℕ, ◌<◌, ◌^◌, ◌==◌, Bool, true, false, cond, ◌&&◌, ◌||◌, List, [], ◌∷◌, ◌++◌, map, length, slice_set, Option, Some, None, refl, sym, ap, ◌∙◌, subst, ⊎_elim, arith}
 use Rattle.std.specs.Prelude.{slice_get, slice_index}
-use Rattle.std.specs.List.{AllByRecursion, list_any}
+use Rattle.std.specs.List.{list_any}
 use Rattle.std.proofs.lemmas.Bool.{cond-true, cond-false, cond_both, cases_eq, and_from, and_left, and_right, ne_eqb}
 use Rattle.std.specs.Vec.{with_items}
 use Rattle.std.specs.declared.vec.Vec.{Vec}
@@ -18,22 +18,21 @@ use Rattle.lapi_base.specs.declared.packet.Packet.{Packet}
 use Rattle.lapi_base.specs.declared.packet.Packet.TheVariants.{Data}
 use Rattle.lapi_base.specs.declared.packet.DataPacket.{DataPacket}
 use Rattle.lapi_base.specs.declared.reply.Reply.TheVariants.{Did}
-use Rattle.lapi_base.specs.declared.wire.WireEntry.{WireEntry}
-use Rattle.lapi_base.specs.Arrived.{ack_of, comes}
+use Rattle.lapi_base.specs.Arrived.{ack_of}
 use Rattle.lapi_base.specs.Atomic.{Atomic}
 use Rattle.lapi_base.specs.Entries.{carried}
 use Rattle.lapi_base.specs.Names.{message}
-use Rattle.lapi_base.specs.Operations.{statement, sender, receiver, fragment_count}
-use Rattle.lapi_base.specs.Record.{Run, out, followed, is_number, covers, has_number, has_ack, is_sent, is_acked, is_delivered, arrival, ack, with_handed, hand_over, deliver_entry, deliver}
+use Rattle.lapi_base.specs.Operations.{statement, sender, receiver}
+use Rattle.lapi_base.specs.Record.{Run, followed, is_number, has_number, has_ack, is_delivered, arrival, hand_over, deliver_entry, deliver}
 use Rattle.lapi_base.specs.Receiving.{HeadFits, NamesCounter}
-use Rattle.lapi_base.specs.Seen.{no_rules, IsRecord}
+use Rattle.lapi_base.specs.Seen.{no_rules}
 use Rattle.lapi_base.specs.Spelling.{HasSpelling}
 use Rattle.lapi_base.specs.Written as written
 use Rattle.lapi_laws.proofs.Deeds.{eqb-refl, done-head}
 use Rattle.lapi_laws.proofs.Lines.{deliver-sound}
 use Rattle.lapi_link.specs.declared.arrival.Arrival.{Arrival}
 use Rattle.lapi_link.specs.Receiver.{ReceivingEnd, ReceivesFor, Fits, arrival_of}
-use Rattle.lapi_link.specs.Sender.{SendingEnd, entries_to}
+use Rattle.lapi_link.specs.Sender.{entries_to}
 use Rattle.lapi_parts.proofs.ArrivingPackets.{arrivals-told, next-acks-told}
 use Rattle.lapi_parts.proofs.Records.{record-sound}
 use Rattle.lapi_parts.proofs.SpelledPackets.{message-spelled}
@@ -45,14 +44,14 @@ use Rattle.lapi_task.specs.Does.{IsAt, Does, bytes_to}
 use Rattle.lapi_task.specs.Landed.{note_packet, ends_after, events_of, ArrivalSuits, HeadSuits, HasArrived, MayTake, HasCome}
 use Rattle.lapi_task.specs.Performed.{IsPerformed}
 use Rattle.lapi_task.specs.Puts.{statement_of}
-use Rattle.lapi_task.specs.StandsFor.{SenderAt, ReceiverAt, HoldsFor, StandsFor}
+use Rattle.lapi_task.specs.StandsFor.{SenderAt, ReceiverAt, HoldsFor}
 use Rattle.lapi_task.proofs.ArrivingFits.{arriving-fits}
 use Rattle.lapi_task.proofs.Lists.{get-set, get-set-other}
 use Rattle.lapi_task.proofs.ReceiveEvents.{come, come-is, come-events, came_bytes, is_all, come-mild, mild-all}
 use Rattle.lapi_task.proofs.ReceiveHolds.{came-length, holds-arrived}
 use Rattle.lapi_task.proofs.ReceiveKinds.{IsKind, IsPut, IsNote, Comes, comes as what-comes, is-kind}
 use Rattle.lapi_task.proofs.ReceiveLinks.{told, Settled, notice-data, notice-carries, notice-count, notice-ends, ends-come, ends-length}
-use Rattle.lapi_task.proofs.SenderLaws.{bytes-here, bytes-there, entries-known}
+use Rattle.lapi_task.proofs.SenderLaws.{bytes-here, bytes-there}
 use Rattle.lapi_task.proofs.StepMemories.{memory-length}
 
 -- What has changed only in its receiving ends.
@@ -112,7 +111,6 @@ module _ (script : Script) where
     handed = λ x y. cond (x == a && y == t) (Data p ∷ r.handed x y) (r.handed x y);
     journal = r.journal;
   }
-
 
   silent : (ps : List Packet) (a t n : ℕ) → is_number n (ack_of script ps a t) ≡ false
   unfolding ack_of

@@ -1,19 +1,13 @@
 //! What lines do at a task.
-ghost use Rattle.std.specs.Prelude.{◌≡◌, ℕ, ◌<◌, ◌∷◌, [], ◌++◌, Ok, Err, IfOk, OnOk, slice_get, Some};
-ghost use Rattle.lapi_base.specs.declared.script.Script.{Script as TheScript};
-ghost use Rattle.lapi_base.specs.declared.packet.Packet.{Packet};
-ghost use Rattle.lapi_base.specs.declared.reply.Bad.{Bad};
-ghost use Rattle.lapi_base.specs.Record.{Run, start, step, poll, deliver};
+ghost use Rattle.std.specs.Prelude.{ℕ, OnOk};
+ghost use Rattle.lapi_base.specs.Record.{Run, poll};
 ghost use Rattle.lapi_base.specs.Seen.{no_rules};
-ghost use Rattle.lapi_base.specs.Spelling.{Spells, decoded};
 ghost use Rattle.lapi_task.specs.Performed.{IsPerformed};
-ghost use Rattle.lapi_task.specs.StandsFor.{StandsFor};
-ghost use Rattle.lapi_task.specs.Does.{IsAt, IsAtSome, Does, IsOnWire};
+ghost use Rattle.lapi_task.specs.Does.{IsAt, IsAtSome, Does};
 
 use crate::outcome::Outcome;
-use crate::received::Received;
 use crate::task::Task;
-use lapi_base::{Memory, Reply, Script};
+use lapi_base::{Memory, Script};
 use std::alloc::Global;
 
 impl Task {
