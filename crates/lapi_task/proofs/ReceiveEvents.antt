@@ -1,6 +1,5 @@
 -- What landings and notices leave of what a task did.
 use Rattle.std.proofs.Common.{◌≡◌, ℕ, ◌==◌, Bool, true, false, cond, not, ◌&&◌, List, [], ◌∷◌, ◌++◌, Option, Some, None, refl, sym, ap, ◌∙◌}
-use Rattle.std.specs.Prelude.{is_some}
 use Rattle.std.specs.List.{AllByRecursion}
 use Rattle.std.proofs.lemmas.Bool.{and_right}
 use Rattle.lapi_base.specs.declared.script.Script.{Script}
@@ -26,7 +25,7 @@ use Rattle.lapi_base.specs.Seen.{no_rules}
 use Rattle.lapi_laws.proofs.Deeds.{done-other}
 use Rattle.lapi_link.specs.declared.arrival.Arrival.{Arrival}
 use Rattle.lapi_link.specs.declared.arrival.Arrival.TheVariants.{Repeat, Part, Whole}
-use Rattle.lapi_link.specs.Receiver.{message_of, arrival_of}
+use Rattle.lapi_link.specs.Receiver.{arrival_of}
 use Rattle.lapi_task.specs.Landed.{head_events, events_of}
 use Rattle.lapi_task.specs.StandsFor.{is_uncopied}
 use Rattle.lapi_task.proofs.ReceiveKinds.{IsKind}

@@ -1,24 +1,22 @@
 -- What a task holds after a packet came.
-use Rattle.std.proofs.Common.{◌≡◌, ◌⊎◌, ℕ, ◌+◌, ◌<◌, ◌≤◌, ◌==◌, Bool, true, false, cond, not, ◌&&◌, List, [], ◌∷◌, ◌++◌, map, length, take, drop, Option, Some, None, refl, sym, ap, ◌∙◌, subst, arith, add-zero}
+use Rattle.std.proofs.Common.{◌≡◌, ℕ, ◌+◌, ◌<◌, ◌≤◌, ◌==◌, Bool, true, false, cond, not, ◌&&◌, List, [], ◌∷◌, length, Some, refl, sym, ap, ◌∙◌, arith, add-zero}
 use Rattle.std.specs.Prelude.{slice_get, slice_index}
-use Rattle.std.specs.List.{AllByRecursion}
 use Rattle.std.proofs.lemmas.List.{take_all}
 use Rattle.lapi_base.specs.declared.script.Script.{Script}
 use Rattle.lapi_base.specs.declared.event.Event.{Event}
 use Rattle.lapi_base.specs.declared.head.Head.{Head}
 use Rattle.lapi_base.specs.declared.head.Head.TheVariants as heads
 use Rattle.lapi_base.specs.declared.message.MsgName.{MsgName}
-use Rattle.lapi_base.specs.declared.packet.Packet.{Packet}
 use Rattle.lapi_base.specs.declared.packet.Packet.TheVariants.{Data}
 use Rattle.lapi_base.specs.declared.packet.DataPacket.{DataPacket}
 use Rattle.lapi_base.specs.Arrived.{whole_by, is_whole, assembled, count_of}
 use Rattle.lapi_base.specs.Counters.{count}
 use Rattle.lapi_base.specs.Handlers.{has_completion}
 use Rattle.lapi_base.specs.Landing.{announces, lands, one_span}
-use Rattle.lapi_base.specs.Operations.{upto, statements, fragment_count, message_length}
+use Rattle.lapi_base.specs.Operations.{statements, fragment_count}
 use Rattle.lapi_base.specs.Record.{Run, is_delivered, deliver, perform}
 use Rattle.lapi_base.specs.declared.schedule.Act.TheVariants.{Deliver}
-use Rattle.lapi_base.specs.Receiving.{HeadFits, NamesCounter}
+use Rattle.lapi_base.specs.Receiving.{HeadFits}
 use Rattle.lapi_base.specs.Refusals.{option_any}
 use Rattle.lapi_base.specs.Seen.{no_rules, performed, IsRecord}
 use Rattle.lapi_base.specs.Values.{values, memory_bytes, byte_after, scattered}
@@ -29,13 +27,12 @@ use Rattle.lapi_parts.proofs.Deliveries.{deliveries-write, deliveries-announce}
 use Rattle.lapi_parts.proofs.WholeMessages.{assembled-bytes}
 use Rattle.lapi_window.proofs.Sets.{below-same}
 use Rattle.lapi_task.specs.declared.task.Task.{Task}
-use Rattle.lapi_task.specs.Counting.{announced}
-use Rattle.lapi_task.specs.Landed.{memory_after, counters_after, events_of, HasArrived}
+use Rattle.lapi_task.specs.Landed.{memory_after, counters_after, HasArrived}
 use Rattle.lapi_task.specs.StandsFor.{HoldsFor, is_uncopied}
 use Rattle.lapi_task.proofs.ReceiveCounts.{announced-length, announced-at}
 use Rattle.lapi_task.proofs.ReceiveEvents.{come, came_bytes, is_all, DidSame, uncopied-same}
 use Rattle.lapi_task.proofs.ReceiveKinds.{IsKind, Comes}
-use Rattle.lapi_task.proofs.StepMemories.{over-same, written-over, memory-length}
+use Rattle.lapi_task.proofs.StepMemories.{over-same, written-over}
 
 module _ (script : Script) (t : ℕ) where
   -- The memory, by the law of deliveries;

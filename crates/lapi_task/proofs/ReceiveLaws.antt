@@ -1,9 +1,11 @@
 -- What the delivery of a data packet makes of its task.
-use Rattle.std.proofs.Common.{◌≡◌, ◌⊎◌, ℕ, ◌+◌, ◌<◌, ◌≤◌, ◌^◌, ◌==◌, Bool, true, false, cond, not, ◌&&◌, ◌||◌, List, [], ◌∷◌, ◌++◌, map, length, slice_set, Option, Some, None, refl, sym, ap, ◌∙◌, subst, ⊎_elim, arith}
+use Rattle.std.proofs.Common.{◌≡◌, ◌⊎◌, ℕ, ◌<◌, ◌^◌, ◌==◌, Bool, true, false, cond, ◌&&◌, ◌||◌, List, [], ◌∷◌, ◌++◌, map, length, slice_set, Option, Some, None, refl, sym, ap, ◌∙◌, subst, ⊎_elim, arith}
 use Rattle.std.specs.Prelude.{slice_get, slice_index}
-use Rattle.std.specs.List.{AllByRecursion, list_any}
+use Rattle.std.specs.List.{list_any}
 use Rattle.std.proofs.lemmas.Bool.{cond-true, cond-false, cond_both, cases_eq, and_from, and_left, and_right, ne_eqb}
-use Rattle.std.proofs.lemmas.List.{append-nil, length-set, map-append}
+use Rattle.std.specs.Vec.{with_items}
+use Rattle.std.specs.declared.vec.Vec.{Vec}
+use Rattle.std.proofs.lemmas.List.{append-nil, length-set, map-append, with_items_is}
 use Rattle.std.proofs.lemmas.List.Folds.{list_any-append}
 use Rattle.lapi_base.specs.declared.script.Script.{Script}
 use Rattle.lapi_base.specs.declared.event.Event.{Event}
@@ -16,22 +18,21 @@ use Rattle.lapi_base.specs.declared.packet.Packet.{Packet}
 use Rattle.lapi_base.specs.declared.packet.Packet.TheVariants.{Data}
 use Rattle.lapi_base.specs.declared.packet.DataPacket.{DataPacket}
 use Rattle.lapi_base.specs.declared.reply.Reply.TheVariants.{Did}
-use Rattle.lapi_base.specs.declared.wire.WireEntry.{WireEntry}
-use Rattle.lapi_base.specs.Arrived.{ack_of, comes}
+use Rattle.lapi_base.specs.Arrived.{ack_of}
 use Rattle.lapi_base.specs.Atomic.{Atomic}
 use Rattle.lapi_base.specs.Entries.{carried}
 use Rattle.lapi_base.specs.Names.{message}
-use Rattle.lapi_base.specs.Operations.{statement, sender, receiver, fragment_count}
-use Rattle.lapi_base.specs.Record.{Run, out, followed, is_number, covers, has_number, has_ack, is_sent, is_acked, is_delivered, arrival, ack, with_handed, hand_over, deliver_entry, deliver}
+use Rattle.lapi_base.specs.Operations.{statement, sender, receiver}
+use Rattle.lapi_base.specs.Record.{Run, followed, is_number, has_number, has_ack, is_delivered, arrival, hand_over, deliver_entry, deliver}
 use Rattle.lapi_base.specs.Receiving.{HeadFits, NamesCounter}
-use Rattle.lapi_base.specs.Seen.{no_rules, IsRecord}
+use Rattle.lapi_base.specs.Seen.{no_rules}
 use Rattle.lapi_base.specs.Spelling.{HasSpelling}
 use Rattle.lapi_base.specs.Written as written
 use Rattle.lapi_laws.proofs.Deeds.{eqb-refl, done-head}
 use Rattle.lapi_laws.proofs.Lines.{deliver-sound}
 use Rattle.lapi_link.specs.declared.arrival.Arrival.{Arrival}
 use Rattle.lapi_link.specs.Receiver.{ReceivingEnd, ReceivesFor, Fits, arrival_of}
-use Rattle.lapi_link.specs.Sender.{SendingEnd, entries_to}
+use Rattle.lapi_link.specs.Sender.{entries_to}
 use Rattle.lapi_parts.proofs.ArrivingPackets.{arrivals-told, next-acks-told}
 use Rattle.lapi_parts.proofs.Records.{record-sound}
 use Rattle.lapi_parts.proofs.SpelledPackets.{message-spelled}
@@ -43,14 +44,14 @@ use Rattle.lapi_task.specs.Does.{IsAt, Does, bytes_to}
 use Rattle.lapi_task.specs.Landed.{note_packet, ends_after, events_of, ArrivalSuits, HeadSuits, HasArrived, MayTake, HasCome}
 use Rattle.lapi_task.specs.Performed.{IsPerformed}
 use Rattle.lapi_task.specs.Puts.{statement_of}
-use Rattle.lapi_task.specs.StandsFor.{SenderAt, ReceiverAt, HoldsFor, StandsFor}
+use Rattle.lapi_task.specs.StandsFor.{SenderAt, ReceiverAt, HoldsFor}
 use Rattle.lapi_task.proofs.ArrivingFits.{arriving-fits}
 use Rattle.lapi_task.proofs.Lists.{get-set, get-set-other}
 use Rattle.lapi_task.proofs.ReceiveEvents.{come, come-is, come-events, came_bytes, is_all, come-mild, mild-all}
 use Rattle.lapi_task.proofs.ReceiveHolds.{came-length, holds-arrived}
 use Rattle.lapi_task.proofs.ReceiveKinds.{IsKind, IsPut, IsNote, Comes, comes as what-comes, is-kind}
 use Rattle.lapi_task.proofs.ReceiveLinks.{told, Settled, notice-data, notice-carries, notice-count, notice-ends, ends-come, ends-length}
-use Rattle.lapi_task.proofs.SenderLaws.{bytes-here, bytes-there, entries-known}
+use Rattle.lapi_task.proofs.SenderLaws.{bytes-here, bytes-there}
 use Rattle.lapi_task.proofs.StepMemories.{memory-length}
 
 -- What has changed only in its receiving ends.
@@ -63,6 +64,19 @@ pub record KeepsRest (before after : Task) : Type 0 where
   pub memory : after.memory ≡ before.memory
   pub counters : after.counters ≡ before.counters
   pub senders : after.senders.items ≡ before.senders.items
+
+-- what the end of the link from task a did with the packet, and what came of it
+abbrev pub Takes : (a : ℕ) → DataPacket → (before after : List ReceivingEnd) → Type 0
+Takes a p before after = (end : ReceivingEnd) → slice_get before a ≡ Some end → HasCome before after a p end
+
+abbrev pub Tells : (a : ℕ) → DataPacket → Arrival → List ReceivingEnd → Type 0
+Tells a p arrival ends = (end : ReceivingEnd) (script : Script) (ps : List Packet) → slice_get ends a ≡ Some end → ReceivesFor script end ps → Fits script ps p → arrival ≡ arrival_of script ps p
+
+pub takes-over : {Z : Type 0} (v : Vec ReceivingEnd Z) (a : ℕ) (p : DataPacket) (before after : List ReceivingEnd) → before ≡ v.items → Takes a p before after → Takes a p v.items (with_items v after).items
+takes-over v a p before after e h = λ end here.
+    let x = h end (ap (λ ends. slice_get ends a) e ∙ here) in
+    let count = ap length x.ends ∙ length-set before a x.end ∙ ap length e ∙ sym v.ok.0 in
+    subst (λ ends. HasCome v.items ends a p end) (sym (with_items_is v after count)) (subst (λ ends. HasCome ends after a p end) e x)
 
 or-none : (x : Bool) → (x || (false || false)) ≡ x
 or-none true = refl
@@ -97,7 +111,6 @@ module _ (script : Script) where
     handed = λ x y. cond (x == a && y == t) (Data p ∷ r.handed x y) (r.handed x y);
     journal = r.journal;
   }
-
 
   silent : (ps : List Packet) (a t n : ℕ) → is_number n (ack_of script ps a t) ≡ false
   unfolding ack_of
@@ -220,7 +233,7 @@ module _ (script : Script) where
     atomic : Atomic script no_rules then
     atomic = subst (λ (x : Run). Atomic script no_rules x.journal) delivered (deliver-sound script no_rules r a t k (record-sound script no_rules r at.recorded)).atomic
 
-    pub arrival-is : (arrival : Arrival) → ((end : ReceivingEnd) (s : Script) (ps : List Packet) → slice_get task.receivers.items a ≡ Some end → ReceivesFor s end ps → Fits s ps p → arrival ≡ arrival_of s ps p) → arrival ≡ arrives
+    pub arrival-is : (arrival : Arrival) → Tells a p arrival task.receivers.items → arrival ≡ arrives
     arrival-is arrival h = h end-there.0 script (r.handed a t) end-there.1 end-there.2 (arriving-fits script performed r a t k p at.recorded entry) ∙ come-is script (r.handed a t) p
 
     pub suits-arrival : (mid : Task) (arrival : Arrival) → KeepsRest task mid → arrival ≡ arrives → ArrivalSuits mid.number a arrival mid.memory mid.counters
@@ -237,15 +250,12 @@ module _ (script : Script) where
     pub link-there : (mid : Task) → KeepsRest task mid → a < length mid.senders.items
     link-there mid g = let n = ap length g.senders ∙ at.stands.sender_count in let l = known_task in omega (arith, n, l)
 
-    abbrev Took : Task → Type 0
-    Took mid = (end : ReceivingEnd) → slice_get task.receivers.items a ≡ Some end → HasCome task.receivers.items mid.receivers.items a p end
-
-    receives : (mid after : Task) → Took mid → after.receivers.items ≡ mid.receivers.items → (end : ReceivingEnd) × (after.receivers.items ≡ slice_set task.receivers.items a end) × ReceivesFor script end (Data p ∷ r.handed a t)
+    receives : (mid after : Task) → Takes a p task.receivers.items mid.receivers.items → after.receivers.items ≡ mid.receivers.items → (end : ReceivingEnd) × (after.receivers.items ≡ slice_set task.receivers.items a end) × ReceivesFor script end (Data p ∷ r.handed a t)
     receives mid after took same =
         let x = took end-there.0 end-there.1 in
         (x.end, same ∙ x.ends, x.stands script (r.handed a t) end-there.2 (arriving-fits script performed r a t k p at.recorded entry))
 
-    pub has-taken : (mid after : Task) (arrival : Arrival) (old new : List Event) → KeepsRest task mid → Took mid → HasArrived a arrival mid after old new → HasTaken script t after a (Data p ∷ r.handed a t)
+    pub has-taken : (mid after : Task) (arrival : Arrival) (old new : List Event) → KeepsRest task mid → Takes a p task.receivers.items mid.receivers.items → HasArrived a arrival mid after old new → HasTaken script t after a (Data p ∷ r.handed a t)
     has-taken mid after arrival old new g took h =
         let x = receives mid after took h.receivers in
         record {
@@ -256,7 +266,7 @@ module _ (script : Script) where
           receiver = subst (ReceiverAt script (Data p ∷ r.handed a t)) (sym (ap (λ xs. slice_get xs a) x.1 ∙ get-set task.receivers.items a end-there.0 x.0 end-there.1)) x.2;
         }
 
-    pub arrived-does : (mid after : Task) (arrival : Arrival) (old new : Outcome) → KeepsRest task mid → arrival ≡ arrives → Took mid → HasArrived a arrival mid after old.events new.events → new.entries ≡ old.entries ++ answer script (Data p ∷ r.handed a t) a t ∷ [] → Does script t r (deliver script no_rules r a t k) after old new
+    pub arrived-does : (mid after : Task) (arrival : Arrival) (old new : Outcome) → KeepsRest task mid → arrival ≡ arrives → Takes a p task.receivers.items mid.receivers.items → HasArrived a arrival mid after old.events new.events → new.entries ≡ old.entries ++ answer script (Data p ∷ r.handed a t) a t ∷ [] → Does script t r (deliver script no_rules r a t k) after old new
     arrived-does mid after arrival old new g e took h added =
         let ps = Data p ∷ r.handed a t in
         let q = ack_of script ps a t in

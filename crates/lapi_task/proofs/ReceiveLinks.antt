@@ -1,16 +1,14 @@
 -- The ends of a task's links after a packet came.
-use Rattle.std.proofs.Common.{◌≡◌, ◌⊎◌, ℕ, suc, ◌+◌, ◌-◌, ◌*◌, ◌<◌, ◌≤◌, ◌==◌, Bool, true, false, cond, not, ◌&&◌, List, [], ◌∷◌, ◌++◌, map, length, take, drop, slice_set, Option, Some, None, refl, sym, ap, ◌∙◌, subst, ⊎_elim, inl, inr, arith}
+use Rattle.std.proofs.Common.{◌≡◌, ◌⊎◌, ℕ, ◌+◌, ◌<◌, ◌≤◌, ◌==◌, Bool, true, false, ◌&&◌, List, [], ◌∷◌, ◌++◌, length, slice_set, Option, Some, None, refl, sym, ap, ◌∙◌, subst, ⊎_elim, arith}
 use Rattle.std.specs.Prelude.{slice_get, option_map, unwrap_or}
-use Rattle.std.proofs.lemmas.Bool.{cond-false, cond-true, cases_lt, cases_eq, and_left, and_right, ne_eqb}
+use Rattle.std.proofs.lemmas.Bool.{cond-false, cond-true, cases_lt, cases_eq, and_right, ne_eqb}
 use Rattle.std.proofs.lemmas.List.{length-append, length-set}
 use Rattle.lapi_base.specs.declared.script.Script.{Script}
-use Rattle.lapi_base.specs.declared.statement.Statement.{Statement}
 use Rattle.lapi_base.specs.declared.event.Event.{Event}
 use Rattle.lapi_base.specs.declared.event.Event.TheVariants.{Copy, Land}
 use Rattle.lapi_base.specs.declared.head.Head.{Head}
 use Rattle.lapi_base.specs.declared.head.Head.TheVariants as heads
 use Rattle.lapi_base.specs.declared.head.NoteOp.{NoteOp}
-use Rattle.lapi_base.specs.declared.message.Leg.{Leg}
 use Rattle.lapi_base.specs.declared.message.Leg.TheVariants.{Go, Note}
 use Rattle.lapi_base.specs.declared.message.MsgName.{MsgName}
 use Rattle.lapi_base.specs.declared.packet.Packet.TheVariants.{Data}
@@ -20,18 +18,18 @@ use Rattle.lapi_base.specs.Entries.{carried}
 use Rattle.lapi_base.specs.Fragments.{fragment_bytes}
 use Rattle.lapi_base.specs.Layout.{unit_of}
 use Rattle.lapi_base.specs.Names.{message, name_eq}
-use Rattle.lapi_base.specs.Operations.{upto, statement, target, from_by, to_by, sender, receiver, message_length, fragment_count, fragments, cmpl_counter}
+use Rattle.lapi_base.specs.Operations.{upto, statement, target, from_by, to_by, sender, receiver, message_length, fragment_count, fragments}
 use Rattle.lapi_base.specs.Packets.{data_packet, head_by}
 use Rattle.lapi_base.specs.Record.{Run, out, followed, is_sent, is_acked}
 use Rattle.lapi_base.specs.Seen.{no_rules}
-use Rattle.lapi_base.specs.Values.{values, source_by}
+use Rattle.lapi_base.specs.Values.{values}
 use Rattle.lapi_base.specs.Written as written
 use Rattle.lapi_laws.proofs.Backward.{Atomic-tail}
 use Rattle.lapi_laws.proofs.Deeds.{name_eq-refl}
 use Rattle.lapi_link.specs.Sender.{SendingEnd, appended}
 use Rattle.lapi_window.specs.SendWindow.{sent_count, bytes_of}
 use Rattle.lapi_task.specs.declared.put.Put.{Put}
-use Rattle.lapi_task.specs.Landed.{note_packet, noted_at, with_note, ends_after, events_of}
+use Rattle.lapi_task.specs.Landed.{note_packet, noted_at, ends_after, events_of}
 use Rattle.lapi_task.specs.Puts.{statement_of}
 use Rattle.lapi_task.specs.Sends.{packet_at, spelled, SendsFor}
 use Rattle.lapi_task.specs.StandsFor.{SenderAt}

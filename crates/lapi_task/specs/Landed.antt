@@ -1,5 +1,5 @@
 -- What the arrival of a packet makes of a task.
-use Rattle.std.specs.Prelude.{◌≡◌, ℕ, ◌+◌, ◌<◌, ◌^◌, List, [], ◌∷◌, ◌++◌, length, slice_get, slice_set, Option, Some, None}
+use Rattle.std.specs.Prelude.{◌≡◌, ℕ, ◌<◌, ◌^◌, List, [], ◌∷◌, ◌++◌, length, slice_get, slice_set, Option, Some, None}
 use Rattle.lapi_base.specs.declared.event.Event.{Event}
 use Rattle.lapi_base.specs.declared.event.Event.TheVariants.{Land}
 use Rattle.lapi_base.specs.declared.head.Head.{Head}
@@ -16,7 +16,6 @@ use Rattle.lapi_base.specs.Names.{message}
 use Rattle.lapi_base.specs.Spelling.{HasSpelling}
 use Rattle.lapi_base.specs.Written as written
 use Rattle.lapi_memory.specs.TaskMemory as memories
-use Rattle.lapi_reassembly.specs.declared.message.Message.{Message}
 use Rattle.lapi_link.specs.declared.arrival.Arrival.{Arrival}
 use Rattle.lapi_link.specs.declared.arrival.Arrival.TheVariants.{Whole}
 use Rattle.lapi_link.specs.Receiver.{ReceivingEnd, ReceivesFor, Fits}

@@ -1,15 +1,14 @@
 //! What a task does with what comes to it.
 ghost use Rattle.std.specs.Prelude.{◌≡◌, ℕ, ◌<◌, ◌^◌, ◌∷◌, [], ◌++◌, List, Ok, Err, IfOk, OnOk, length, slice_get, Some};
-ghost use Rattle.lapi_base.specs.Arrived.{noted};
-ghost use Rattle.lapi_base.specs.Spelling.{HasSpelling};
-ghost use Rattle.lapi_link.specs.declared.arrival.Arrival.TheVariants as arrivals;
-ghost use Rattle.lapi_base.specs.declared.script.Script.{Script as TheScript};
+ghost use Rattle.lapi_base.specs.declared.script.Script.{Script};
 ghost use Rattle.lapi_base.specs.declared.packet.Packet.{Packet as ThePacket};
 ghost use Rattle.lapi_base.specs.declared.packet.Packet.TheVariants.{Data};
 ghost use Rattle.lapi_base.specs.declared.reply.Bad.{Bad};
+ghost use Rattle.lapi_base.specs.Arrived.{noted};
 ghost use Rattle.lapi_base.specs.Record.{Run, deliver};
 ghost use Rattle.lapi_base.specs.Seen.{no_rules};
-ghost use Rattle.lapi_base.specs.Spelling.{Spells, decoded};
+ghost use Rattle.lapi_base.specs.Spelling.{Spells, HasSpelling, decoded};
+ghost use Rattle.lapi_link.specs.declared.arrival.Arrival.TheVariants as arrivals;
 ghost use Rattle.lapi_link.specs.Receiver.{ReceivingEnd, ReceivesFor, Fits, arrival_of};
 ghost use Rattle.lapi_task.specs.Performed.{IsPerformed};
 ghost use Rattle.lapi_task.specs.Does.{IsAt, Does, IsOnWire};
@@ -37,7 +36,7 @@ impl Task {
     ) -> Result<Received, Memory>
         requires { (p : ThePacket) → Spells p bytes.now → IsOnWire self.old from p }
         ensures refused { (bad : Bad) → decoded bytes.now ≡ Err bad → (result ≡ Ok (Received.Refused bad)) × (self.new ≡ self.old) × (out.new ≡ out.old) }
-        ensures does { OnOk result ((script : TheScript) (t k : ℕ) (r : Run) (p : ThePacket) → IsPerformed script → IsAt script t self.old r → from < script.tasks → Spells p bytes.now → slice_get (r.wire from t) k ≡ Some p → Does script t r (deliver script no_rules r from t k) self.new out.old out.new) }
+        ensures does { OnOk result ((script : Script) (t k : ℕ) (r : Run) (p : ThePacket) → IsPerformed script → IsAt script t self.old r → from < script.tasks → Spells p bytes.now → slice_get (r.wire from t) k ≡ Some p → Does script t r (deliver script no_rules r from t k) self.new out.old out.new) }
     {
         match decode(bytes) {
             Err(bad) => Ok(Received::Refused(bad)),
@@ -61,15 +60,15 @@ impl Task {
         out: &mut Outcome,
     ) -> Result<(), Memory>
         requires { IsOnWire self.old from (Data packet.now) }
-        ensures { OnOk result ((script : TheScript) (t k : ℕ) (r : Run) → IsPerformed script → IsAt script t self.old r → from < script.tasks → slice_get (r.wire from t) k ≡ Some (Data packet.now) → Does script t r (deliver script no_rules r from t k) self.new out.old out.new) }
+        ensures { OnOk result ((script : Script) (t k : ℕ) (r : Run) → IsPerformed script → IsAt script t self.old r → from < script.tasks → slice_get (r.wire from t) k ≡ Some (Data packet.now) → Does script t r (deliver script no_rules r from t k) self.new out.old out.new) }
     {
         let arrival = take(&mut self.receivers, alloc, from, packet)?;
-        self.effect(alloc, from, &arrival, &mut out.events)?;
+        self.take_effect(alloc, from, &arrival, &mut out.events)?;
         self.acknowledge(alloc, from, &mut out.entries)
     }
 
     /// What came from task `from` takes effect.
-    fn effect(
+    fn take_effect(
         &mut self,
         alloc: Global,
         from: u32,
@@ -142,7 +141,7 @@ fn take(
 ) -> Result<Arrival, Memory>
     requires { MayTake receivers.old from packet.now }
     ensures taken { OnOk result ((end : ReceivingEnd) → slice_get receivers.old from ≡ Some end → HasCome receivers.old receivers.new from packet.now end) }
-    ensures arrival { IfOk result (λ arrival. (end : ReceivingEnd) (script : TheScript) (packets : List ThePacket) → slice_get receivers.old from ≡ Some end → ReceivesFor script end packets → Fits script packets packet.now → arrival ≡ arrival_of script packets packet.now) }
+    ensures arrival { IfOk result (λ arrival. (end : ReceivingEnd) (script : Script) (packets : List ThePacket) → slice_get receivers.old from ≡ Some end → ReceivesFor script end packets → Fits script packets packet.now → arrival ≡ arrival_of script packets packet.now) }
 {
     receivers[from as usize].arrive(alloc, packet)
 }
