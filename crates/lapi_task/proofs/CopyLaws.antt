@@ -1,12 +1,11 @@
 -- The copy of a put: what its task, its link and its record have then.
-use Rattle.std.proofs.Common.{◌≡◌, ◌≢◌, ℕ, zero, suc, ◌+◌, ◌-◌, ◌^◌, ◌<◌, ◌≤◌, ◌==◌, Bool, true, false, cond, not, ◌&&◌, List, [], ◌∷◌, ◌++◌, map, length, take, drop, set, Option, Some, None, refl, sym, ap, ◌∙◌, subst, ⊎_elim, arith, lit≤}
+use Rattle.std.proofs.Common.{◌≡◌, ◌≢◌, ℕ, zero, suc, ◌+◌, ◌-◌, ◌^◌, ◌<◌, ◌≤◌, ◌==◌, Bool, true, cond, not, ◌&&◌, List, [], ◌∷◌, ◌++◌, map, length, take, drop, set, Option, Some, None, refl, sym, ap, ◌∙◌, subst, ⊎_elim, arith, lit≤}
 use Rattle.std.specs.Prelude.{slice_get, option_map, slice_index, option_to_list, option_and_then}
 use Rattle.std.specs.List.{AllByRecursion}
-use Rattle.std.proofs.lemmas.Bool.{cond-true, cond-false, and_parts, and_left, and_right, and_from, cases_lt, cases_eq, eqb-true, eq-eqb, ne_eqb, not-true, ltb-false, false_from_ne_true, ltb-true}
+use Rattle.std.proofs.lemmas.Bool.{cond-true, cond-false, and_parts, and_right, cases_lt, cases_eq, ne_eqb}
 use Rattle.std.proofs.lemmas.List.{append-nil, length-append, length-map}
 use Rattle.std.proofs.Math.ListN.{length-set}
 use Rattle.std.proofs.lemmas.Option.{slice_get-map}
-use Rattle.lapi_base.specs.declared.address.Addr.TheVariants.{Plain}
 use Rattle.lapi_base.specs.declared.script.Script.{Script}
 use Rattle.lapi_base.specs.declared.statement.Statement.{Statement}
 use Rattle.lapi_base.specs.declared.event.Event.{Event}
@@ -50,11 +49,11 @@ use Rattle.lapi_task.specs.Sends.{packet_at, SendsFor}
 use Rattle.lapi_task.specs.StandsFor.{is_uncopied, SenderAt, ReceiverAt, HoldsFor, StandsFor}
 use Rattle.lapi_task.proofs.CopyLists.{below-less, other-message}
 use Rattle.lapi_task.proofs.Forms.{data-put, statement-is}
-use Rattle.lapi_task.proofs.Lists.{get-some, get-set, get-set-other, get-before, get-after, get-past}
+use Rattle.lapi_task.proofs.Lists.{get-some, get-set, get-set-other, get-before, get-after}
 use Rattle.lapi_task.proofs.Packets.{packet-stays, packet-same, packet-new, out-own, fragments-length}
 use Rattle.lapi_task.proofs.PutPackets.{length-upto}
 use Rattle.lapi_task.proofs.ReceiveCounts.{announced-length, announced-at}
-use Rattle.lapi_task.proofs.StepMemories.{length-over, read-over, memory-none, memory-length}
+use Rattle.lapi_task.proofs.StepMemories.{read-over, memory-none, memory-length}
 
 -- ---- the link
 

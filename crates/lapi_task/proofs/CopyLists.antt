@@ -1,7 +1,7 @@
 -- What a poll copies, as the list of the statements whose data wait for it.
-use Rattle.std.proofs.Common.{◌≡◌, ◌⊎◌, ℕ, zero, suc, ◌+◌, ◌<◌, ◌≤◌, ◌==◌, Bool, true, false, cond, not, ◌&&◌, List, [], ◌∷◌, ◌++◌, map, length, refl, sym, ap, ◌∙◌, subst, ⊎_elim, inl, inr, arith, append_assoc, ◌≢◌}
+use Rattle.std.proofs.Common.{◌≡◌, ◌⊎◌, ℕ, zero, suc, ◌<◌, ◌≤◌, ◌==◌, Bool, true, false, cond, not, ◌&&◌, List, [], ◌∷◌, ◌++◌, map, length, refl, sym, ap, ◌∙◌, subst, ⊎_elim, inl, inr, arith, append_assoc, ◌≢◌}
 use Rattle.std.specs.List.{flat_map, AllByRecursion}
-use Rattle.std.proofs.lemmas.Bool.{cond-true, cond-false, and_parts, and_from, and_left, and_right, and_cases, not-true, not-false, false≢true, ne_eqb, eqb-true, both_ways}
+use Rattle.std.proofs.lemmas.Bool.{cond-true, cond-false, and_parts, and_from, and_left, and_right, and_cases, not-true, not-false, ne_eqb, both_ways}
 use Rattle.std.proofs.lemmas.List.{append-nil, map-append}
 use Rattle.lapi_base.specs.declared.script.Script.{Script}
 use Rattle.lapi_base.specs.declared.event.Event.{Event}
@@ -9,11 +9,10 @@ use Rattle.lapi_base.specs.declared.event.Event.TheVariants.{Copy}
 use Rattle.lapi_base.specs.declared.message.Leg.TheVariants.{Go}
 use Rattle.lapi_base.specs.declared.message.MsgName.{MsgName}
 use Rattle.lapi_base.specs.Below.{below}
-use Rattle.lapi_base.specs.Names.{Deed, Issued, Copied, Entered, done, message, name_eq}
+use Rattle.lapi_base.specs.Names.{Issued, Copied, Entered, done, message, name_eq}
 use Rattle.lapi_base.specs.Operations.{upto, statement, statements, is_data}
 use Rattle.lapi_base.specs.Record.{copy_each, ready, to_copy_of, joins, followed}
-use Rattle.lapi_laws.proofs.Deeds.{done-other, done-head, name_eq-true}
-use Rattle.lapi_laws.proofs.Follows.{done-followed}
+use Rattle.lapi_laws.proofs.Deeds.{done-other}
 use Rattle.lapi_laws.proofs.NumberLaws.{all-append}
 use Rattle.lapi_task.specs.Performed.{IsPerformed}
 use Rattle.lapi_task.specs.StandsFor.{is_uncopied}

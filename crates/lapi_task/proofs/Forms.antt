@@ -1,5 +1,5 @@
 -- The forms that are performed: what their statements look like.
-use Rattle.std.proofs.Common.{◌≡◌, ◌⊎◌, ℕ, ◌<◌, ◌≤◌, ◌==◌, Bool, true, false, ◌&&◌, ◌||◌, IsTrue, List, [], length, Option, Some, None, refl, sym, ap, ◌∙◌, subst, ⊎_elim, inl, inr, arith}
+use Rattle.std.proofs.Common.{◌≡◌, ◌⊎◌, ℕ, ◌<◌, ◌≤◌, true, false, IsTrue, [], length, Some, refl, sym, ap, ◌∙◌, subst, ⊎_elim, inl, inr}
 use Rattle.std.specs.Prelude.{slice_get}
 use Rattle.std.proofs.lemmas.Bool.{false≢true, cases_lt}
 use Rattle.std.proofs.lemmas.List.{get_or_past}
@@ -15,7 +15,7 @@ use Rattle.lapi_base.specs.Operations as operations
 use Rattle.lapi_laws.proofs.Out.{all-get}
 use Rattle.lapi_task.specs.declared.put.Put.{Put}
 use Rattle.lapi_task.specs.Performed.{IsPerformed}
-use Rattle.lapi_task.specs.Puts.{put_of, statement_of}
+use Rattle.lapi_task.specs.Puts.{statement_of}
 use Rattle.lapi_task.proofs.Lists.{get-some, all-or}
 
 plain-is : (a : Addr) → is_plain a ≡ true → (x : ℕ) × (a ≡ Plain x)

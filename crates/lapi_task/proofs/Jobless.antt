@@ -1,6 +1,6 @@
 -- Without handlers no message has a completion, so no job waits or runs.
-use Rattle.std.proofs.Common.{◌≡◌, ℕ, zero, suc, ◌==◌, Bool, true, false, cond, not, ◌&&◌, List, [], ◌∷◌, ◌++◌, length, filter, Option, Some, None, refl, sym, ap, ◌∙◌}
-use Rattle.std.specs.Prelude.{is_some, nat_lt}
+use Rattle.std.proofs.Common.{◌≡◌, ℕ, zero, suc, ◌==◌, Bool, false, cond, not, ◌&&◌, List, [], ◌∷◌, length, filter, Option, Some, None, refl, ap, ◌∙◌}
+use Rattle.std.specs.Prelude.{is_some}
 use Rattle.std.proofs.lemmas.Bool.{cond-false, and_right, le-ltb}
 use Rattle.std.proofs.Common.{arith}
 use Rattle.lapi_base.specs.declared.script.Script.{Script}

@@ -1,5 +1,5 @@
 -- The copies of a poll, one after another.
-use Rattle.std.proofs.Common.{◌≡◌, ℕ, zero, suc, ◌+◌, ◌<◌, ◌≤◌, List, [], ◌∷◌, ◌++◌, map, length, refl, sym, ap, ◌∙◌, subst, arith, append_assoc, add-one}
+use Rattle.std.proofs.Common.{◌≡◌, ℕ, ◌+◌, ◌<◌, List, [], ◌∷◌, ◌++◌, length, refl, sym, ap, ◌∙◌, subst, arith, append_assoc}
 use Rattle.std.proofs.lemmas.List.{append-nil, length-append, map-append}
 use Rattle.lapi_base.specs.declared.script.Script.{Script}
 use Rattle.lapi_base.specs.declared.event.Event.{Event}
@@ -18,7 +18,7 @@ use Rattle.lapi_task.specs.declared.task.Task.{Task}
 use Rattle.lapi_task.specs.Copies.{CopiesNext, AllCopied}
 use Rattle.lapi_task.specs.Does.{IsAt}
 use Rattle.lapi_task.specs.Performed.{IsPerformed}
-use Rattle.lapi_task.specs.StandsFor.{is_uncopied, HoldsFor, StandsFor}
+use Rattle.lapi_task.specs.StandsFor.{is_uncopied, StandsFor}
 use Rattle.lapi_task.proofs.CopyLists.{copies, copies-push, followed-append, followed-none, followed-push, copies-all}
 
 -- the statements of a list were copied, and others wait

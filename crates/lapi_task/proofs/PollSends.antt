@@ -1,8 +1,8 @@
 -- What a poll sends on the links of its task.
-use Rattle.std.proofs.Common.{◌≡◌, ◌≢◌, ℕ, zero, suc, ◌+◌, ◌-◌, ◌<◌, ◌≤◌, ◌==◌, Bool, true, false, cond, not, ◌&&◌, ◌||◌, min, List, [], ◌∷◌, ◌++◌, map, length, take, drop, set, Option, Some, None, refl, sym, ap, ◌∙◌, subst, ⊎_elim, arith, append_assoc, add-one}
+use Rattle.std.proofs.Common.{◌≡◌, ◌≢◌, ℕ, zero, suc, ◌+◌, ◌-◌, ◌<◌, ◌≤◌, ◌==◌, Bool, true, false, cond, ◌||◌, List, [], ◌∷◌, ◌++◌, map, length, take, drop, set, Option, Some, None, refl, sym, ap, ◌∙◌, subst, ⊎_elim, arith, append_assoc, add-one}
 use Rattle.std.specs.Prelude.{slice_get, option_map, nat_lt}
 use Rattle.std.specs.List.{flat_map, list_any}
-use Rattle.std.proofs.lemmas.Bool.{cond-true, cond-false, cases_lt, cases_eq, lt-ltb, le-ltb, eq-eqb, ne_eqb, or_left, or_right, or_from}
+use Rattle.std.proofs.lemmas.Bool.{cond-true, cond-false, cases_lt, cases_eq, lt-ltb, le-ltb, eq-eqb, ne_eqb, or_right}
 use Rattle.std.proofs.lemmas.List.{append-nil, length-append, length-take-le, length-drop, map-append}
 use Rattle.std.proofs.lemmas.List.Folds.{list_any-append}
 use Rattle.std.proofs.Math.ListN.{length-set}
@@ -10,7 +10,6 @@ use Rattle.lapi_base.specs.declared.script.Script.{Script}
 use Rattle.lapi_base.specs.declared.event.Event.{Event}
 use Rattle.lapi_base.specs.declared.message.MsgName.{MsgName}
 use Rattle.lapi_base.specs.declared.packet.Packet.{Packet}
-use Rattle.lapi_base.specs.declared.packet.Packet.TheVariants.{Data, Ack}
 use Rattle.lapi_base.specs.Below.{below, least_missing}
 use Rattle.lapi_base.specs.Layout.{window_of}
 use Rattle.lapi_base.specs.Operations.{upto}
@@ -20,21 +19,20 @@ use Rattle.lapi_base.specs.Record as record_of
 use Rattle.lapi_base.specs.ByPart.{copied, polled}
 use Rattle.lapi_base.specs.Seen.{no_rules, IsRecord}
 use Rattle.lapi_base.specs.Written as written
-use Rattle.lapi_base.specs.declared.wire.WireEntry.{WireEntry}
 use Rattle.lapi_laws.proofs.Deeds.{eqb-refl}
-use Rattle.lapi_link.specs.Sender.{SendingEnd, sendable, sent, entries_to}
+use Rattle.lapi_link.specs.Sender.{SendingEnd, sendable}
 use Rattle.lapi_parts.proofs.SentFront.{polls-next}
 use Rattle.lapi_window.specs.SendWindow.{sent_count, base_of, bytes_of}
 use Rattle.lapi_window.specs.SendWindow as window
 use Rattle.lapi_task.specs.declared.outcome.Outcome.{Outcome}
 use Rattle.lapi_task.specs.declared.task.Task.{Task}
 use Rattle.lapi_task.specs.Copies.{AllCopied, AllSent, sent_now, packets_now}
-use Rattle.lapi_task.specs.Does.{IsAt, Does}
+use Rattle.lapi_task.specs.Does.{Does}
 use Rattle.lapi_task.specs.Sends.{packet_at, spelled, SendsFor, of_end, entries_of}
 use Rattle.lapi_task.specs.StandsFor.{SenderAt, ReceiverAt, HoldsFor, StandsFor}
 use Rattle.lapi_task.proofs.Lists.{get-some, get-set, get-set-other, get-before, get-after}
 use Rattle.lapi_task.proofs.PutPackets.{upto-more}
-use Rattle.lapi_task.proofs.SenderLaws.{bytes-of-end, entries-within, entries-none, entries-more}
+use Rattle.lapi_task.proofs.SenderLaws.{bytes-of-end, entries-within}
 use Rattle.lapi_task.proofs.StillLaws.{room}
 
 -- Lists by their places.

@@ -1,7 +1,7 @@
 -- The bytes of a memory after an event.
 use Rattle.std.proofs.Common.{◌≡◌, ℕ, zero, suc, ◌+◌, ◌-◌, ◌<◌, ◌≤◌, ◌==◌, Bool, true, false, cond, List, [], ◌∷◌, ◌++◌, map, length, get_or, take, drop, replicate, refl, sym, ap, ◌∙◌, ⊎_elim, arith}
 use Rattle.std.proofs.lemmas.Bool.{cond-true, cases_lt}
-use Rattle.std.proofs.lemmas.List.{same_lists, length-append, length-map, get_or_append_left, get_or-append_right, get_or_default, get_or-take, get_or-drop, length-take-le, length-drop, map-append, length-replicate, get_or-replicate, places}
+use Rattle.std.proofs.lemmas.List.{same_lists, length-map, get_or_append_left, get_or-append_right, get_or_default, get_or-take, get_or-drop, length-take-le, length-drop, map-append, length-replicate, get_or-replicate, places}
 use Rattle.lapi_base.specs.declared.script.Script.{Script}
 use Rattle.lapi_base.specs.declared.event.Event.{Event}
 use Rattle.lapi_base.specs.Below.{below}

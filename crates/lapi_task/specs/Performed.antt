@@ -1,5 +1,5 @@
 -- The forms that are performed.
-use Rattle.std.specs.Prelude.{◌≡◌, ℕ, ◌+◌, ◌<◌, nat_le, nat_lt, not, Bool, cond, ◌||◌, List, length, Option, Some, None}
+use Rattle.std.specs.Prelude.{◌+◌, nat_le, nat_lt, not, Bool, cond, length, Option, Some, None}
 use Rattle.std.specs.List.{AllByRecursion, list_any}
 use Rattle.lapi_base.specs.declared.address.Addr.TheVariants.{Plain}
 use Rattle.lapi_base.specs.declared.statement.Statement.{Statement}

@@ -1,5 +1,5 @@
 -- Puts to plain addresses, and their packets.
-use Rattle.std.specs.Prelude.{◌≡◌, ℕ, ◌+◌, List, ◌++◌, length, map, Option, Some, None}
+use Rattle.std.specs.Prelude.{ℕ, ◌+◌, List, ◌++◌, length, map, Option, Some, None}
 use Rattle.lapi_base.specs.declared.address.Addr.TheVariants.{Plain}
 use Rattle.lapi_base.specs.declared.head.Head.{Head}
 use Rattle.lapi_base.specs.declared.message.Leg.TheVariants.{Go}

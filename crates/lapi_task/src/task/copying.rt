@@ -20,7 +20,12 @@ use std::alloc::Global;
 
 impl Task {
     /// Copies the data of the first statement whose data wait.
-    pub(super) fn copy_next(&mut self, alloc: Global, script: &Script, events: &mut Events) -> Result<(), Memory>
+    pub(super) fn copy_next(
+        &mut self,
+        alloc: Global,
+        script: &Script,
+        events: &mut Events,
+    ) -> Result<(), Memory>
         requires script { IsPerformed script.now }
         requires next { (t : ℕ) × (r : Run) × (i : ℕ) × (rest : List ℕ) × CopiesNext script.now t self.old r i rest }
         ensures stands { OnOk result ((t : ℕ) (r : Run) (i : ℕ) (rest : List ℕ) → CopiesNext script.now t self.old r i rest → StandsFor script.now t self.new (record r { journal = IsCopy (message t i Go) ∷ r.journal })) }
@@ -50,7 +55,14 @@ impl Task {
             len: put.len,
         };
         let sender = &mut self.senders[put.target as usize];
-        append_put(alloc, sender, put, self.number, i, self.memory.read(&source))?;
+        append_put(
+            alloc,
+            sender,
+            put,
+            self.number,
+            i,
+            self.memory.read(&source),
+        )?;
         announce(&mut self.counters, put.org)
     }
 }

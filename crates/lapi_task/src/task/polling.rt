@@ -26,7 +26,12 @@ impl Task {
     }
 
     /// Copies the data of all statements whose data wait.
-    fn copy_all(&mut self, alloc: Global, script: &Script, events: &mut Events) -> Result<(), Memory>
+    fn copy_all(
+        &mut self,
+        alloc: Global,
+        script: &Script,
+        events: &mut Events,
+    ) -> Result<(), Memory>
         requires script { IsPerformed script.now }
         requires record { IsAtSome script.now self.old }
         ensures { OnOk result ((t : ℕ) (r : Run) → IsAt script.now t self.old r → AllCopied script.now t r self.new events.old events.new) }

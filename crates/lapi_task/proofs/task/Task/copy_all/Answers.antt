@@ -1,4 +1,4 @@
-use Rattle.std.proofs.Common.{◌≡◌, ℕ, ◌<◌, ◌∙◌, arith, length, deque_len}
+use Rattle.std.proofs.Common.{arith}
 use Rattle.lapi_task.proofs.PollCopies.{none-copied, one-left, copies-next, one-copied, all-copied}
 use Rattle.lapi_task.proofs.task.Task.copy_all.Goals as goal
 

@@ -1,6 +1,6 @@
-use Rattle.std.proofs.Common.{◌≡◌, ◌<◌, ◌≤◌, ◌++◌, List, length, refl, sym, ap, ◌∙◌, subst, arith, append_assoc, append-nil, add-one}
+use Rattle.std.proofs.Common.{◌≡◌, ◌++◌, List, sym, ap, ◌∙◌, subst, arith, append_assoc, append-nil, add-one}
 use Rattle.lapi_base.specs.declared.wire.WireEntry.{WireEntry}
-use Rattle.lapi_link.specs.Sender.{SendingEnd, sent, sendable, entries_to}
+use Rattle.lapi_link.specs.Sender.{entries_to}
 use Rattle.lapi_task.specs.Copies.{AllSent, sent_now, packets_now}
 use Rattle.lapi_task.specs.Sends.{entries_of}
 use Rattle.lapi_task.proofs.Lists.{get-some, at-place}
