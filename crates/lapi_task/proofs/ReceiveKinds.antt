@@ -19,6 +19,7 @@ use Rattle.lapi_base.specs.Packets.{head_by}
 use Rattle.lapi_base.specs.Record.{Run}
 use Rattle.lapi_base.specs.Receiving.{FitsScript}
 use Rattle.lapi_base.specs.Seen.{no_rules, IsRecord}
+use Rattle.lapi_base.specs.Valid.{ValidRules}
 use Rattle.lapi_laws.proofs.Backward.{there}
 use Rattle.lapi_laws.proofs.Out.{all-get, out-copied}
 use Rattle.lapi_laws.proofs.Sound.{Fits as IsOf}
@@ -36,6 +37,9 @@ abbrev pub IsKind : Head → Type 0
 IsKind (heads.Put at tgt cmpl) = Unit {0}
 IsKind (heads.Note op cmpl) = Unit {0}
 IsKind _ = ⊥
+
+pub none-valid : ValidRules no_rules
+none-valid = (omega arith, omega arith)
 
 module _ (script : Script) where
   -- A message of a put, or a notice.
@@ -92,7 +96,7 @@ module _ (script : Script) where
           kind = kind-by p.name p.name.leg p.head refl leg (head-is script no_rules r.journal p own);
           size = length-is script no_rules r.journal p own;
           exact = (own, exact.hands a t);
-          fits = packets-fit script no_rules r is performed.valid (omega arith, omega arith) a t k p at;
+          fits = packets-fit script no_rules r is performed.valid none-valid a t k p at;
         }
 
     pub is-kind : (m : MsgName) (h : Head) → IsPut m h ⊎ IsNote m h → IsKind h

@@ -49,7 +49,7 @@ use Rattle.lapi_task.proofs.ArrivingFits.{arriving-fits}
 use Rattle.lapi_task.proofs.Lists.{get-set, get-set-other}
 use Rattle.lapi_task.proofs.ReceiveEvents.{come, come-is, come-events, came_bytes, is_all, come-mild, mild-all}
 use Rattle.lapi_task.proofs.ReceiveHolds.{came-length, holds-arrived}
-use Rattle.lapi_task.proofs.ReceiveKinds.{IsKind, IsPut, IsNote, Comes, comes as what-comes, is-kind}
+use Rattle.lapi_task.proofs.ReceiveKinds.{IsKind, IsPut, IsNote, Comes, comes as what-comes, is-kind, none-valid}
 use Rattle.lapi_task.proofs.ReceiveLinks.{told, Settled, notice-data, notice-carries, notice-count, notice-ends, ends-come, ends-length}
 use Rattle.lapi_task.proofs.SenderLaws.{bytes-here, bytes-there}
 use Rattle.lapi_task.proofs.StepMemories.{memory-length}
@@ -168,7 +168,7 @@ module _ (script : Script) where
       let K = Copy note ∷ J in
       let own = notice-ends script m a t kind.leg from to in
       let bytes = carried script no_rules K note in
-      let spells = message-spelled script no_rules performed.valid (omega arith, omega arith) K note n 0 atomic (done-head (Copy note) J) few (let e = notice-count script m put is c named in omega (arith, e)) in
+      let spells = message-spelled script no_rules performed.valid none-valid K note n 0 atomic (done-head (Copy note) J) few (let e = notice-count script m put is c named in omega (arith, e)) in
       subst HasSpelling (notice-data script m put is c named n bytes (notice-carries script m put is c named J) ∙ (λ i. Data (note_packet (own.0 i) (own.1 i) n m c))) (_, spells)
 
   counter-there : (o : Option ℕ) (counters : List ℕ) → NamesCounter script o → length counters ≡ script.counters → (c : ℕ) → o ≡ Some c → c < length counters
