@@ -43,15 +43,11 @@ pub(crate) fn is_built_statement(statement: &Statement) -> bool
     ensures { result ≡ is_built_statement statement.now }
 {
     match statement {
-        Statement::Store { .. } => true,
-        Statement::Put {
-            to,
-            len,
-            tgt,
-            org,
-            cmpl,
-            ..
-        } => { is_plain(*to) && *len <= 256 && tgt.is_none() && org.is_none() && cmpl.is_none() }
+        Statement::Store { .. }
+        | Statement::Wait { .. }
+        | Statement::Set { .. }
+        | Statement::Read { .. } => true,
+        Statement::Put { to, .. } => is_plain(*to),
         _ => false,
     }
 }
@@ -71,7 +67,7 @@ pub(crate) fn is_built_act(act: &Act) -> bool
     ensures { result ≡ is_built_act act.now }
 {
     match act {
-        Act::Step(_) | Act::Poll(_) | Act::Deliver { .. } => true,
+        Act::Step(_) | Act::Poll(_) | Act::Tick(_) | Act::Deliver { .. } => true,
         _ => false,
     }
 }

@@ -28,9 +28,6 @@ use lapi_base::{Input, Line, Schedule, Script, Statement, Statements, Which};
 use std::alloc::Global;
 use std::mem;
 
-/// The most statements of a task that are performed so far.
-const MOST_BUILT_STATEMENTS: usize = 32;
-
 /// The most statements of a task.
 const MOST_STATEMENTS: usize = 512;
 
@@ -69,11 +66,10 @@ fn on_statement(
 ) -> Result<State, LineFault>
     ensures { Gives state_of result (on_statement script current statement) }
 {
-    let count = current.as_slice().len();
-    if !is_built_statement(&statement) || count >= MOST_BUILT_STATEMENTS {
+    if !is_built_statement(&statement) {
         return Err(limit(Which::Unbuilt));
     }
-    if count >= MOST_STATEMENTS {
+    if current.as_slice().len() >= MOST_STATEMENTS {
         return Err(limit(Which::Statements));
     }
     if !keeps_pieces(&statement) {

@@ -143,6 +143,33 @@ fn other_spellings_are_written_canonically(rt: HostRuntime) -> Result<(), Fail> 
 }
 
 #[test]
+fn each_built_form_is_read_and_written(rt: HostRuntime) -> Result<(), Fail> {
+    let alloc = rt.alloc();
+    for (number, line) in [
+        (5, "store 4294967295 00ff"),
+        (5, "put 4294967295 0 1 4294967295 - - -"),
+        (5, "put 1 4294967295 0 1024 0 1 2"),
+        (5, "put 1 16 0 257 - 4294967295 -"),
+        (5, "waitcntr 0 4294967295"),
+        (5, "setcntr 4294967295 0"),
+        (5, "getcntr 3"),
+        (8, "15 step 1"),
+        (8, "0 poll 1"),
+        (8, "3 tick 1"),
+        (8, "0 deliver 1 0 4294967295"),
+    ] {
+        let text = changed(alloc, number, line)?;
+        let again = rewritten(alloc, text.as_str())?;
+        assert_eq!(rt;
+            again.as_slice(),
+            text.as_str().as_bytes(),
+            "at {number}: {line}"
+        );
+    }
+    Ok(())
+}
+
+#[test]
 fn a_line_of_no_form_is_faulty_there(rt: HostRuntime) -> Result<(), Fail> {
     let alloc = rt.alloc();
     for (line, text) in [
@@ -285,6 +312,28 @@ fn a_number_past_its_limit_is_told_at_its_line(rt: HostRuntime) -> Result<(), Fa
 }
 
 #[test]
+fn the_513th_statement_passes_its_limit(rt: HostRuntime) -> Result<(), Fail> {
+    let alloc = rt.alloc();
+    let stores = repeated(alloc, "store 0 61\n", 510)?;
+    let most = format!(in alloc; "{stores}store 0 61")?;
+    assert_eq!(rt;
+        fault_of(alloc, changed(alloc, 4, most.as_str())?.as_str()),
+        None
+    );
+    for (last, which) in [
+        ("store 0 61", Which::Statements),
+        ("put 1 16 0 8 - - -", Which::Statements),
+        ("gfence", Which::Unbuilt),
+    ] {
+        let many = format!(in alloc; "{stores}store 0 61\nstore 0 61\n{last}")?;
+        let input = changed(alloc, 4, many.as_str())?;
+        let fault = fault_at(Some(which), 516);
+        assert_eq!(rt; fault_of(alloc, input.as_str()), fault, "at {last}");
+    }
+    Ok(())
+}
+
+#[test]
 fn the_20001st_schedule_line_passes_its_limit(rt: HostRuntime) -> Result<(), Fail> {
     let alloc = rt.alloc();
     let head = "lapi 1\ntasks 2 memory 64 counters 4 workers 1\ntask 0\ntask 1\nschedule\n";
@@ -322,41 +371,31 @@ fn a_form_that_is_not_built_yet_is_refused_at_its_line(rt: HostRuntime) -> Resul
     let crowded = format!(in alloc; "putv 1 L:0:1{pieces} S:0:1:1:17 - - -")?;
     let digits = repeated(alloc, "00", 641)?;
     let injected = format!(in alloc; "0 inject 0 1 {digits}")?;
-    let fences = repeated(alloc, "store 0 61\n", 32)?;
-    let thirty_three = format!(in alloc; "{fences}store 0 61")?;
-    for (line, text, at) in [
-        (5, "fence", 5),
-        (5, "gfence", 5),
-        (5, "address_init 0", 5),
-        (5, "waitcntr 0 1", 5),
-        (5, "setcntr 0 1", 5),
-        (5, "getcntr 0", 5),
-        (5, "get 1 @0+4294967295 0 8 - 0", 5),
-        (5, "rmw 1 add 0 1 0 -", 5),
-        (5, "rmw 1 or @0 1 0 0", 5),
-        (5, "rmw 1 swap 0 1 0 -", 5),
-        (5, "rmw 1 cas 0 1 2 0 -", 5),
-        (5, "amsend 1 0 - 0 4 - - -", 5),
-        (5, "amsend 1 16 00000400 0 4 0 1 2", 5),
-        (5, "putv 1 L:0:1,@0+4:2 S:0:8:8:2 - - -", 5),
-        (5, "getv 1 S:@0:8:8:2 L:0:16 - -", 5),
-        (5, crowded.as_str(), 5),
-        (5, "put 1 16 0 257 - - -", 5),
-        (5, "put 1 @0 0 8 - - -", 5),
-        (5, "put 1 16 0 8 0 - -", 5),
-        (5, "put 1 16 0 8 - 0 -", 5),
-        (5, "put 1 16 0 8 - - 0", 5),
-        (4, thirty_three.as_str(), 36),
-        (8, "0 tick 0", 8),
-        (8, "16 cut 0 1 0 33", 8),
-        (8, "0 inject 0 1 -", 8),
-        (8, "0 inject 0 1 4d", 8),
-        (8, "0 begin 1 0", 8),
-        (8, "0 end 1 0", 8),
-        (8, injected.as_str(), 8),
+    for (line, text) in [
+        (5, "fence"),
+        (5, "gfence"),
+        (5, "address_init 0"),
+        (5, "get 1 @0+4294967295 0 8 - 0"),
+        (5, "rmw 1 add 0 1 0 -"),
+        (5, "rmw 1 or @0 1 0 0"),
+        (5, "rmw 1 swap 0 1 0 -"),
+        (5, "rmw 1 cas 0 1 2 0 -"),
+        (5, "amsend 1 0 - 0 4 - - -"),
+        (5, "amsend 1 16 00000400 0 4 0 1 2"),
+        (5, "putv 1 L:0:1,@0+4:2 S:0:8:8:2 - - -"),
+        (5, "getv 1 S:@0:8:8:2 L:0:16 - -"),
+        (5, crowded.as_str()),
+        (5, "put 1 @0 0 8 - - -"),
+        (5, "put 1 @0+4 0 257 0 1 2"),
+        (8, "16 cut 0 1 0 33"),
+        (8, "0 inject 0 1 -"),
+        (8, "0 inject 0 1 4d"),
+        (8, "0 begin 1 0"),
+        (8, "0 end 1 0"),
+        (8, injected.as_str()),
     ] {
         let input = changed(alloc, line, text)?;
-        let fault = fault_at(Some(Which::Unbuilt), at);
+        let fault = fault_at(Some(Which::Unbuilt), line);
         assert_eq!(rt; fault_of(alloc, input.as_str()), fault, "at {line}: {text}");
     }
     Ok(())

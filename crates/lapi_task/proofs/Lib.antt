@@ -1,4 +1,8 @@
+pub mod AnswerLaws
+pub mod AnswerSpelled
 pub mod Apart
+pub mod ArrivingAcks
+pub mod ArrivingFits
 pub mod CopyLaws
 pub mod CopyLists
 pub mod Forms
@@ -6,9 +10,16 @@ pub mod Jobless
 pub mod Lists
 pub mod NewStands
 pub mod Packets
+pub mod PollCopies
+pub mod PollSends
 pub mod PutPackets
 pub mod ReasonForms
 pub mod ReceiveCounts
+pub mod ReceiveEvents
+pub mod ReceiveHolds
+pub mod ReceiveKinds
+pub mod ReceiveLaws
+pub mod ReceiveLinks
 pub mod SenderLaws
 pub mod StepFields
 pub mod StepLaws

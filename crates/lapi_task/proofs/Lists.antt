@@ -55,3 +55,7 @@ pub get-before : {X : Type 0} (xs ys : List X) (k : ℕ) → k < length xs → s
 get-before [] ys k l = absurd (omega arith)
 get-before (x ∷ xs) ys zero l = refl
 get-before (x ∷ xs) ys (suc k) l = get-before xs ys k (let q : k < length xs = omega arith in q)
+
+pub on-oks : {A B : Type 0} (P Q R : Type 0) (result : Result A B) → (P → Q → R) → OnOk result P → OnOk result Q → OnOk result R
+on-oks P Q R (Ok x) f h g = f h g
+on-oks P Q R (Err e) f h g = h

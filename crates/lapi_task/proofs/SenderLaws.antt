@@ -10,6 +10,7 @@ use Rattle.lapi_laws.proofs.Deeds.{eqb-refl}
 use Rattle.lapi_laws.proofs.NumberLaws.{all-append}
 use Rattle.lapi_link.specs.Sender.{SendingEnd, entries_to}
 use Rattle.lapi_task.specs.Does.{bytes_to}
+use Rattle.lapi_task.specs.Sends.{of_end, entries_of}
 
 pub bytes-append : (b : ℕ) (xs ys : List WireEntry) → bytes_to b (xs ++ ys) ≡ bytes_to b xs ++ bytes_to b ys
 bytes-append b xs ys =
@@ -36,16 +37,6 @@ bytes-there c b (x ∷ xs) h =
 pub entries-known : (n c : ℕ) (xs : List (List ℕ)) → c < n → AllByRecursion (λ (e : WireEntry). e.to < n) (entries_to c xs)
 entries-known n c [] h = tt
 entries-known n c (x ∷ xs) h = (h, entries-known n c xs h)
-
--- what f gives of an end, where it is there
-abbrev pub of_end : (SendingEnd → List (List ℕ)) → Option SendingEnd → List (List ℕ)
-of_end f None = []
-of_end f (Some s) = f s
-
--- what f gives of the first n ends, each as entries of its wire
-unfoldable pub entries_of : (SendingEnd → List (List ℕ)) → List SendingEnd → (n : ℕ) → List WireEntry
-entries_of f ends zero = []
-entries_of f ends (suc b) = entries_of f ends b ++ entries_to b (of_end f (slice_get ends b))
 
 module _ (f : SendingEnd → List (List ℕ)) (ends : List SendingEnd) where
   pub entries-none : entries_of f ends 0 ≡ []

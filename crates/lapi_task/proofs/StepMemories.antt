@@ -36,7 +36,7 @@ over-at f (suc n) k d l =
 pub is-over : {X : Type 0} (xs : List X) (f : ℕ → X) (n : ℕ) → length xs ≡ n → ((k : ℕ) (d : X) → k < n → get_or xs k d ≡ f k) → xs ≡ map f (upto n)
 is-over xs f n e at = same_lists xs (map f (upto n)) (e ∙ sym (length-over f n)) (λ k d l. let q : k < n = omega (arith, e) in at k d q ∙ sym (over-at f n k d q))
 
-over-same : {X : Type 0} (f g : ℕ → X) (n : ℕ) → ((x : ℕ) → f x ≡ g x) → map f (upto n) ≡ map g (upto n)
+pub over-same : {X : Type 0} (f g : ℕ → X) (n : ℕ) → ((x : ℕ) → f x ≡ g x) → map f (upto n) ≡ map g (upto n)
 over-same f g n h = λ i. map (λ x. h x i) (upto n)
 
 -- the bytes that are read are those of the places
@@ -51,7 +51,7 @@ length-written : (memory : List ℕ) (at : ℕ) (bytes : List ℕ) → at + leng
 length-written memory at bytes l = grind (arith, places)
 
 -- a write of bytes, place by place
-written-over : (f : ℕ → ℕ) (size at : ℕ) (bytes : List ℕ) → at + length bytes ≤ size → written (map f (upto size)) at bytes ≡ map (λ x. byte_after ((at, bytes) ∷ []) x (f x)) (upto size)
+pub written-over : (f : ℕ → ℕ) (size at : ℕ) (bytes : List ℕ) → at + length bytes ≤ size → written (map f (upto size)) at bytes ≡ map (λ x. byte_after ((at, bytes) ∷ []) x (f x)) (upto size)
 written-over f size at bytes l =
     let memory = map f (upto size) in
     let whole = length-over f size in

@@ -98,7 +98,7 @@ unfolding upto below
 blank-upto f zero = refl
 blank-upto f (suc n) = blank-push f (upto n) n ∙ sym (some n)
 
-room : (n m low low' size size' sent waits : ℕ) → n ≡ m → low ≡ low' → size' ≡ size → sent + waits ≡ m → min n (low + size) - sent ≡ min waits (low' + size' - sent)
+pub room : (n m low low' size size' sent waits : ℕ) → n ≡ m → low ≡ low' → size' ≡ size → sent + waits ≡ m → min n (low + size) - sent ≡ min waits (low' + size' - sent)
 room n m low low' size size' sent waits a b c d = omega arith
 
 -- the test that an end of a link makes

@@ -26,9 +26,9 @@ use Rattle.lapi_window.specs.SendWindow as window
 use Rattle.lapi_task.specs.declared.outcome.Outcome.{Outcome}
 use Rattle.lapi_task.specs.declared.task.Task.{Task}
 use Rattle.lapi_task.specs.Does.{Does}
-use Rattle.lapi_task.specs.Sends.{SendsFor, packet_at, spelled}
+use Rattle.lapi_task.specs.Sends.{SendsFor, packet_at, spelled, of_end, entries_of}
 use Rattle.lapi_task.specs.StandsFor.{SenderAt, StandsFor}
-use Rattle.lapi_task.proofs.SenderLaws.{of_end, entries_of, bytes-of-end, entries-within, entries-none, entries-more}
+use Rattle.lapi_task.proofs.SenderLaws.{bytes-of-end, entries-within, entries-none, entries-more}
 
 module _ (script : Script) where
   -- The packets of numbers whose bytes are kept are spelled by these.

@@ -1,5 +1,6 @@
 -- What a copy changes in its task, and what a poll sends.
-use Rattle.std.specs.Prelude.{◌≡◌, ◌≢◌, ℕ, ◌+◌, ◌<◌, ◌≤◌, ◌^◌, List, ◌∷◌, length, map, take, drop, set, slice_get, Option, Some, option_map}
+use Rattle.std.specs.Prelude.{◌≡◌, ◌≢◌, ℕ, ◌+◌, ◌<◌, ◌≤◌, ◌^◌, List, ◌∷◌, ◌++◌, length, map, take, drop, set, slice_get, Option, Some, option_map}
+use Rattle.lapi_base.specs.declared.event.Event.{Event}
 use Rattle.lapi_base.specs.declared.event.Event.TheVariants.{Copy}
 use Rattle.lapi_base.specs.declared.script.Script.{Script}
 use Rattle.lapi_base.specs.declared.message.Leg.TheVariants.{Go}
@@ -7,7 +8,7 @@ use Rattle.lapi_base.specs.declared.packet.Packet.TheVariants.{Data}
 use Rattle.lapi_base.specs.Atomic.{Atomic}
 use Rattle.lapi_base.specs.Fragments.{fragments_in, fragment_bytes}
 use Rattle.lapi_base.specs.Names.{message}
-use Rattle.lapi_base.specs.Record.{Run}
+use Rattle.lapi_base.specs.Record.{Run, followed, copy_each, ready}
 use Rattle.lapi_base.specs.Seen.{no_rules}
 use Rattle.lapi_base.specs.Spelling.{HasSpelling}
 use Rattle.lapi_link.specs.Sender.{SendingEnd, sendable, sent}
@@ -57,3 +58,10 @@ pub record AllSent (count : ℕ) (before after : List SendingEnd) : Type 0 where
   pub done : (b : ℕ) → b < count → slice_get after b ≡ option_map sent_now (slice_get before b)
   pub others : (b : ℕ) → count ≤ b → slice_get after b ≡ slice_get before b
   pub size : length after ≡ length before
+
+-- all that waited was copied: the events are the Copies of a poll, and the task stands for the record with them
+pub record AllCopied (script : Script) (t : ℕ) (r : Run) (task : Task) (old new : List Event) : Type 0 where
+  pub events : List Event
+  pub added : new ≡ old ++ events
+  pub copied : followed r.journal events ≡ copy_each r.journal (ready script r.journal t)
+  pub stands : StandsFor script t task (record r { journal = followed r.journal events })

@@ -1,7 +1,9 @@
+pub mod Answers
 pub mod Apart
-pub mod Counting
 pub mod Copies
+pub mod Counting
 pub mod Does
+pub mod Landed
 pub mod Performed
 pub mod Puts
 pub mod Sends

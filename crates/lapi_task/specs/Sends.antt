@@ -1,8 +1,9 @@
 -- How the sending end of a link stands for its record.
-use Rattle.std.specs.Prelude.{◌≡◌, ℕ, ◌+◌, ◌<◌, nat_lt, false, List, length, slice_get, Option, None, Some, option_map}
+use Rattle.std.specs.Prelude.{◌≡◌, ℕ, zero, suc, ◌+◌, ◌<◌, nat_lt, false, List, [], ◌++◌, length, slice_get, Option, None, Some, option_map}
 use Rattle.lapi_base.specs.declared.script.Script.{Script}
 use Rattle.lapi_base.specs.declared.message.MsgName.{MsgName}
 use Rattle.lapi_base.specs.declared.event.Event.{Event}
+use Rattle.lapi_base.specs.declared.wire.WireEntry.{WireEntry}
 use Rattle.lapi_base.specs.Layout.{window_of}
 use Rattle.lapi_base.specs.Packets.{data_packet}
 use Rattle.lapi_base.specs.Written as written
@@ -11,7 +12,7 @@ use Rattle.lapi_base.specs.Seen.{no_rules}
 use Rattle.lapi_base.specs.Entries.{carried}
 use Rattle.lapi_window.specs.SendWindow.{Sending, sent_count, bytes_of}
 use Rattle.lapi_window.specs.SendWindow as window
-use Rattle.lapi_link.specs.Sender.{SendingEnd}
+use Rattle.lapi_link.specs.Sender.{SendingEnd, entries_to}
 
 -- the bytes of the packet with number n, which is of this message and fragment
 abbrev pub spelled : Script → List Event → (n : ℕ) → MsgName × ℕ → List ℕ
@@ -34,3 +35,13 @@ pub record SendsFor (script : Script) (s : SendingEnd) (r : Run) (a b : ℕ) : T
   pub whole : sent_count s.window + length s.waiting ≡ s.window.numbers
   pub kept : (n : ℕ) → n < sent_count s.window → window.is_acked s.window n ≡ false → bytes_of s.window n ≡ packet_at script r.journal a b n
   pub waiting : (i : ℕ) → slice_get s.waiting i ≡ packet_at script r.journal a b (sent_count s.window + i)
+
+-- what f gives of an end, where it is there
+abbrev pub of_end : (SendingEnd → List (List ℕ)) → Option SendingEnd → List (List ℕ)
+of_end f None = []
+of_end f (Some s) = f s
+
+-- what f gives of the first n ends, each as entries of its wire
+unfoldable pub entries_of : (SendingEnd → List (List ℕ)) → List SendingEnd → (n : ℕ) → List WireEntry
+entries_of f ends zero = []
+entries_of f ends (suc b) = entries_of f ends b ++ entries_to b (of_end f (slice_get ends b))

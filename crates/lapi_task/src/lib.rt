@@ -3,6 +3,7 @@
 
 mod counting;
 mod law;
+mod note;
 mod outcome;
 mod packet;
 mod put;

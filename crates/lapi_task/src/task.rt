@@ -4,10 +4,11 @@ use lapi_link::{Receiver, Sender};
 use lapi_memory::TaskMemory;
 use std::collections::VecDeque;
 
-mod calls;
+mod answering;
 mod copying;
 mod lends;
 mod polling;
+mod receiving;
 mod stepping;
 mod ticking;
 

@@ -16,7 +16,7 @@ use Rattle.lapi_base.specs.declared.input.Input.{Input}
 use Rattle.lapi_base.specs.Layout.{layout_of, most_lines}
 use Rattle.lapi_base.specs.Valid.{ValidStatement, ValidScript, ValidLine}
 use Rattle.lapi_base.specs.Spelling.{spells_packet}
-use Rattle.lapi_base.specs.Built.{most_built_statements, is_built_statement, is_built_act, IsBuiltList}
+use Rattle.lapi_base.specs.Built.{is_built_statement, is_built_act, IsBuiltList}
 use Rattle.lapi_base.specs.Lines.{words_of, is_clean, is_skipped, read_words}
 use Rattle.lapi_base.specs.Forms.{and_then, head_form, sizes_form, Task, Schedule, Does, task_line_form, line_form}
 use Rattle.lapi_base.specs.Rows.{Part, Word, IsRow, head_row, sizes_row, task_row, statement_row, schedule_row, done_row, act_row, line_row, task_rows, rows, IsRead}
@@ -98,15 +98,15 @@ within_ok : {A : Type 0} (b : Bool) (w : Which) (r : Result A Why) (y : A) → b
 within_ok true w r y e h = h
 within_ok false w r y e h = absurd (false≢true e)
 
-statement_ok : (s : Script) (current : List Statement) (st : Statement) → ValidStatement st → is_built_statement st ≡ true → length current < most_built_statements → on_statement s current st ≡ Ok (reading.Tasks s (current ++ st ∷ []))
+statement_ok : (s : Script) (current : List Statement) (st : Statement) → ValidStatement st → is_built_statement st ≡ true → length current < 512 → on_statement s current st ≡ Ok (reading.Tasks s (current ++ st ∷ []))
 statement_ok s current st valid built lt =
     let next = reading.Tasks s (current ++ st ∷ []) in
-    within_ok _ which.Unbuilt _ next (rw (built, lt-ltb (length current) most_built_statements lt) refl)
-    (within_ok _ which.Statements _ next (lt-ltb (length current) 512 (omega (arith, lt)))
+    within_ok _ which.Unbuilt _ next built
+    (within_ok _ which.Statements _ next (lt-ltb (length current) 512 lt)
     (within_ok _ which.Pieces _ next (pieces_kept st valid)
     (within_ok _ which.Bytes _ next (bytes_kept st valid) refl)))
 
-step_does : (s : Script) (current : List Statement) (st : Statement) (words : List (List ℕ)) → IsRow (statement_row st) words → ValidStatement st → is_built_statement st ≡ true → length current < most_built_statements
+step_does : (s : Script) (current : List Statement) (st : Statement) (words : List (List ℕ)) → IsRow (statement_row st) words → ValidStatement st → is_built_statement st ≡ true → length current < 512
     → step (reading.Tasks s current) words ≡ Ok (reading.Tasks s (current ++ st ∷ []))
 unfolding step
 step_does s current st words z valid built lt =
@@ -136,7 +136,7 @@ pub record Onto (state next : State) (wordss : List (List (List ℕ))) (rest : L
   pub same : steps state wordss ≡ steps next left
 
 statements_run : (s : Script) (list current : List Statement) (rest : List (List Part)) (wordss : List (List (List ℕ)))
-    → Spells (map statement_row list ++ rest) wordss → AllByRecursion ValidStatement list → AllByRecursion (λ st. IsTrue (is_built_statement st)) list → length current + length list ≤ most_built_statements
+    → Spells (map statement_row list ++ rest) wordss → AllByRecursion ValidStatement list → AllByRecursion (λ st. IsTrue (is_built_statement st)) list → length current + length list ≤ 512
     → Onto (reading.Tasks s current) (reading.Tasks s (current ++ list)) wordss rest
 statements_run s [] current rest wordss z valid built few = record { left = wordss; spelled = z; same = rw (append-nil current) refl }
 statements_run s (st ∷ list) current rest [] z valid built few = absurd z
@@ -176,7 +176,7 @@ tasks_run s [] lists current k rest wordss z valid built here all = record { bef
 tasks_run s (list ∷ more) lists current k rest [] z valid built here all = absurd z
 tasks_run s (list ∷ more) lists current k rest (words ∷ wordss) z valid built here all =
     let regroup : (map statement_row list ++ task_rows (k + 1) more) ++ rest ≡ map statement_row list ++ (task_rows (k + 1) more ++ rest) = append_assoc (map statement_row list) (task_rows (k + 1) more) rest in
-    begun (statements_run (script_with s (lists ++ current ∷ [])) list [] (task_rows (k + 1) more ++ rest) wordss (subst (λ rs. Spells rs wordss) regroup z.1) valid.0.1 built.0.1 (omega (arith, built.0.0)))
+    begun (statements_run (script_with s (lists ++ current ∷ [])) list [] (task_rows (k + 1) more ++ rest) wordss (subst (λ rs. Spells rs wordss) regroup z.1) valid.0.1 built.0 (omega (arith, valid.0.0)))
     (λ inner. tasks_run s more (lists ++ current ∷ []) list (k + 1) rest inner.left inner.spelled valid.1 built.1 (omega (arith, here, length-append lists (current ∷ []))) (omega (arith, all)))
   where
     Inner : Type 0
@@ -219,7 +219,7 @@ tasks_all : (s : Script) (list : List Statement) (more : List (List Statement)) 
     → steps (reading.Tasks (script_with s []) []) wordss ≡ Ok (reading.Finished (input_with (script_with s (list ∷ more)) schedule))
 tasks_all s list more schedule wordss fits z =
     first (statements_run (script_with s []) list [] (task_rows 1 more ++ end_rows schedule) wordss (subst (λ rs. Spells rs wordss) (append_assoc (map statement_row list) (task_rows 1 more) (end_rows schedule)) z)
-    fits.script.lists.0.1 fits.built.lists.0.1 (omega (arith, fits.built.lists.0.0)))
+    fits.script.lists.0.1 fits.built.lists.0 (omega (arith, fits.script.lists.0.0)))
   where
     Inner : Type 0
     Inner = Onto (reading.Tasks (script_with s []) []) (reading.Tasks (script_with s []) list) wordss (task_rows 1 more ++ end_rows schedule)

@@ -54,7 +54,7 @@ start_completes script fit none =
       lists = rw none tt;
       list = (omega arith, tt);
       built_lists = rw none tt;
-      built_list = (omega arith, tt);
+      built_list = tt;
     } in
     let first : task_rows 0 (script.lists ++ [] ∷ []) ≡ task_row 0 ∷ [] = rw none refl in
     let empty : length script.lists ≡ 0 = ap (λ ls. length ls) none in

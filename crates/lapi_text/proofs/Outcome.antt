@@ -12,7 +12,7 @@ use Rattle.lapi_base.specs.declared.statement.Statement.{Statement}
 use Rattle.lapi_base.specs.declared.schedule.Line.{Line}
 use Rattle.lapi_base.specs.declared.script.Script.{Script}
 use Rattle.lapi_base.specs.declared.input.Input.{Input}
-use Rattle.lapi_base.specs.Built.{most_built_statements, is_built_statement}
+use Rattle.lapi_base.specs.Built.{is_built_statement}
 use Rattle.lapi_base.specs.Lines.{words_of, is_clean, is_skipped, read_words}
 use Rattle.lapi_base.specs.Forms.{and_then, Does, task_line_form, sizes_form, line_form}
 use Rattle.lapi_base.specs.Rows.{Part, IsRow, sizes_row, statement_row, done_row, line_row, task_rows, rows}
@@ -48,8 +48,7 @@ statement_or : (x : Input) (script : Script) (current list : List Statement) (s 
 statement_or x script current list s keeps =
     let next = reading.Tasks script (current ++ s ∷ []) in
     let len : length (current ++ s ∷ list) ≡ length current + suc (length list) = length-append current (s ∷ list) in
-    limit_or _ which.Unbuilt _ x next (λ k. let built = keeps which.Unbuilt k in
-    both _ _ (middle (λ t. IsTrue (is_built_statement t)) current list s built.1) (lt-ltb (length current) most_built_statements (omega (arith, built.0, len))))
+    limit_or _ which.Unbuilt _ x next (λ k. middle (λ t. IsTrue (is_built_statement t)) current list s (keeps which.Unbuilt k))
     (limit_or _ which.Statements _ x next (λ k. lt-ltb (length current) 512 (omega (arith, keeps which.Statements k, len)))
     (limit_or _ which.Pieces _ x next (λ k. middle (λ t. IsTrue (keeps_pieces t)) current list s (keeps which.Pieces k))
     (limit_or _ which.Bytes _ x next (λ k. middle (λ t. IsTrue (keeps_bytes t)) current list s (keeps which.Bytes k)) (inl refl))))

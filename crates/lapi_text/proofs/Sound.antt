@@ -15,7 +15,7 @@ use Rattle.lapi_base.specs.declared.input.Input.{Input}
 use Rattle.lapi_base.specs.Layout.{layout_of, most_lines}
 use Rattle.lapi_base.specs.Valid.{ValidStatement, ValidScript, ValidSchedule, ValidLine}
 use Rattle.lapi_base.specs.Spelling.{spells_packet}
-use Rattle.lapi_base.specs.Built.{most_built_statements, is_built_statement, is_built_act, IsBuiltList, IsBuilt}
+use Rattle.lapi_base.specs.Built.{is_built_statement, is_built_act, IsBuiltList, IsBuilt}
 use Rattle.lapi_base.specs.Lines.{words_of, is_clean, is_skipped, read_words}
 use Rattle.lapi_base.specs.Forms.{run, and_then, head_form, sizes_form, TaskLine, Task, Schedule, Does, task_line_form, line_form}
 use Rattle.lapi_base.specs.Rows.{Part, IsRow, head_row, sizes_row, task_row, statement_row, schedule_row, done_row, line_row, task_rows, script_rows, rows, IsRead}
@@ -127,7 +127,7 @@ next_task_keeps script current keeps lt = record {
   lists = all_push ValidList script.lists current keeps.lists keeps.list;
   list = (omega arith, tt);
   built_lists = all_push IsBuiltList script.lists current keeps.built_lists keeps.built_list;
-  built_list = (omega arith, tt);
+  built_list = tt;
 }
 
 pub schedule_keeps : (script : Script) (current : List Statement) → TasksKeep script current → length script.lists + 1 ≡ script.tasks → Fits (input_with (with_task script current) [])
@@ -178,7 +178,7 @@ first_adds script next words (Task t) keeps z e =
       lists = rw none tt;
       list = (omega arith, tt);
       built_lists = rw none tt;
-      built_list = (omega arith, tt);
+      built_list = tt;
     } in
     subst (λ n. Adds (reading.Start script) n words) (same_Ok _ _ p.1) (record {
       keeps = kept;
@@ -196,7 +196,6 @@ statement_adds script current next words s keeps says e =
     let b = allowed _ which.Statements _ next a.1 in
     let c = allowed (keeps_pieces s) which.Pieces _ next b.1 in
     let d = allowed (keeps_bytes s) which.Bytes _ next c.1 in
-    let built = both_true (is_built_statement s) (nat_lt (length current) most_built_statements) a.0 in
     let len : length (current ++ s ∷ []) ≡ length current + 1 = length-append current (s ∷ []) in
     let valid : ValidStatement s = valid_statement s (row_fit (statement_row s) words says.row) says.operand c.0 d.0 in
     let kept : TasksKeep script (current ++ s ∷ []) = record {
@@ -205,7 +204,7 @@ statement_adds script current next words s keeps says e =
       lists = keeps.lists;
       list = (omega (arith, len, ltb-true _ _ b.0), all_push ValidStatement current s keeps.list.1 valid);
       built_lists = keeps.built_lists;
-      built_list = (omega (arith, len, ltb-true _ _ built.1), all_push (λ t. IsTrue (is_built_statement t)) current s keeps.built_list.1 built.0);
+      built_list = all_push (λ t. IsTrue (is_built_statement t)) current s keeps.built_list a.0;
     } in
     subst (λ n. Adds (reading.Tasks script current) n words) (same_Ok _ _ d.1) (record {
       keeps = kept;

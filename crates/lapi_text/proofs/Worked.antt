@@ -26,7 +26,7 @@ use Rattle.lapi_base.specs.Tokens.{number_of, counter_of, hex_of, optional_hex_o
 use Rattle.lapi_base.specs.Forms.{run, sized, TaskLine, Does, head_form, sizes_form, store_form, put_form, get_form, putv_form, getv_form, one_operand_form, cas_form, rmw_form, amsend_form, wait_form, set_form, read_form, address_init_form, task_line_form, task_form, deliver_form, cut_form, inject_form, worker_form, line_form}
 use Rattle.lapi_base.specs.Built.{is_built_statement, is_built_act}
 use Rattle.lapi_base.specs.Rows.{statement_row, row_line, canon}
-use Rattle.lapi_base.specs.Reading.{State, Second, Start, Lines, Fault, keeps_pieces, keeps_bytes, keeps_injected, names_known, step, after, read}
+use Rattle.lapi_base.specs.Reading.{State, Second, Start, Tasks, Lines, Fault, keeps_pieces, keeps_bytes, keeps_injected, names_known, step, after, read}
 
 -- What the bytes read to. A proof with the line `unfolding reading` computes with all definitions.
 unfoldable pub reading : List ℕ → Result Input Fault
@@ -121,6 +121,18 @@ form_not_built : with_line 5 (codes "fence") ≡ Err (Limit which.Unbuilt, 5)
 unfolding reading
 form_not_built = refl
 
+table_not_built : with_line 5 (codes "put 1 @0 0 8 - - -") ≡ Err (Limit which.Unbuilt, 5)
+unfolding reading
+table_not_built = refl
+
+put_in_fragments : with_line 5 (codes "put 1 16 0 257 0 1 2") ≡ Ok (smallest_with (Put 1 (Plain 16) 0 257 (Some 0) (Some 1) (Some 2)))
+unfolding reading
+put_in_fragments = refl
+
+counters_used : (with_line 5 (codes "waitcntr 0 1") ≡ Ok (smallest_with (Wait 0 1))) × (with_line 5 (codes "setcntr 0 1") ≡ Ok (smallest_with (Set 0 1))) × (with_line 5 (codes "getcntr 0") ≡ Ok (smallest_with (Read 0)))
+unfolding reading
+counters_used = (refl, refl, refl)
+
 syntax_before_limits : with_line 5 (codes "fence 1") ≡ Err (Syntax, 5)
 unfolding reading
 syntax_before_limits = refl
@@ -141,7 +153,7 @@ worker_before_unbuilt : with_line 8 (codes "0 begin 1 9") ≡ Err (Syntax, 8)
 unfolding reading
 worker_before_unbuilt = refl
 
-unbuilt_before_lane : with_line 8 (codes "16 tick 0") ≡ Err (Limit which.Unbuilt, 8)
+unbuilt_before_lane : with_line 8 (codes "16 begin 0 0") ≡ Err (Limit which.Unbuilt, 8)
 unfolding reading
 unbuilt_before_lane = refl
 
@@ -220,6 +232,26 @@ past_workers = (refl, refl)
 greatest_lane : after (Lines (smallest_with (put_to 16)).script []) (codes "15 step 1") ≡ Ok (Lines (smallest_with (put_to 16)).script (line 15 (Step 1) ∷ []))
 unfolding reading
 greatest_lane = refl
+
+-- a task with n statements
+abbrev filled : ℕ → State
+filled n = Tasks (sized 1 2 64 4 1) (replicate n (Read 0))
+
+last_statement : after (filled 511) (codes "getcntr 0") ≡ Ok (filled 512)
+unfolding reading
+last_statement = refl
+
+statement_too_many : after (filled 512) (codes "store 0 61") ≡ Err (Limit which.Statements)
+unfolding reading
+statement_too_many = refl
+
+unbuilt_before_statements : after (filled 512) (codes "gfence") ≡ Err (Limit which.Unbuilt)
+unfolding reading
+unbuilt_before_statements = refl
+
+schedule_ticks : after (Lines (smallest_with (put_to 16)).script []) (codes "0 tick 1") ≡ Ok (Lines (smallest_with (put_to 16)).script (line 0 (Tick 1) ∷ []))
+unfolding reading
+schedule_ticks = refl
 
 abbrev stored : ℕ → Statement
 stored n = Store 0 (replicate n 0)

@@ -2,7 +2,7 @@ use Rattle.std.proofs.Common.{◌≡◌, ◌++◌, length, List, Some, refl, ap,
 use Rattle.std.specs.Prelude.{slice_get}
 use Rattle.std.proofs.lemmas.Option.{slice_get_read}
 use Rattle.lapi_link.specs.Sender.{SendingEnd, kept}
-use Rattle.lapi_task.proofs.SenderLaws.{entries_of}
+use Rattle.lapi_task.specs.Sends.{entries_of}
 use Rattle.lapi_task.proofs.TickLaws.{resent-none, resent-more, tick-does}
 use Rattle.lapi_task.proofs.task.Task.tick.Goals as goal
 

@@ -1,6 +1,6 @@
 use Rattle.std.proofs.Common.{◌≡◌, ◌++◌}
 use Rattle.lapi_link.specs.Sender.{kept}
-use Rattle.lapi_task.proofs.SenderLaws.{entries_of}
+use Rattle.lapi_task.specs.Sends.{entries_of}
 use Rattle.lapi_task.proofs.task.Task.tick.Given as goal
 
 -- the ends that were reached have sent again what they keep

@@ -1,0 +1,138 @@
+-- What landings and notices leave of what a task did.
+use Rattle.std.proofs.Common.{◌≡◌, ℕ, ◌==◌, Bool, true, false, cond, not, ◌&&◌, List, [], ◌∷◌, ◌++◌, Option, Some, None, refl, sym, ap, ◌∙◌}
+use Rattle.std.specs.List.{AllByRecursion}
+use Rattle.std.proofs.lemmas.Bool.{and_right}
+use Rattle.lapi_base.specs.declared.script.Script.{Script}
+use Rattle.lapi_base.specs.declared.event.Event.{Event}
+use Rattle.lapi_base.specs.declared.event.Event.TheVariants.{Copy, Land}
+use Rattle.lapi_base.specs.declared.head.Head.{Head}
+use Rattle.lapi_base.specs.declared.head.Head.TheVariants as heads
+use Rattle.lapi_base.specs.declared.message.Leg.{Leg}
+use Rattle.lapi_base.specs.declared.message.Leg.TheVariants.{Go, Note}
+use Rattle.lapi_base.specs.declared.message.MsgName.{MsgName}
+use Rattle.lapi_base.specs.declared.packet.Packet.{Packet}
+use Rattle.lapi_base.specs.declared.packet.DataPacket.{DataPacket}
+use Rattle.lapi_base.specs.declared.packet.Packet.TheVariants.{Data}
+use Rattle.lapi_base.specs.Arrived.{count_of, has_some, whole_by, assembled, is_active, noted, follows, comes}
+use Rattle.lapi_base.specs.Counters.{reads}
+use Rattle.lapi_base.specs.Handlers.{has_completion}
+use Rattle.lapi_base.specs.Jobs.{runs}
+use Rattle.lapi_base.specs.Names.{message, leg_eq, name_eq, Issued, Copied, done}
+use Rattle.lapi_base.specs.Operations.{is_data, statement}
+use Rattle.lapi_base.specs.Record.{followed, has_number}
+use Rattle.lapi_base.specs.Refusals.{next, refusals}
+use Rattle.lapi_base.specs.Seen.{no_rules}
+use Rattle.lapi_laws.proofs.Deeds.{done-other}
+use Rattle.lapi_link.specs.declared.arrival.Arrival.{Arrival}
+use Rattle.lapi_link.specs.declared.arrival.Arrival.TheVariants.{Repeat, Part, Whole}
+use Rattle.lapi_link.specs.Receiver.{arrival_of}
+use Rattle.lapi_task.specs.Landed.{head_events, events_of}
+use Rattle.lapi_task.specs.StandsFor.{is_uncopied}
+use Rattle.lapi_task.proofs.ReceiveKinds.{IsKind}
+
+-- What comes of a packet: by whether its number was known and its message is whole.
+abbrev pub come : (known whole : Bool) → MsgName → Head → List ℕ → Arrival
+come known whole m h bytes = cond known Repeat (cond whole (Whole (record { name = m; head = h; bytes = bytes; out = None })) Part)
+
+abbrev pub came_bytes : Script → List Packet → DataPacket → List ℕ
+came_bytes script ps p = assembled (count_of script p.length) (Data p ∷ ps) p.name
+
+abbrev pub is_all : Script → List Packet → DataPacket → Bool
+is_all script ps p = whole_by (count_of script p.length) (Data p ∷ ps) p.name
+
+pub come-is : (script : Script) (ps : List Packet) (p : DataPacket) → arrival_of script ps p ≡ come (has_number ps p.seq) (is_all script ps p) p.name p.head (came_bytes script ps p)
+unfolding arrival_of
+come-is script ps p = refl
+
+brings : (h : Head) → IsKind h → (some whole completion : Bool) (m : MsgName) → cond (is_active h && some) (Event.Head m ∷ []) [] ++ cond whole (Land m ∷ follows h completion m) [] ≡ cond whole (head_events m h) []
+unfolding follows
+brings (heads.Put at tgt cmpl) k some whole completion m = refl
+brings (heads.Note op cmpl) k some whole completion m = refl
+brings _ k some whole completion m = absurd k
+
+-- its events
+pub come-events : (script : Script) (ps : List Packet) (p : DataPacket) → IsKind p.head → (known : Bool) → cond known [] (comes script no_rules ps p) ≡ events_of (come known (is_all script ps p) p.name p.head (came_bytes script ps p))
+unfolding comes
+come-events script ps p k true = refl
+come-events script ps p k false = brings p.head k (not (has_some ps p.name)) (is_all script ps p) (has_completion script no_rules p.name.origin p.name.statement) p.name ∙ one (is_all script ps p)
+  where
+    one : (whole : Bool) → cond whole (head_events p.name p.head) [] ≡ events_of (come false whole p.name p.head (came_bytes script ps p))
+    one true = refl
+    one false = refl
+
+-- a landing, or the copy of a notice
+abbrev pub IsMild : Event → Type 0
+IsMild (Land m) = Unit {0}
+IsMild (Copy m) = m.leg ≡ Note
+IsMild _ = ⊥
+
+mild-noted : (m : MsgName) (o : Option ℕ) → AllByRecursion IsMild (noted m o)
+mild-noted m None = tt
+mild-noted m (Some c) = (refl, tt)
+
+mild-head : (m : MsgName) (h : Head) → IsKind h → AllByRecursion IsMild (head_events m h)
+mild-head m (heads.Put at tgt cmpl) k = (tt, mild-noted m cmpl)
+mild-head m (heads.Note op cmpl) k = (tt, tt)
+mild-head m _ k = absurd k
+
+pub come-mild : (known whole : Bool) (m : MsgName) (h : Head) (bytes : List ℕ) → IsKind h → AllByRecursion IsMild (events_of (come known whole m h bytes))
+come-mild true whole m h bytes k = tt
+come-mild false true m h bytes k = mild-head m h k
+come-mild false false m h bytes k = tt
+
+module _ (script : Script) (t : ℕ) where
+  -- what the task did is as it was
+  pub record DidSame (J K : List Event) : Type 0 where
+    pub next : next K t ≡ next J t
+    pub issued : (i : ℕ) → done (Issued t i) K ≡ done (Issued t i) J
+    pub copied : (i : ℕ) → done (Copied (message t i Go)) K ≡ done (Copied (message t i Go)) J
+    pub reads : reads script no_rules K t ≡ reads script no_rules J t
+    pub refusals : refusals K t ≡ refusals J t
+    pub running : (w : ℕ) → runs K t w ≡ runs J t w
+
+  not-go : (l : Leg) → l ≡ Note → leg_eq Go l ≡ false
+  not-go l e = ap (leg_eq Go) e
+
+  not-copied : (i : ℕ) (m : MsgName) → m.leg ≡ Note → name_eq (message t i Go) m ≡ false
+  unfolding name_eq
+  not-copied i m e = and_right (t == m.origin && i == m.statement) (leg_eq Go m.leg) (not-go m.leg e)
+
+  mild-one : (e : Event) (J : List Event) → IsMild e → DidSame J (e ∷ J)
+  unfolding next reads refusals runs
+  mild-one (Land m) J h = record {
+    next = refl;
+    issued = λ i. done-other (Issued t i) (Land m) J refl;
+    copied = λ i. done-other (Copied (message t i Go)) (Land m) J refl;
+    reads = refl;
+    refusals = refl;
+    running = λ w. refl;
+  }
+  mild-one (Copy m) J h = record {
+    next = refl;
+    issued = λ i. done-other (Issued t i) (Copy m) J refl;
+    copied = λ i. done-other (Copied (message t i Go)) (Copy m) J (not-copied i m h);
+    reads = refl;
+    refusals = refl;
+    running = λ w. refl;
+  }
+  mild-one _ J h = absurd h
+
+  pub mild-all : (es J : List Event) → AllByRecursion IsMild es → DidSame J (followed J es)
+  unfolding followed
+  mild-all [] J h = record { next = refl; issued = λ i. refl; copied = λ i. refl; reads = refl; refusals = refl; running = λ w. refl }
+  mild-all (e ∷ es) J h =
+      let one = mild-one e J h.0 in
+      let rest = mild-all es (e ∷ J) h.1 in
+      record {
+        next = rest.next ∙ one.next;
+        issued = λ i. rest.issued i ∙ one.issued i;
+        copied = λ i. rest.copied i ∙ one.copied i;
+        reads = rest.reads ∙ one.reads;
+        refusals = rest.refusals ∙ one.refusals;
+        running = λ w. rest.running w ∙ one.running w;
+      }
+
+  pub uncopied-same : (J K : List Event) → DidSame J K → (k : ℕ) → is_uncopied script J t k ≡ is_uncopied script K t k
+  uncopied-same J K h k =
+      ap (λ b. is_data (statement script t k) && (b && not (done (Copied (message t k Go)) J))) (sym (h.issued k))
+      ∙ ap (λ b. is_data (statement script t k) && (done (Issued t k) K && not b)) (sym (h.copied k))

@@ -1,0 +1,8 @@
+use Rattle.std.proofs.Common.{ℕ}
+use Rattle.lapi_base.specs.Record.{Run}
+use Rattle.lapi_task.specs.Does.{IsAt}
+use Rattle.lapi_task.proofs.PollCopies.{SomeCopied}
+use Rattle.lapi_task.proofs.task.Task.copy_all.Given as goal
+
+abbrev pub invariant-loop-copy : goal.invariant-loop-copy
+invariant-loop-copy l = (t : ℕ) (r : Run) → IsAt l.script t l.fn.self r → SomeCopied l.script t r l.self l.fn.events l.events l._copy

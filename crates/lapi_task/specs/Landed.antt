@@ -1,0 +1,113 @@
+-- What the arrival of a packet makes of a task.
+use Rattle.std.specs.Prelude.{◌≡◌, ℕ, ◌<◌, ◌^◌, List, [], ◌∷◌, ◌++◌, length, slice_get, slice_set, Option, Some, None}
+use Rattle.lapi_base.specs.declared.event.Event.{Event}
+use Rattle.lapi_base.specs.declared.event.Event.TheVariants.{Land}
+use Rattle.lapi_base.specs.declared.head.Head.{Head}
+use Rattle.lapi_base.specs.declared.head.Head.TheVariants as heads
+use Rattle.lapi_base.specs.declared.head.NoteOp.{NoteOp}
+use Rattle.lapi_base.specs.declared.message.Leg.TheVariants.{Note}
+use Rattle.lapi_base.specs.declared.message.MsgName.{MsgName}
+use Rattle.lapi_base.specs.declared.packet.DataPacket.{DataPacket}
+use Rattle.lapi_base.specs.declared.packet.Packet.{Packet}
+use Rattle.lapi_base.specs.declared.packet.Packet.TheVariants.{Data}
+use Rattle.lapi_base.specs.declared.script.Script.{Script}
+use Rattle.lapi_base.specs.Arrived.{noted}
+use Rattle.lapi_base.specs.Names.{message}
+use Rattle.lapi_base.specs.Spelling.{HasSpelling}
+use Rattle.lapi_base.specs.Written as written
+use Rattle.lapi_memory.specs.TaskMemory as memories
+use Rattle.lapi_link.specs.declared.arrival.Arrival.{Arrival}
+use Rattle.lapi_link.specs.declared.arrival.Arrival.TheVariants.{Whole}
+use Rattle.lapi_link.specs.Receiver.{ReceivingEnd, ReceivesFor, Fits}
+use Rattle.lapi_link.specs.Sender.{SendingEnd, appended}
+use Rattle.lapi_task.specs.declared.task.Task.{Task}
+use Rattle.lapi_task.specs.Counting.{announced}
+
+-- the notice from task t to task a that the message is complete, with number n
+abbrev pub note_packet : (t a n : ℕ) → MsgName → (counter : ℕ) → DataPacket
+note_packet t a n m c = record { from = t; to = a; seq = n; name = message m.origin m.statement Note; head = heads.Note NoteOp.Put c; length = 0; fragment = 0; payload = [] }
+
+-- the sending ends of task t with the notice to task a, if a counter is named
+abbrev pub noted_at : (t a : ℕ) → MsgName → (counter : ℕ) → Option SendingEnd → List SendingEnd → List SendingEnd
+noted_at t a m c None ends = ends
+noted_at t a m c (Some s) ends = slice_set ends a (appended s (written.packet (Data (note_packet t a s.window.numbers m c))))
+
+abbrev pub with_note : (t a : ℕ) → MsgName → Option ℕ → List SendingEnd → List SendingEnd
+with_note t a m None ends = ends
+with_note t a m (Some c) ends = noted_at t a m c (slice_get ends a) ends
+
+-- What a message with this head makes of a memory, of counters and of sending ends, and which events it brings;
+abbrev pub head_memory : Head → (bytes : List ℕ) → (memory : List ℕ) → List ℕ
+head_memory (heads.Put at tgt cmpl) bytes memory = memories.written memory at bytes
+head_memory _ bytes memory = memory
+
+abbrev pub head_counters : Head → (counters : List ℕ) → List ℕ
+head_counters (heads.Put at tgt cmpl) counters = announced counters tgt
+head_counters (heads.Note op cmpl) counters = announced counters (Some cmpl)
+head_counters _ counters = counters
+
+abbrev pub head_ends : (t a : ℕ) → MsgName → Head → (ends : List SendingEnd) → List SendingEnd
+head_ends t a m (heads.Put at tgt cmpl) ends = with_note t a m cmpl ends
+head_ends t a m _ ends = ends
+
+abbrev pub head_events : MsgName → Head → List Event
+head_events m (heads.Put at tgt cmpl) = Land m ∷ noted m cmpl
+head_events m _ = Land m ∷ []
+
+-- where its places and its counters are there, and its notice has a spelling.
+abbrev pub HeadSuits : (t a : ℕ) → MsgName → Head → (bytes memory counters : List ℕ) → Type 0
+HeadSuits t a m (heads.Put at tgt cmpl) bytes memory counters =
+    memories.IsWithin memory at (length bytes)
+    × ((c : ℕ) → tgt ≡ Some c → c < length counters)
+    × ((c n : ℕ) → cmpl ≡ Some c → n < 2 ^ 32 → HasSpelling (Data (note_packet t a n m c)))
+HeadSuits t a m (heads.Note op cmpl) bytes memory counters = cmpl < length counters
+HeadSuits t a m _ bytes memory counters = Unit {0}
+
+-- The same of what comes of a packet.
+abbrev pub memory_after : Arrival → (memory : List ℕ) → List ℕ
+memory_after (Whole m) memory = head_memory m.head m.bytes memory
+memory_after _ memory = memory
+
+abbrev pub counters_after : Arrival → (counters : List ℕ) → List ℕ
+counters_after (Whole m) counters = head_counters m.head counters
+counters_after _ counters = counters
+
+abbrev pub ends_after : (t a : ℕ) → Arrival → (ends : List SendingEnd) → List SendingEnd
+ends_after t a (Whole m) ends = head_ends t a m.name m.head ends
+ends_after t a _ ends = ends
+
+abbrev pub events_of : Arrival → List Event
+events_of (Whole m) = head_events m.name m.head
+events_of _ = []
+
+abbrev pub ArrivalSuits : (t a : ℕ) → Arrival → (memory counters : List ℕ) → Type 0
+ArrivalSuits t a (Whole m) memory counters = HeadSuits t a m.name m.head m.bytes memory counters
+ArrivalSuits t a _ memory counters = Unit {0}
+
+-- What came from task a took effect at the task.
+pub record HasArrived (a : ℕ) (arrival : Arrival) (before after : Task) (old new : List Event) : Type 0 where
+  pub number : after.number ≡ before.number
+  pub next : after.next ≡ before.next
+  pub reads : after.reads.items ≡ before.reads.items
+  pub refusals : after.refusals.items ≡ before.refusals.items
+  pub uncopied : after.uncopied.items ≡ before.uncopied.items
+  pub receivers : after.receivers.items ≡ before.receivers.items
+  pub memory : after.memory ≡ memory_after arrival before.memory
+  pub counters : after.counters ≡ counters_after arrival before.counters
+  pub senders : after.senders.items ≡ ends_after before.number a arrival before.senders.items
+  pub events : new ≡ old ++ events_of arrival
+
+-- the packet may come to the end of the link from task a
+pub record MayTake (ends : List ReceivingEnd) (a : ℕ) (p : DataPacket) : Type 0 where
+  pub end : ReceivingEnd
+  pub there : slice_get ends a ≡ Some end
+  pub script : Script
+  pub packets : List Packet
+  pub stands : ReceivesFor script end packets
+  pub fits : Fits script packets p
+
+-- the end of the link from task a took the packet, and is now this one
+pub record HasCome (before after : List ReceivingEnd) (a : ℕ) (p : DataPacket) (old : ReceivingEnd) : Type 0 where
+  pub end : ReceivingEnd
+  pub ends : after ≡ slice_set before a end
+  pub stands : (script : Script) (packets : List Packet) → ReceivesFor script old packets → Fits script packets p → ReceivesFor script end (Data p ∷ packets)

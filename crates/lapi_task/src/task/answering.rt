@@ -1,0 +1,47 @@
+//! How a task answers what it took, and what it notes of the answers of others.
+ghost use Rattle.std.specs.Prelude.{◌≡◌, ℕ, ◌<◌, [], ◌∷◌, ◌++◌, List, OnOk, slice_get, Some};
+ghost use Rattle.lapi_base.specs.declared.script.Script.{Script};
+ghost use Rattle.lapi_base.specs.declared.packet.Packet.{Packet as ThePacket};
+ghost use Rattle.lapi_base.specs.declared.packet.Packet.TheVariants.{Ack};
+ghost use Rattle.lapi_base.specs.Record.{Run, deliver};
+ghost use Rattle.lapi_base.specs.Seen.{no_rules};
+ghost use Rattle.lapi_task.specs.declared.outcome.Outcome.{Outcome};
+ghost use Rattle.lapi_task.specs.Answers.{HasTaken, answer};
+ghost use Rattle.lapi_task.specs.Does.{IsAt, Does, IsOnWire};
+ghost use Rattle.lapi_task.specs.Performed.{IsPerformed};
+
+use crate::packet::spelled;
+use crate::task::Task;
+use lapi_base::{Entries, Memory, Packet, WireEntry};
+use std::alloc::Global;
+
+impl Task {
+    /// Tells task `from` what was taken of what it sent.
+    pub(super) fn acknowledge(
+        &self,
+        alloc: Global,
+        from: u32,
+        entries: &mut Entries,
+    ) -> Result<(), Memory>
+        requires { (script : Script) × (t : ℕ) × (ps : List ThePacket) × HasTaken script t self.now from ps }
+        ensures { OnOk result ((script : Script) (t : ℕ) (ps : List ThePacket) → HasTaken script t self.now from ps → entries.new ≡ entries.old ++ answer script ps from t ∷ []) }
+    {
+        let (base, bits) = self.receivers[from as usize].ack();
+        let packet = Packet::Ack {
+            from: self.number,
+            to: from,
+            base,
+            bits,
+        };
+        let bytes = spelled(alloc, &packet)?;
+        entries.push(WireEntry { to: from, bytes })
+    }
+
+    /// Notes an acknowledgement that came from task `from`.
+    pub(super) fn acknowledged(&mut self, from: u32, base: u32, bits: u32)
+        requires { (x : ℕ) × (y : ℕ) × IsOnWire self.old from (Ack x y base bits) }
+        ensures { (script : Script) (t k x y : ℕ) (r : Run) (out : Outcome) → IsPerformed script → IsAt script t self.old r → from < script.tasks → slice_get (r.wire from t) k ≡ Some (Ack x y base bits) → Does script t r (deliver script no_rules r from t k) self.new out out }
+    {
+        self.senders[from as usize].acked(base, bits);
+    }
+}

@@ -1,0 +1,147 @@
+//! What a task does with what comes to it.
+ghost use Rattle.std.specs.Prelude.{◌≡◌, ℕ, ◌<◌, ◌^◌, ◌∷◌, [], ◌++◌, List, Ok, Err, IfOk, OnOk, length, slice_get, Some};
+ghost use Rattle.lapi_base.specs.declared.script.Script.{Script};
+ghost use Rattle.lapi_base.specs.declared.packet.Packet.{Packet as ThePacket};
+ghost use Rattle.lapi_base.specs.declared.packet.Packet.TheVariants.{Data};
+ghost use Rattle.lapi_base.specs.declared.reply.Bad.{Bad};
+ghost use Rattle.lapi_base.specs.Arrived.{noted};
+ghost use Rattle.lapi_base.specs.Record.{Run, deliver};
+ghost use Rattle.lapi_base.specs.Seen.{no_rules};
+ghost use Rattle.lapi_base.specs.Spelling.{Spells, HasSpelling, decoded};
+ghost use Rattle.lapi_link.specs.declared.arrival.Arrival.TheVariants as arrivals;
+ghost use Rattle.lapi_link.specs.Receiver.{ReceivingEnd, ReceivesFor, Fits, arrival_of};
+ghost use Rattle.lapi_task.specs.Performed.{IsPerformed};
+ghost use Rattle.lapi_task.specs.Does.{IsAt, Does, IsOnWire};
+ghost use Rattle.lapi_task.specs.Landed.{ArrivalSuits, HeadSuits, HasArrived, note_packet, with_note, MayTake, HasCome};
+
+use crate::counting::announce;
+use crate::note::{append_note, note_of};
+use crate::outcome::Outcome;
+use crate::received::Received;
+use crate::task::Task;
+use lapi_base::{DataPacket, Event, Events, Head, Memory, MsgName, Packet};
+use lapi_link::{Arrival, Receiver};
+use lapi_packet::decode;
+use lapi_reassembly::Message;
+use std::alloc::Global;
+
+impl Task {
+    /// Takes what comes from task `from`. Bytes that spell no packet are refused, and change nothing.
+    pub fn receive(
+        &mut self,
+        alloc: Global,
+        from: u32,
+        bytes: &[u8],
+        out: &mut Outcome,
+    ) -> Result<Received, Memory>
+        requires { (p : ThePacket) → Spells p bytes.now → IsOnWire self.old from p }
+        ensures refused { (bad : Bad) → decoded bytes.now ≡ Err bad → (result ≡ Ok (Received.Refused bad)) × (self.new ≡ self.old) × (out.new ≡ out.old) }
+        ensures does { OnOk result ((script : Script) (t k : ℕ) (r : Run) (p : ThePacket) → IsPerformed script → IsAt script t self.old r → from < script.tasks → Spells p bytes.now → slice_get (r.wire from t) k ≡ Some p → Does script t r (deliver script no_rules r from t k) self.new out.old out.new) }
+    {
+        match decode(bytes) {
+            Err(bad) => Ok(Received::Refused(bad)),
+            Ok(Packet::Ack { base, bits, .. }) => {
+                self.acknowledged(from, base, bits);
+                Ok(Received::Ack)
+            }
+            Ok(Packet::Data(packet)) => {
+                self.arrive(alloc, from, &packet, out)?;
+                Ok(Received::Data)
+            }
+        }
+    }
+
+    /// Takes a data packet, and tells task `from` what was taken of what it sent.
+    fn arrive(
+        &mut self,
+        alloc: Global,
+        from: u32,
+        packet: &DataPacket,
+        out: &mut Outcome,
+    ) -> Result<(), Memory>
+        requires { IsOnWire self.old from (Data packet.now) }
+        ensures { OnOk result ((script : Script) (t k : ℕ) (r : Run) → IsPerformed script → IsAt script t self.old r → from < script.tasks → slice_get (r.wire from t) k ≡ Some (Data packet.now) → Does script t r (deliver script no_rules r from t k) self.new out.old out.new) }
+    {
+        let arrival = take(&mut self.receivers, alloc, from, packet)?;
+        self.take_effect(alloc, from, &arrival, &mut out.events)?;
+        self.acknowledge(alloc, from, &mut out.entries)
+    }
+
+    /// What came from task `from` takes effect.
+    fn take_effect(
+        &mut self,
+        alloc: Global,
+        from: u32,
+        arrival: &Arrival,
+        events: &mut Events,
+    ) -> Result<(), Memory>
+        requires link { from < length self.old.senders.items }
+        requires suits { ArrivalSuits self.old.number from arrival.now self.old.memory self.old.counters }
+        ensures { OnOk result (HasArrived from arrival.now self.old self.new events.old events.new) }
+    {
+        match arrival {
+            Arrival::Whole(message) => self.land(alloc, from, message, events),
+            _ => Ok(()),
+        }
+    }
+
+    /// A message of which all fragments have come takes effect.
+    fn land(
+        &mut self,
+        alloc: Global,
+        from: u32,
+        message: &Message,
+        events: &mut Events,
+    ) -> Result<(), Memory>
+        requires link { from < length self.old.senders.items }
+        requires suits { HeadSuits self.old.number from message.now.name message.now.head message.now.bytes self.old.memory self.old.counters }
+        ensures { OnOk result (HasArrived from (arrivals.Whole message.now) self.old self.new events.old events.new) }
+    {
+        events.push(Event::Land(message.name))?;
+        match &message.head {
+            Head::Put { at, tgt, cmpl } => {
+                self.memory.write(*at, message.bytes.as_slice());
+                announce(&mut self.counters, *tgt)?;
+                self.note(alloc, from, message.name, *cmpl, events)
+            }
+            Head::Note { cmpl, .. } => announce(&mut self.counters, Some(*cmpl)),
+            _ => Ok(()),
+        }
+    }
+
+    /// Tells task `from` that the message is complete, where a counter is named for it.
+    fn note(
+        &mut self,
+        alloc: Global,
+        from: u32,
+        name: MsgName,
+        cmpl: Option<u32>,
+        events: &mut Events,
+    ) -> Result<(), Memory>
+        requires link { from < length self.old.senders.items }
+        requires spelled { (c n : ℕ) → cmpl ≡ Some c → n < 2 ^ 32 → HasSpelling (Data (note_packet self.old.number from n name c)) }
+        ensures senders { OnOk result (self.new.senders.items ≡ with_note self.old.number from name cmpl self.old.senders.items) }
+        ensures events { OnOk result (events.new ≡ events.old ++ noted name cmpl) }
+        ensures rest { self.new ≡ record self.old { senders = self.new.senders } }
+    {
+        let Some(cmpl) = cmpl else {
+            return Ok(());
+        };
+        append_note(alloc, &mut self.senders, self.number, from, name, cmpl)?;
+        events.push(Event::Copy(note_of(name)))
+    }
+}
+
+/// The end of the link from task `from` takes a packet.
+fn take(
+    receivers: &mut [Receiver],
+    alloc: Global,
+    from: u32,
+    packet: &DataPacket,
+) -> Result<Arrival, Memory>
+    requires { MayTake receivers.old from packet.now }
+    ensures taken { OnOk result ((end : ReceivingEnd) → slice_get receivers.old from ≡ Some end → HasCome receivers.old receivers.new from packet.now end) }
+    ensures arrival { IfOk result (λ arrival. (end : ReceivingEnd) (script : Script) (packets : List ThePacket) → slice_get receivers.old from ≡ Some end → ReceivesFor script end packets → Fits script packets packet.now → arrival ≡ arrival_of script packets packet.now) }
+{
+    receivers[from as usize].arrive(alloc, packet)
+}
