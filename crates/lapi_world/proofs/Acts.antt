@@ -1,6 +1,6 @@
 -- What is kept, after an act.
 use Rattle.std.proofs.Common.{◌≡◌, ℕ, ◌+◌, ◌*◌, ◌<◌, ◌==◌, true, false, List, [], ◌∷◌, ◌++◌, length, map, reverse, get_or, set, Option, Some, None, refl, sym, ap, ◌∙◌, subst, ⊎_elim, arith}
-use Rattle.std.specs.Prelude.{slice_get, option_map}
+use Rattle.std.specs.Prelude.{slice_get}
 use Rattle.std.specs.List.{AllByRecursion}
 use Rattle.std.proofs.lemmas.Bool.{cases_eq, ne_eqb, false≢true}
 use Rattle.std.proofs.lemmas.List.{append-nil, length-set}
@@ -8,7 +8,6 @@ use Rattle.lapi_base.specs.declared.script.Script.{Script}
 use Rattle.lapi_base.specs.declared.event.Event.{Event}
 use Rattle.lapi_base.specs.declared.schedule.Act.{Act}
 use Rattle.lapi_base.specs.declared.schedule.Act.TheVariants as acts
-use Rattle.lapi_base.specs.declared.packet.Packet.{Packet}
 use Rattle.lapi_base.specs.declared.reply.Reply.{Reply}
 use Rattle.lapi_base.specs.declared.reply.Reply.TheVariants.{Did}
 use Rattle.lapi_base.specs.declared.wire.WireEntry.{WireEntry}
@@ -24,7 +23,7 @@ use Rattle.lapi_parts.proofs.SameParts.{same-part}
 use Rattle.lapi_task.proofs.Apart.{stays-apart}
 use Rattle.lapi_task.specs.declared.outcome.Outcome.{Outcome}
 use Rattle.lapi_task.specs.declared.task.Task.{Task}
-use Rattle.lapi_task.specs.Does.{IsAt, IsAtSome, Does, bytes_to}
+use Rattle.lapi_task.specs.Does.{IsAt, IsAtSome, Does}
 use Rattle.lapi_task.specs.Performed.{IsPerformed}
 use Rattle.lapi_task.specs.StandsFor.{StandsFor}
 use Rattle.lapi_world.specs.declared.kept.Kept.{Kept}

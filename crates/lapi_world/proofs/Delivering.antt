@@ -1,5 +1,5 @@
 -- A delivery, by what stands on the wire.
-use Rattle.std.proofs.Common.{◌≡◌, ℕ, ◌+◌, ◌*◌, ◌^◌, ◌<◌, List, [], ◌∷◌, ◌++◌, map, get_or, Option, Some, None, refl, sym, ap, ◌∙◌, subst, lit≤, arith}
+use Rattle.std.proofs.Common.{◌≡◌, ℕ, ◌+◌, ◌*◌, ◌<◌, List, [], ◌∷◌, ◌++◌, map, get_or, Option, Some, None, refl, sym, ap, ◌∙◌, subst, lit≤, arith}
 use Rattle.std.specs.Prelude.{slice_get, option_map}
 use Rattle.std.proofs.lemmas.Option.{slice_get-map}
 use Rattle.std.proofs.lemmas.Nat.{mul-add-lt}
@@ -13,18 +13,16 @@ use Rattle.lapi_base.specs.Record.{Run, deliver, deliver_entry, hand_over, reply
 use Rattle.lapi_base.specs.Seen.{no_rules, IsRecord, performed}
 use Rattle.lapi_base.specs.Spelling.{packet_form, Spells}
 use Rattle.lapi_base.specs.Written as written
-use Rattle.lapi_link.specs.Receiver.{ReceivingEnd}
 use Rattle.lapi_link.specs.Sender.{SendingEnd}
 use Rattle.lapi_packet.proofs.Answering.{ok_is}
 use Rattle.lapi_packet.proofs.Forms.{answer_spelled}
 use Rattle.lapi_parts.proofs.SpelledPackets.{packets-written}
 use Rattle.lapi_task.specs.declared.task.Task.{Task}
-use Rattle.lapi_task.specs.Does.{IsAt, IsOnWire}
+use Rattle.lapi_task.specs.Does.{IsOnWire}
 use Rattle.lapi_task.specs.Performed.{IsPerformed}
-use Rattle.lapi_task.specs.Sends.{SendsFor}
-use Rattle.lapi_task.specs.StandsFor.{SenderAt, StandsFor}
+use Rattle.lapi_task.specs.StandsFor.{SenderAt}
 use Rattle.lapi_world.specs.declared.kept.Kept.{Kept}
-use Rattle.lapi_world.specs.Stands.{TaskAt, Stands, StandsForOne}
+use Rattle.lapi_world.specs.Stands.{TaskAt, Stands}
 use Rattle.lapi_world.proofs.Acts.{task-read, performed-deliver}
 use Rattle.lapi_world.proofs.Lists.{found-at}
 

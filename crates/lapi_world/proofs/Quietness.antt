@@ -1,5 +1,5 @@
 -- Whether a record is quiet, task by task.
-use Rattle.std.proofs.Common.{◌≡◌, ℕ, zero, suc, ◌+◌, ◌<◌, ◌≤◌, Bool, true, false, ◌&&◌, sym, ap, ◌∙◌, subst, ⊎_elim, refl, arith}
+use Rattle.std.proofs.Common.{◌≡◌, ℕ, ◌+◌, ◌<◌, ◌≤◌, Bool, true, false, ◌&&◌, sym, subst, ⊎_elim, refl, arith}
 use Rattle.std.proofs.lemmas.Bool.{and_from, and_parts, cases_lt, both_ways, false_from_ne_true}
 use Rattle.lapi_base.specs.declared.script.Script.{Script}
 use Rattle.lapi_base.specs.Below.{every_below}

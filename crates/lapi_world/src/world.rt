@@ -122,7 +122,7 @@ impl World {
         self.kept.entries(self.script.tasks, a, b)
     }
 
-    /// Task `t`: its part of all that was said and done.
+    /// Task `t`, as the lines taken left it.
     pub fn task(&self, t: u32) -> &Task
         requires { t < self.now.script.tasks }
         ensures stands { self.now.spent ≡ false → IsAt self.now.script t result.now (seen_record self.now) }

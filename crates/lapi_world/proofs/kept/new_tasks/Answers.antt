@@ -1,9 +1,4 @@
-use Rattle.std.proofs.Common.{rules, ◌≡◌, ◌<◌, ◌≤◌, ◌+◌, ◌++◌, ◌∷◌, [], List, sym, ap, ◌∙◌, subst, ⊎_elim, arith}
-use Rattle.std.specs.Prelude.{slice_get}
-use Rattle.std.proofs.lemmas.Bool.{cases_lt}
-use Rattle.std.proofs.lemmas.List.{length_push}
-use Rattle.lapi_task.specs.declared.task.Task.{Task}
-use Rattle.lapi_world.specs.Stands.{TaskAt}
+use Rattle.std.proofs.Common.{rules}
 use Rattle.lapi_world.proofs.Beginnings.{task-more}
 use Rattle.lapi_world.proofs.kept.new_tasks.Goals as goal
 
