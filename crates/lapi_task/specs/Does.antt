@@ -1,14 +1,18 @@
 -- What a call of a task did, where it stood for a record.
-use Rattle.std.specs.Prelude.{◌≡◌, ℕ, ◌<◌, ◌==◌, List, ◌++◌, map, filter, slice_get, Some}
+use Rattle.std.specs.Prelude.{◌≡◌, ℕ, ◌<◌, ◌==◌, List, ◌++◌, map, filter, slice_get, Some, Result, Ok, Err}
 use Rattle.std.specs.List.{AllByRecursion}
 use Rattle.lapi_base.specs.declared.script.Script.{Script}
 use Rattle.lapi_base.specs.declared.event.Event.{Event}
 use Rattle.lapi_base.specs.declared.packet.Packet.{Packet}
+use Rattle.lapi_base.specs.declared.packet.Packet.TheVariants as packets
+use Rattle.lapi_base.specs.declared.reply.Bad.{Bad}
 use Rattle.lapi_base.specs.declared.wire.WireEntry.{WireEntry}
 use Rattle.lapi_base.specs.Record.{Run, followed}
 use Rattle.lapi_base.specs.Seen.{no_rules, IsRecord}
 use Rattle.lapi_base.specs.Written as written
 use Rattle.lapi_task.specs.declared.outcome.Outcome.{Outcome}
+use Rattle.lapi_task.specs.declared.received.Received.{Received}
+use Rattle.lapi_task.specs.declared.received.Received.TheVariants as received
 use Rattle.lapi_task.specs.declared.task.Task.{Task}
 use Rattle.lapi_task.specs.Performed.{IsPerformed}
 use Rattle.lapi_task.specs.StandsFor.{StandsFor}
@@ -48,3 +52,9 @@ pub record IsOnWire (endpoint : Task) (from : ℕ) (p : Packet) : Type 0 where
   pub at : IsAt script task endpoint run
   pub from_known : from < script.tasks
   pub entry : slice_get (run.wire from task) place ≡ Some p
+
+-- what bytes are told as: where they spell no packet, where they fail and why, else the packet's kind
+abbrev pub received_as : Result Packet Bad → Received
+received_as (Ok (packets.Data p)) = received.Data
+received_as (Ok (packets.Ack from to base bits)) = received.Ack
+received_as (Err bad) = received.Refused bad

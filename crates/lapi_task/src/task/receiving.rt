@@ -11,7 +11,7 @@ ghost use Rattle.lapi_base.specs.Spelling.{Spells, HasSpelling, decoded};
 ghost use Rattle.lapi_link.specs.declared.arrival.Arrival.TheVariants as arrivals;
 ghost use Rattle.lapi_link.specs.Receiver.{ReceivingEnd, ReceivesFor, Fits, arrival_of};
 ghost use Rattle.lapi_task.specs.Performed.{IsPerformed};
-ghost use Rattle.lapi_task.specs.Does.{IsAt, Does, IsOnWire};
+ghost use Rattle.lapi_task.specs.Does.{IsAt, Does, IsOnWire, received_as};
 ghost use Rattle.lapi_task.specs.Landed.{ArrivalSuits, HeadSuits, HasArrived, note_packet, with_note, MayTake, HasCome};
 
 use crate::counting::announce;
@@ -36,6 +36,7 @@ impl Task {
     ) -> Result<Received, Memory>
         requires { (p : ThePacket) → Spells p bytes.now → IsOnWire self.old from p }
         ensures refused { (bad : Bad) → decoded bytes.now ≡ Err bad → (result ≡ Ok (Received.Refused bad)) × (self.new ≡ self.old) × (out.new ≡ out.old) }
+        ensures told { IfOk result (λ received. received ≡ received_as (decoded bytes.now)) }
         ensures does { OnOk result ((script : Script) (t k : ℕ) (r : Run) (p : ThePacket) → IsPerformed script → IsAt script t self.old r → from < script.tasks → Spells p bytes.now → slice_get (r.wire from t) k ≡ Some p → Does script t r (deliver script no_rules r from t k) self.new out.old out.new) }
     {
         match decode(bytes) {
