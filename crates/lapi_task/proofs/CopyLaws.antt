@@ -51,9 +51,9 @@ use Rattle.lapi_task.proofs.CopyLists.{below-less, other-message}
 use Rattle.lapi_task.proofs.Forms.{data-put, statement-is}
 use Rattle.lapi_task.proofs.Lists.{get-some, get-set, get-set-other, get-before, get-after}
 use Rattle.lapi_task.proofs.Packets.{packet-stays, packet-same, packet-new, out-own, fragments-length}
-use Rattle.lapi_task.proofs.PutPackets.{length-upto}
 use Rattle.lapi_task.proofs.ReceiveCounts.{announced-length, announced-at}
 use Rattle.lapi_task.proofs.StepMemories.{read-over, memory-none, memory-length}
+use Rattle.lapi_laws.proofs.Places.{upto-length}
 
 -- ---- the link
 
@@ -62,9 +62,9 @@ unfolding upto below
 upto-at zero k j h = absurd (cc)
 upto-at (suc c) k j h =
     ⊎_elim
-    (λ (lt : k < c). upto-at c k j (sym (get-before (upto c) (c ∷ []) k (let n = length-upto c in omega (arith, lt, n))) ∙ h))
+    (λ (lt : k < c). upto-at c k j (sym (get-before (upto c) (c ∷ []) k (let n = upto-length c in omega (arith, lt, n))) ∙ h))
     (λ (ge : c ≤ k).
-    let at : k ≡ length (upto c) + (k - c) = (let n = length-upto c in omega (arith, ge, n)) in
+    let at : k ≡ length (upto c) + (k - c) = (let n = upto-length c in omega (arith, ge, n)) in
     last (k - c) (sym (get-after (upto c) (c ∷ []) (k - c)) ∙ ap (slice_get (upto c ++ c ∷ [])) (sym at) ∙ h) (omega arith))
     (cases_lt k c)
   where
@@ -137,7 +137,7 @@ module _ (script : Script) (perf : IsPerformed script) where
       xs = map (numbered J (length (out script J t put.target))) (upto (fragments_in 256 put.len))
 
       xs-length : length xs ≡ fragment_count script m
-      xs-length = length-map (upto (fragments_in 256 put.len)) (numbered J (length (out script J t put.target))) ∙ length-upto (fragments_in 256 put.len) ∙ sym count-is
+      xs-length = length-map (upto (fragments_in 256 put.len)) (numbered J (length (out script J t put.target))) ∙ upto-length (fragments_in 256 put.len) ∙ sym count-is
 
       out-length : length (out script K t put.target) ≡ length (out script J t put.target) + length xs
       out-length = ap length (out-more J) ∙ length-append (out script J t put.target) (fragments script m) ∙ ap (λ k. length (out script J t put.target) + k) (fragments-length script m ∙ sym xs-length)

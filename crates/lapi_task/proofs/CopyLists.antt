@@ -1,8 +1,8 @@
 -- What a poll copies, as the list of the statements whose data wait for it.
-use Rattle.std.proofs.Common.{◌≡◌, ◌⊎◌, ℕ, zero, suc, ◌<◌, ◌≤◌, ◌==◌, Bool, true, false, cond, not, ◌&&◌, List, [], ◌∷◌, ◌++◌, map, length, refl, sym, ap, ◌∙◌, subst, ⊎_elim, inl, inr, arith, append_assoc, ◌≢◌}
+use Rattle.std.proofs.Common.{◌≡◌, ◌⊎◌, ℕ, zero, suc, ◌<◌, ◌≤◌, ◌==◌, Bool, true, false, cond, not, ◌&&◌, List, [], ◌∷◌, ◌++◌, map, length, refl, sym, ap, ◌∙◌, subst, ⊎_elim, inl, inr, arith, ◌≢◌}
 use Rattle.std.specs.List.{flat_map, AllByRecursion}
 use Rattle.std.proofs.lemmas.Bool.{cond-true, cond-false, and_parts, and_from, and_left, and_right, and_cases, not-true, not-false, ne_eqb, both_ways}
-use Rattle.std.proofs.lemmas.List.{append-nil, map-append}
+use Rattle.std.proofs.lemmas.List.{map-append}
 use Rattle.lapi_base.specs.declared.script.Script.{Script}
 use Rattle.lapi_base.specs.declared.event.Event.{Event}
 use Rattle.lapi_base.specs.declared.event.Event.TheVariants.{Copy}
@@ -17,6 +17,7 @@ use Rattle.lapi_laws.proofs.NumberLaws.{all-append}
 use Rattle.lapi_task.specs.Performed.{IsPerformed}
 use Rattle.lapi_task.specs.StandsFor.{is_uncopied}
 use Rattle.lapi_task.proofs.Forms.{no-join}
+use Rattle.lapi_task.proofs.Lists.{flat_map-push}
 
 -- the copies of these statements of task t
 abbrev pub copies : (t : ℕ) → List ℕ → List Event
@@ -75,10 +76,6 @@ one-copy K m = refl
 no-copy : (K : List Event) → copy_each K [] ≡ K
 unfolding copy_each
 no-copy K = refl
-
-flat_map-push : {X Y : Type 0} (f : X → List Y) (xs : List X) (x : X) → flat_map f (xs ++ x ∷ []) ≡ flat_map f xs ++ f x
-flat_map-push f [] x = append-nil (f x)
-flat_map-push f (y ∷ xs) x = ap (λ zs. f y ++ zs) (flat_map-push f xs x) ∙ sym (append_assoc (f y) (flat_map f xs) (f x))
 
 module _ (script : Script) (perf : IsPerformed script) (J : List Event) (t : ℕ) where
   -- what statement i has to copy: the data of a put that was issued

@@ -1,5 +1,5 @@
 -- A task before its first statement.
-use Rattle.std.proofs.Common.{◌≡◌, ℕ, zero, suc, ◌<◌, false, List, [], ◌∷◌, length, replicate, Some, refl, sym, ap, ◌∙◌, subst, arith}
+use Rattle.std.proofs.Common.{◌≡◌, ℕ, false, [], length, replicate, refl, sym, ap, ◌∙◌, subst, arith}
 use Rattle.std.specs.Prelude.{slice_get, slice_index, nat_lt}
 use Rattle.std.specs.List.{AllByRecursion}
 use Rattle.std.proofs.lemmas.Bool.{and_right, le-ltb}
@@ -20,11 +20,7 @@ use Rattle.lapi_task.specs.Sends.{packet_at, SendsFor}
 use Rattle.lapi_task.specs.StandsFor.{SenderAt, ReceiverAt, is_uncopied, HoldsFor, StandsFor}
 use Rattle.lapi_task.specs.Steps.{IsBlank}
 use Rattle.lapi_task.proofs.StepMemories.{memory-blank}
-
-get-some : {X : Type 0} (xs : List X) (n : ℕ) → n < length xs → (x : X) × (slice_get xs n ≡ Some x)
-get-some [] n l = absurd (omega arith)
-get-some (x ∷ xs) zero l = (x, refl)
-get-some (x ∷ xs) (suc n) l = get-some xs n (let q : n < length xs = omega arith in q)
+use Rattle.lapi_task.proofs.Lists.{get-some}
 
 -- the task has done nothing
 pub record IsNew (script : Script) (t : ℕ) (task : Task) : Type 0 where

@@ -20,7 +20,7 @@ use Rattle.lapi_laws.proofs.Out.{out-later, out-copied}
 use Rattle.lapi_parts.proofs.ExactBytes.{stays}
 use Rattle.lapi_task.specs.Sends.{spelled, packet_at}
 use Rattle.lapi_task.proofs.Lists.{get-some, get-past, get-after}
-use Rattle.lapi_task.proofs.PutPackets.{length-upto}
+use Rattle.lapi_laws.proofs.Places.{upto-length}
 
 module _ (script : Script) where
   packet-some : (J : List Event) (a b n : ℕ) (pair : MsgName × ℕ) → slice_get (out script J a b) n ≡ Some pair → packet_at script J a b n ≡ Some (spelled script J n pair)
@@ -55,7 +55,7 @@ module _ (script : Script) where
 
   pub fragments-length : (m : MsgName) → length (fragments script m) ≡ fragment_count script m
   unfolding fragments
-  fragments-length m = length-map (upto (fragment_count script m)) (λ j. (m, j)) ∙ length-upto (fragment_count script m)
+  fragments-length m = length-map (upto (fragment_count script m)) (λ j. (m, j)) ∙ upto-length (fragment_count script m)
 
   -- the bytes of fragment j of a message whose Copy this is, which has number n
   abbrev pub copied_packet : MsgName → List Event → (n j : ℕ) → List ℕ

@@ -1,9 +1,9 @@
 -- What a poll sends on the links of its task.
-use Rattle.std.proofs.Common.{◌≡◌, ◌≢◌, ℕ, zero, suc, ◌+◌, ◌-◌, ◌<◌, ◌≤◌, ◌==◌, Bool, true, false, cond, ◌||◌, List, [], ◌∷◌, ◌++◌, map, length, take, drop, set, Option, Some, None, refl, sym, ap, ◌∙◌, subst, ⊎_elim, arith, append_assoc, add-one}
+use Rattle.std.proofs.Common.{◌≡◌, ◌≢◌, ℕ, zero, suc, ◌+◌, ◌-◌, ◌<◌, ◌≤◌, ◌==◌, Bool, true, false, cond, ◌||◌, List, [], ◌∷◌, ◌++◌, map, length, take, drop, set, Option, Some, None, refl, sym, ap, ◌∙◌, subst, ⊎_elim, arith, add-one}
 use Rattle.std.specs.Prelude.{slice_get, option_map, nat_lt}
 use Rattle.std.specs.List.{flat_map, list_any}
 use Rattle.std.proofs.lemmas.Bool.{cond-true, cond-false, cases_lt, cases_eq, lt-ltb, le-ltb, eq-eqb, ne_eqb, or_right}
-use Rattle.std.proofs.lemmas.List.{append-nil, length-append, length-take-le, length-drop, map-append}
+use Rattle.std.proofs.lemmas.List.{length-append, length-take-le, length-drop, map-append}
 use Rattle.std.proofs.lemmas.List.Folds.{list_any-append}
 use Rattle.std.proofs.Math.ListN.{length-set}
 use Rattle.lapi_base.specs.declared.script.Script.{Script}
@@ -30,7 +30,7 @@ use Rattle.lapi_task.specs.Copies.{AllCopied, AllSent, sent_now, packets_now}
 use Rattle.lapi_task.specs.Does.{Does}
 use Rattle.lapi_task.specs.Sends.{packet_at, spelled, SendsFor, of_end, entries_of}
 use Rattle.lapi_task.specs.StandsFor.{SenderAt, ReceiverAt, HoldsFor, StandsFor}
-use Rattle.lapi_task.proofs.Lists.{get-some, get-set, get-set-other, get-before, get-after}
+use Rattle.lapi_task.proofs.Lists.{flat_map-push, get-some, get-set, get-set-other, get-before, get-after}
 use Rattle.lapi_task.proofs.PutPackets.{upto-more}
 use Rattle.lapi_task.proofs.SenderLaws.{bytes-of-end, entries-within}
 use Rattle.lapi_task.proofs.StillLaws.{room}
@@ -51,10 +51,6 @@ take-push : {X : Type 0} (xs : List X) (k : ℕ) (x : X) → slice_get xs k ≡ 
 take-push [] k x h = absurd (cc)
 take-push (y ∷ ys) zero x h = (let e : y ≡ x = cc in ap (λ (z : _). z ∷ []) e)
 take-push (y ∷ ys) (suc k) x h = ap (λ (zs : List _). y ∷ zs) (take-push ys k x h)
-
-flat_map-push : {X Y : Type 0} (f : X → List Y) (xs : List X) (x : X) → flat_map f (xs ++ x ∷ []) ≡ flat_map f xs ++ f x
-flat_map-push f [] x = append-nil (f x)
-flat_map-push f (y ∷ xs) x = ap (λ zs. f y ++ zs) (flat_map-push f xs x) ∙ sym (append_assoc (f y) (flat_map f xs) (f x))
 
 -- the numbers from one on
 abbrev pub next-numbers : (low k : ℕ) → List ℕ

@@ -1,5 +1,5 @@
 -- The packets of a put, one after another.
-use Rattle.std.proofs.Common.{◌≡◌, ℕ, zero, suc, ◌+◌, List, [], ◌∷◌, ◌++◌, map, length, max, refl, sym, ap, ◌∙◌, arith, append_assoc, add-one}
+use Rattle.std.proofs.Common.{◌≡◌, ℕ, ◌+◌, List, [], ◌∷◌, ◌++◌, map, length, max, refl, sym, ap, ◌∙◌, arith, append_assoc, add-one}
 use Rattle.std.proofs.lemmas.List.{append-nil, length-append, length-map, map-append}
 use Rattle.std.specs.Int.{div_ceil}
 use Rattle.lapi_base.specs.Fragments.{fragments_in}
@@ -7,15 +7,11 @@ use Rattle.lapi_base.specs.Below.{below}
 use Rattle.lapi_base.specs.Operations.{upto}
 use Rattle.lapi_link.specs.Sender.{SendingEnd, appended}
 use Rattle.lapi_task.specs.Puts.{extended}
+use Rattle.lapi_laws.proofs.Places.{upto-length}
 
 pub upto-more : (n : ℕ) → upto (n + 1) ≡ upto n ++ n ∷ []
 unfolding upto below
 upto-more n = rw add-one refl
-
-pub length-upto : (n : ℕ) → length (upto n) ≡ n
-unfolding upto below
-length-upto zero = refl
-length-upto (suc n) = length-append (upto n) (n ∷ []) ∙ (let e = length-upto n in omega (arith, e))
 
 pub extended-none : (s : SendingEnd) (f : ℕ → List ℕ) → s ≡ extended s (map f (upto 0))
 unfolding upto below
@@ -30,7 +26,7 @@ extended-more s f n =
     λ i. record { window = record { window = s.window.window; numbers = count i; acked = s.window.acked; packets = s.window.packets }; waiting = list i }
 
 pub extended-count : (s : SendingEnd) (f : ℕ → List ℕ) (n : ℕ) → (extended s (map f (upto n))).window.numbers ≡ s.window.numbers + n
-extended-count s f n = ap (λ k. s.window.numbers + k) (length-map (upto n) f ∙ length-upto n)
+extended-count s f n = ap (λ k. s.window.numbers + k) (length-map (upto n) f ∙ upto-length n)
 
 -- as many as the length says
 pub fragment-count : (len : ℕ) → max (div_ceil len 256) 1 ≡ fragments_in 256 len

@@ -1,9 +1,8 @@
 -- The statements of a script that is performed: why they are refused, and what they do otherwise.
-use Rattle.std.proofs.Common.{◌≡◌, ℕ, ◌+◌, ◌<◌, ◌≤◌, Bool, true, false, cond, not, ◌||◌, IsTrue, List, [], ◌∷◌, length, get_or, zero, suc, Option, Some, None, refl, sym, ap, ◌∙◌, ⊎_elim, lit≤}
-use Rattle.std.specs.Prelude.{slice_get, nat_le, nat_lt}
+use Rattle.std.proofs.Common.{◌≡◌, ℕ, ◌+◌, ◌<◌, ◌≤◌, Bool, true, false, cond, not, ◌||◌, List, [], ◌∷◌, length, Option, Some, None, refl, sym, ap, ◌∙◌, ⊎_elim, lit≤}
+use Rattle.std.specs.Prelude.{nat_le, nat_lt}
 use Rattle.std.specs.List.{AllByRecursion}
 use Rattle.std.proofs.lemmas.Bool.{false≢true, cases_lt, le-leb, lt-leb, le-ltb, lt-ltb}
-use Rattle.std.proofs.lemmas.Option.{get_or_from_slice_get}
 use Rattle.lapi_base.specs.declared.address.Addr.TheVariants.{Plain}
 use Rattle.lapi_base.specs.declared.statement.Statement.{Statement}
 use Rattle.lapi_base.specs.declared.statement.Statement.TheVariants as statements
@@ -11,14 +10,14 @@ use Rattle.lapi_base.specs.declared.script.Script.{Script}
 use Rattle.lapi_base.specs.declared.refusal.Refusal.TheVariants.{BadTask, BadTargetRange, BadOriginRange, BadCounter, TooLong}
 use Rattle.lapi_base.specs.declared.event.Event.{Event}
 use Rattle.lapi_base.specs.Layout.{longest_of}
-use Rattle.lapi_base.specs.Built.{is_built_statement, IsBuiltList}
+use Rattle.lapi_base.specs.Built.{is_built_statement}
 use Rattle.lapi_base.specs.Operations.{statement, address}
 use Rattle.lapi_base.specs.Operations as operations
 use Rattle.lapi_base.specs.Refusals.{first_reason, why_by, why}
 use Rattle.lapi_base.specs.Seen.{no_rules}
 use Rattle.lapi_base.specs.Valid.{ValidStatement}
-use Rattle.lapi_laws.proofs.Out.{all-get}
 use Rattle.lapi_task.specs.Performed.{IsPerformed, names_no_counter, reason_of}
+use Rattle.lapi_task.proofs.Lists.{all-or}
 
 lt-is-not-le : (a b : ℕ) → nat_lt a b ≡ not (nat_le b a)
 lt-is-not-le a b =
@@ -74,18 +73,6 @@ module _ (script : Script) (J : List Event) (a i : ℕ) where
   why-is (statements.Set counter value) e h = why-set counter value e
   why-is (statements.Read counter) e h = why-read counter e
   why-is _ e h = absurd (false≢true h)
-
-all-or : {X : Type 0} (P : X → Type 0) (xs : List X) (n : ℕ) (d : X) → AllByRecursion P xs → P d → P (get_or xs n d)
-all-or P [] n d h e = e
-all-or P (x ∷ xs) zero d h e = h.0
-all-or P (x ∷ xs) (suc n) d h e = all-or P xs n d h.1 e
-
-pub statement-is : (script : Script) (a i : ℕ) (s : Statement) → slice_get (operations.statements script a) i ≡ Some s → statement script a i ≡ s
-unfolding statement
-statement-is script a i s h = get_or_from_slice_get (operations.statements script a) i s statements.Fence h
-
-pub statement-built : (script : Script) → IsPerformed script → (a i : ℕ) (s : Statement) → slice_get (operations.statements script a) i ≡ Some s → is_built_statement s ≡ true
-statement-built script p a i s h = all-get (λ x. IsTrue (is_built_statement x)) (operations.statements script a) i s (all-or IsBuiltList script.lists a [] p.built tt) h
 
 -- a task has few statements
 pub few-statements : (script : Script) → IsPerformed script → (a : ℕ) → length (operations.statements script a) ≤ 512

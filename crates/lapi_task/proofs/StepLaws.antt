@@ -1,5 +1,5 @@
 -- What a step does, by the event that it adds.
-use Rattle.std.proofs.Common.{◌≡◌, ℕ, suc, zero, ◌+◌, ◌<◌, ◌≤◌, ◌^◌, Bool, true, false, cond, List, [], ◌∷◌, ◌++◌, length, Option, Some, None, refl, sym, ap, ◌∙◌, subst, arith}
+use Rattle.std.proofs.Common.{◌≡◌, ℕ, ◌+◌, ◌<◌, ◌≤◌, ◌^◌, Bool, true, false, cond, List, [], ◌∷◌, ◌++◌, length, Option, Some, None, refl, sym, ap, ◌∙◌, subst, arith}
 use Rattle.std.specs.Prelude.{slice_get, slice_index, nat_lt, nat_le}
 use Rattle.std.proofs.lemmas.Bool.{false≢true, cond-true, cond-false, lt-ltb, le-ltb, le-leb, lt-leb, both_ways, false_from_ne_true}
 use Rattle.std.proofs.lemmas.List.{append-nil}
@@ -33,14 +33,11 @@ use Rattle.lapi_task.specs.Sends.{packet_at, SendsFor}
 use Rattle.lapi_task.specs.StandsFor.{SenderAt, ReceiverAt, HoldsFor, StandsFor}
 use Rattle.lapi_task.specs.Does.{IsAt, Does}
 use Rattle.lapi_task.specs.Steps.{Suits, IsPast, IsRefused, IsIssued, IsPassed, IsBlocked}
-use Rattle.lapi_task.proofs.ReasonForms.{why-is, statement-is, statement-built, few-statements}
+use Rattle.lapi_task.proofs.Forms.{statement-is, statement-built}
+use Rattle.lapi_task.proofs.ReasonForms.{why-is, few-statements}
 use Rattle.lapi_task.proofs.StepMemories.{memory-length}
 use Rattle.lapi_task.proofs.StepFields.{suits, refused-holds, passed-holds, issued-holds}
-
-get-none : {X : Type 0} (xs : List X) (n : ℕ) → slice_get xs n ≡ None → length xs ≤ n
-get-none [] n h = omega arith
-get-none (x ∷ xs) zero h = absurd (cc)
-get-none (x ∷ xs) (suc n) h = let l = get-none xs n h in omega (arith, l)
+use Rattle.lapi_task.proofs.Lists.{get-none}
 
 module _ (script : Script) where
   -- the record with an event and a reply more

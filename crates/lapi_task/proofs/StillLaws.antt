@@ -1,5 +1,5 @@
 -- A task is still where it has nothing to copy and its links are settled.
-use Rattle.std.proofs.Common.{◌≡◌, ℕ, zero, suc, ◌+◌, ◌-◌, ◌<◌, ◌==◌, Bool, true, false, cond, ◌&&◌, not, IsTrue, List, [], ◌∷◌, ◌++◌, length, map, get_or, min, Option, Some, refl, sym, ap, ◌∙◌, subst, ⊎_elim, inl, inr, arith, append_assoc}
+use Rattle.std.proofs.Common.{◌≡◌, ℕ, zero, suc, ◌+◌, ◌-◌, ◌<◌, ◌==◌, Bool, true, false, cond, ◌&&◌, not, List, [], ◌∷◌, ◌++◌, length, map, min, Option, Some, refl, sym, ap, ◌∙◌, subst, ⊎_elim, inl, inr, arith, append_assoc}
 use Rattle.std.specs.Prelude.{slice_get, is_some}
 use Rattle.std.specs.List.{AllByRecursion, flat_map, list_all}
 use Rattle.std.proofs.lemmas.Bool.{false≢true, and_left, and_right, and_cases, cases_Bool, ltb-true, eqb-true, ne_eqb, not-true, not-false}
@@ -7,15 +7,12 @@ use Rattle.std.proofs.lemmas.List.{append-nil}
 use Rattle.std.proofs.lemmas.List.Folds.{list_all-append}
 use Rattle.std.proofs.lemmas.Option.{slice_get_within}
 use Rattle.lapi_base.specs.declared.script.Script.{Script}
-use Rattle.lapi_base.specs.declared.statement.Statement.{Statement}
-use Rattle.lapi_base.specs.declared.statement.Statement.TheVariants as statements
 use Rattle.lapi_base.specs.declared.event.Event.{Event}
 use Rattle.lapi_base.specs.declared.message.Leg.TheVariants.{Go}
 use Rattle.lapi_base.specs.declared.message.MsgName.{MsgName}
 use Rattle.lapi_base.specs.declared.packet.Packet.{Packet}
 use Rattle.lapi_base.specs.declared.packet.Packet.TheVariants.{Data, Ack}
 use Rattle.lapi_base.specs.Below.{below, every_below, least_missing}
-use Rattle.lapi_base.specs.Built.{is_built_statement, IsBuiltList}
 use Rattle.lapi_base.specs.Final.{is_empty, is_idle, is_settled, is_told}
 use Rattle.lapi_base.specs.Jobs.{runs}
 use Rattle.lapi_base.specs.Layout.{window_of}
@@ -25,7 +22,7 @@ use Rattle.lapi_base.specs.Operations as operations
 use Rattle.lapi_base.specs.Record.{Run, out, base, fresh, ready, to_copy_of, joins, has_number, is_number, is_acked}
 use Rattle.lapi_base.specs.Seen.{no_rules, IsRecord}
 use Rattle.lapi_laws.proofs.Deeds.{eqb-refl}
-use Rattle.lapi_laws.proofs.NumberLaws.{every_below-at, every_below-from, any-all, any-get, all-weaker, list_all-at, list_all-each}
+use Rattle.lapi_laws.proofs.NumberLaws.{every_below-at, every_below-from, any-all, any-get, list_all-at, list_all-each}
 use Rattle.lapi_laws.proofs.Out.{all-get}
 use Rattle.lapi_link.specs.Sender.{SendingEnd, sendable}
 use Rattle.lapi_parts.proofs.HandedPackets.{same-tests}
@@ -39,21 +36,13 @@ use Rattle.lapi_task.specs.Performed.{IsPerformed}
 use Rattle.lapi_task.specs.Sends.{SendsFor}
 use Rattle.lapi_task.specs.StandsFor.{is_uncopied, SenderAt, HoldsFor}
 use Rattle.lapi_task.proofs.Jobless.{no-queue}
+use Rattle.lapi_task.proofs.Forms.{no-join}
+use Rattle.lapi_task.proofs.Lists.{get-some}
 
 -- Lists and numbers below a bound.
-get-some : {X : Type 0} (xs : List X) (n : ℕ) → n < length xs → (x : X) × (slice_get xs n ≡ Some x)
-get-some [] n l = absurd (omega arith)
-get-some (x ∷ xs) zero l = (x, refl)
-get-some (x ∷ xs) (suc n) l = get-some xs n (let q : n < length xs = omega arith in q)
-
 all-from : {X : Type 0} (P : X → Type 0) (xs : List X) → ((k : ℕ) (x : X) → slice_get xs k ≡ Some x → P x) → AllByRecursion P xs
 all-from P [] f = tt
 all-from P (x ∷ xs) f = (f zero x refl, all-from P xs (λ k y e. f (suc k) y e))
-
-all-or : {X : Type 0} (P : X → Type 0) (xs : List X) (n : ℕ) (d : X) → AllByRecursion P xs → P d → P (get_or xs n d)
-all-or P [] n d h e = e
-all-or P (x ∷ xs) zero d h e = h.0
-all-or P (x ∷ xs) (suc n) d h e = all-or P xs n d h.1 e
 
 all-at : {X : Type 0} (p : X → Bool) (q : ℕ → Bool) (xs : List X) → ((k : ℕ) (x : X) → slice_get xs k ≡ Some x → p x ≡ q k) → list_all p xs ≡ every_below (length xs) q
 all-at p q xs f =
@@ -163,23 +152,6 @@ module _ (script : Script) (r : Run) (a b : ℕ) (s : SendingEnd) (h : SendsFor 
       ∙ ap (λ x. list_all (is_told script no_rules r a b) (r.wire a b) && x) (sym (fresh-is is))
 
 module _ (script : Script) (p : IsPerformed script) where
-  -- No statement of these forms is one that all tasks join.
-  built-join : (s : Statement) → is_built_statement s ≡ true → has_join s ≡ false
-  unfolding is_built_statement
-  built-join (statements.Store at bytes) h = refl
-  built-join (statements.Put target to from len tgt org cmpl) h = refl
-  built-join (statements.Wait counter value) h = refl
-  built-join (statements.Set counter value) h = refl
-  built-join (statements.Read counter) h = refl
-  built-join _ h = absurd (false≢true h)
-
-  no-join : (t i : ℕ) → has_join (statement script t i) ≡ false
-  unfolding statement
-  no-join t i =
-      let list = operations.statements script t in
-      let built : IsBuiltList list = all-or IsBuiltList script.lists t [] p.built tt in
-      all-or (λ s. has_join s ≡ false) list i statements.Fence (all-weaker (λ s. IsTrue (is_built_statement s)) (λ s. has_join s ≡ false) built-join list built) refl
-
   -- A statement's messages are copied where it isn't one that waits for its copy.
   copied-cases : (d i : Bool) (f : MsgName → Bool) (m : MsgName) → list_all f (cond (d && i) (m ∷ []) []) ≡ not (d && (i && not (f m)))
   copied-cases true true f m = twice (f m)
@@ -194,7 +166,7 @@ module _ (script : Script) (p : IsPerformed script) where
   copied-is J t i =
       let is = is_data (statement script t i) in
       let issued = done (Issued t i) J in
-      ap (λ x. list_all (λ m. done (Copied m) J) (cond (is && issued) (message t i Go ∷ []) (cond (x && done (Entered t i) J) (joins script t i) []))) (no-join t i)
+      ap (λ x. list_all (λ m. done (Copied m) J) (cond (is && issued) (message t i Go ∷ []) (cond (x && done (Entered t i) J) (joins script t i) []))) (no-join script p t i)
       ∙ copied-cases is issued (λ m. done (Copied m) J) (message t i Go)
 
   pub idle-is : (t : ℕ) (task : Task) (r : Run) → HoldsFor script t task r.journal → is_idle script no_rules r t ≡ (length task.uncopied.items == 0)
