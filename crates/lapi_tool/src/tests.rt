@@ -1,3 +1,5 @@
+mod plain;
+
 use crate::run;
 use lapi_base::{
     Bytes, Choice, CompletionRule, CompletionRules, Entries, HeaderRule, HeaderRules, Place,
