@@ -8,14 +8,14 @@ use Rattle.lapi_base.specs.declared.statement.Statement.TheVariants.{Store, Wait
 use Rattle.lapi_base.specs.declared.script.Script.{Script}
 use Rattle.lapi_base.specs.declared.rule.Rules.{Rules}
 use Rattle.lapi_base.specs.declared.message.Leg.{Leg}
-use Rattle.lapi_base.specs.declared.message.Leg.TheVariants.{Go, Back, Note, Join}
+use Rattle.lapi_base.specs.declared.message.Leg.TheVariants.{Go, Back, Note, Echo, Join}
 use Rattle.lapi_base.specs.declared.message.MsgName.{MsgName}
 use Rattle.lapi_base.specs.declared.event.Event.{Event}
 use Rattle.lapi_base.specs.declared.event.Event.TheVariants.{Issue, Refuse, Enter, Pass, Copy, Head, Land, Begin, End}
 use Rattle.lapi_base.specs.Below.{every_below}
 use Rattle.lapi_base.specs.Names.{message, name_eq, leg_eq, Deed, Issued, Entered, Copied, Headed, Landed, Begun, Ended, deed, done}
 use Rattle.lapi_base.specs.Operations.{statements, statement, is_data, is_am, has_back, has_leg, cmpl_counter, receiver}
-use Rattle.lapi_base.specs.Handlers.{has_completion}
+use Rattle.lapi_base.specs.Handlers.{has_completion, answers}
 use Rattle.lapi_base.specs.Counters.{count}
 use Rattle.lapi_base.specs.Refusals.{next, partner, joined, why}
 use Rattle.lapi_base.specs.Jobs.{queue, runs}
@@ -52,7 +52,7 @@ module _ (script : Script) (rules : Rules) where
   has_statement a i = nat_lt a script.tasks && nat_lt i (length (statements script a))
 
   abbrev pub has_message : MsgName → Bool
-  has_message m = has_statement m.origin m.statement && has_leg script m.origin m.leg (statement script m.origin m.statement)
+  has_message m = has_statement m.origin m.statement && has_leg script (answers script rules m.origin m.statement) m.origin m.leg (statement script m.origin m.statement)
 
   abbrev pub has_job : MsgName → (task worker : ℕ) → Bool
   has_job m t w = (has_message m && (leg_eq m.leg Go && is_am (statement script m.origin m.statement))) && (receiver script m == t && (nat_lt t script.tasks && nat_lt w script.workers))
@@ -79,18 +79,20 @@ module _ (script : Script) (rules : Rules) where
   abbrev pub to_follow : ℕ → ℕ → List Deed
   to_follow a i = only_if (has_completion script rules a i) (Begun (message a i Go) ∷ Ended (message a i Go) ∷ []) ++ to_begin a i
 
-  -- all of them: a Back follows where the data come back, a Note where a completion counter is named
+  -- all of them: a Back follows where the data come back, an Echo where the operation answers, and else a Note where a completion counter is named
   abbrev pub chain : ℕ → ℕ → List Deed
   chain a i =
       to_follow a i
       ++ only_if (has_back (statement script a i)) (Copied (message a i Back) ∷ Landed (message a i Back) ∷ [])
-      ++ only_if (is_some (cmpl_counter (statement script a i))) (Copied (message a i Note) ∷ Landed (message a i Note) ∷ [])
+      ++ only_if (is_some (cmpl_counter (statement script a i)) && not (answers script rules a i)) (Copied (message a i Note) ∷ Landed (message a i Note) ∷ [])
+      ++ only_if (answers script rules a i) (Copied (message a i Echo) ∷ Landed (message a i Echo) ∷ [])
 
   abbrev pub copy_needs : ℕ → ℕ → Leg → List Deed
   copy_needs a i Go = Issued a i ∷ []
   copy_needs a i (Join d) = Entered a i ∷ []
   copy_needs a i Back = to_follow a i
   copy_needs a i Note = to_follow a i
+  copy_needs a i Echo = to_follow a i
 
   abbrev pub land_needs : ℕ → ℕ → Leg → List Deed
   land_needs a i Go = to_land a i
@@ -102,7 +104,7 @@ module _ (script : Script) (rules : Rules) where
   needs (Headed m) = Issued m.origin m.statement ∷ Copied m ∷ []
   needs (Landed m) = land_needs m.origin m.statement m.leg
   needs (Begun m) = Landed m ∷ to_land m.origin m.statement
-  needs (Ended m) = Begun m ∷ Landed m ∷ to_land m.origin m.statement
+  needs (Ended m) = only_if (has_completion script rules m.origin m.statement) (Begun m ∷ []) ++ Landed m ∷ to_land m.origin m.statement
   needs _ = []
 
   -- the data of operation a.i have landed

@@ -16,7 +16,7 @@ use Rattle.lapi_base.specs.Values.{values}
 use Rattle.lapi_base.specs.Counters.{count, reads}
 use Rattle.lapi_base.specs.Refusals.{next, joined, why}
 use Rattle.lapi_base.specs.Jobs.{queue, runs}
-use Rattle.lapi_base.specs.Record.{Run, out, base, data_done, data_clear, ready, copy_each, packets, fresh, stale}
+use Rattle.lapi_base.specs.Record.{Run, out, base, data_done, data_clear, ready, copy_each, packets, stale, sends}
 use Rattle.lapi_base.specs.Seen.{IsRecord, performed}
 use Rattle.lapi_base.specs.TaskPart.{place_of, place_of_deed, events_at, part_at, actor}
 
@@ -27,7 +27,7 @@ module _ (script : Script) (rules : Rules) where
 
   -- what a Poll of t puts on its wire to b, and what a Tick does
   abbrev pub polled : Run → (from to : ℕ) → List Packet
-  polled r t b = packets script rules (copied r t) t b (fresh script rules r (copied r t) t b)
+  polled r t b = sends script rules r (copied r t) t b
 
   abbrev pub ticked : Run → (from to : ℕ) → List Packet
   ticked r t b = packets script rules r.journal t b (stale script rules r t b)

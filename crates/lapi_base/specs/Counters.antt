@@ -6,7 +6,7 @@ use Rattle.lapi_base.specs.declared.statement.Statement.TheVariants.{Wait, Set, 
 use Rattle.lapi_base.specs.declared.script.Script.{Script}
 use Rattle.lapi_base.specs.declared.rule.Rules.{Rules}
 use Rattle.lapi_base.specs.declared.message.Leg.{Leg}
-use Rattle.lapi_base.specs.declared.message.Leg.TheVariants.{Go, Back, Note, Join}
+use Rattle.lapi_base.specs.declared.message.Leg.TheVariants.{Go, Back, Note, Echo, Join}
 use Rattle.lapi_base.specs.declared.message.MsgName.{MsgName}
 use Rattle.lapi_base.specs.declared.event.Event.{Event}
 use Rattle.lapi_base.specs.declared.event.Event.TheVariants.{Issue, Pass, Copy, Land, End}
@@ -29,6 +29,7 @@ module _ (script : Script) (rules : Rules) where
   land_tells m Go s t c = (not (has_back s) && not (has_completion script rules m.origin m.statement)) && is_counter (tgt_counter s) (target script m.origin m.statement) t c
   land_tells m Back s t c = is_counter (org_counter s) m.origin t c
   land_tells m Note s t c = is_counter (cmpl_counter s) m.origin t c
+  land_tells m Echo s t c = is_counter (cmpl_counter s) m.origin t c
   land_tells m (Join d) s t c = false
 
   unfoldable pub tells : Event → (t c : ℕ) → Bool

@@ -12,6 +12,7 @@ use Rattle.lapi_base.specs.declared.message.Leg.TheVariants.{Join}
 use Rattle.lapi_base.specs.Below.{every_below}
 use Rattle.lapi_base.specs.Names.{Issued, Entered, Copied, done}
 use Rattle.lapi_base.specs.Operations.{statement, is_data, has_leg}
+use Rattle.lapi_base.specs.Handlers.{answers}
 use Rattle.lapi_base.specs.Jobs.{queue, runs}
 use Rattle.lapi_base.specs.Record.{Run, is_sent, is_delivered, is_acked, ready, fresh, after}
 use Rattle.lapi_base.specs.Atomic.{chain, join_chain}
@@ -33,25 +34,30 @@ is_empty [] = true
 is_empty (x ∷ xs) = false
 
 module _ (script : Script) (rules : Rules) where
-  -- no job waits or runs, and a Poll of any task would add nothing
+  -- no job waits or runs, and a Poll of any task would copy nothing and send no data
   pub record Resting (r : Run) : Type 0 where
     pub none_waits : (t : ℕ) → t < script.tasks → queue script rules r.journal t ≡ []
     pub none_runs : (t w : ℕ) → t < script.tasks → w < script.workers → runs r.journal t w ≡ None
     pub no_copy : (t : ℕ) → t < script.tasks → list_all (λ m. done (Copied m) r.journal) (ready script r.journal t) ≡ true
     pub no_entry : (a b : ℕ) → a < script.tasks → b < script.tasks → fresh script rules r r.journal a b ≡ []
 
+  -- nor would a Poll acknowledge anything
+  abbrev pub NoneOwed : Run → Type 0
+  NoneOwed r = (a b : ℕ) → a < script.tasks → b < script.tasks → r.owed a b ≡ false
+
   pub record Quiet (r : Run) : Type 0 where
     pub acked : (a b n : ℕ) → is_sent r a b n ≡ true → is_acked r a b n ≡ true
     pub resting : Resting r
+    pub none_owed : NoneOwed r
 
   -- The same as a test, over the tasks and the workers that there are.
   abbrev pub is_told : Run → (from to : ℕ) → Packet → Bool
   is_told r a b (Data p) = is_acked r a b p.seq
   is_told r a b (Ack from to base bits) = true
 
-  -- all that is on the wire from a to b is acknowledged, and a Poll would add nothing to it
+  -- all that is on the wire from a to b is acknowledged, a Poll would add nothing to it, and no acknowledgement is owed on the link
   unfoldable pub is_settled : Run → (from to : ℕ) → Bool
-  is_settled r a b = list_all (is_told r a b) (r.wire a b) && is_empty (fresh script rules r r.journal a b)
+  is_settled r a b = list_all (is_told r a b) (r.wire a b) && is_empty (fresh script rules r r.journal a b) && not (r.owed a b)
 
   -- no job of task t waits or runs, and a Poll would copy nothing
   unfoldable pub is_idle : Run → (task : ℕ) → Bool
@@ -70,11 +76,12 @@ module _ (script : Script) (rules : Rules) where
     pub delivered : (a b n : ℕ) → is_sent r a b n ≡ true → is_delivered r a b n ≡ true
     pub told : (a b : ℕ) → WasHanded r a b (last_ack (r.wire a b))
     pub resting : Resting r
+    pub none_owed : NoneOwed r
 
   -- every issued data operation has all its events, and every entered statement has all of its Joins
   pub record Final (J : List Event) : Type 0 where
     pub operations : (a i : ℕ) → is_data (statement script a i) ≡ true → done (Issued a i) J ≡ true → list_all (λ d. done d J) (chain script rules a i) ≡ true
-    pub entered : (a i d : ℕ) → done (Entered a i) J ≡ true → has_leg script a (Join d) (statement script a i) ≡ true → list_all (λ x. done x J) (join_chain a i d) ≡ true
+    pub entered : (a i d : ℕ) → done (Entered a i) J ≡ true → has_leg script (answers script rules a i) a (Join d) (statement script a i) ≡ true → list_all (λ x. done x J) (join_chain a i d) ≡ true
 
   -- Laws of every record: once everything is delivered it is quiet; then its journal is final; and from then on no line but a Step adds an event.
   abbrev pub DeliveredIsQuiet : Run → Type 0

@@ -1,19 +1,20 @@
 -- Formats as data: fields in order, each with its size and its rule, what bytes spell such a format, and where
 -- bytes that don't are refused first. All laws of a format are proved over these words. They are this project's own.
 use Rattle.std.specs.Prelude.{◌≡◌, ℕ, zero, suc, ◌+◌, ◌-◌, ◌^◌, ◌<◌, Bool, true, IsTrue, IsFalse, ◌⊎◌, List, [], ◌∷◌, ◌++◌, length, take, drop, Result, Ok, Err, nat_lt, if◌then◌else◌}
-use Rattle.std.specs.Int.{Width, w8, w16, w32, byte_len, to_be_bytes, from_be_bytes}
+use Rattle.std.specs.Int.{Width, w8, w16, w32, w64, byte_len, to_be_bytes, from_be_bytes}
 use Rattle.lapi_base.specs.declared.reply.Bad.{Bad}
 use Rattle.lapi_base.specs.declared.reply.Reason.{Reason}
 use Rattle.lapi_base.specs.declared.reply.Reason.TheVariants as reasons
 
 -- the bytes of a field
 pub data Size : Type 0 where
-  One Two Four : Size
+  One Two Four Eight : Size
 
 abbrev pub width : Size → Width
 width One = w8
 width Two = w16
 width Four = w32
+width Eight = w64
 
 abbrev pub byte_count : Size → ℕ
 byte_count size = byte_len (width size)

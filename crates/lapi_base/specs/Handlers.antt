@@ -1,7 +1,7 @@
 -- What header and completion handlers answer, by their rules, and what follows for an active message: its
 -- buffer, whether it has a completion, and the effect. That a header handler names buffer, completion handler and
 -- user value follows the RSCT LAPI Programming Guide, SA22-7936, in outline; the rules are this project's own.
-use Rattle.std.specs.Prelude.{ℕ, ◌+◌, ◌*◌, ◌%◌, ◌/◌, ◌^◌, nat_le, nat_lt, Bool, cond, ◌&&◌, List, [], ◌∷◌, length, take, drop, reverse, slice_index_or, Option, Some, None, unwrap_or, is_some}
+use Rattle.std.specs.Prelude.{ℕ, ◌+◌, ◌*◌, ◌%◌, ◌/◌, ◌^◌, ◌==◌, nat_le, nat_lt, Bool, true, false, cond, ◌&&◌, List, [], ◌∷◌, length, take, drop, reverse, slice_index_or, Option, Some, None, unwrap_or, is_some}
 use Rattle.std.specs.List.{sum, fold}
 use Rattle.lapi_base.specs.declared.span.Span.{Span}
 use Rattle.lapi_base.specs.declared.statement.Statement.{Statement}
@@ -12,7 +12,7 @@ use Rattle.lapi_base.specs.declared.message.MsgName.{MsgName}
 use Rattle.lapi_base.specs.declared.rule.Rules.{Rules}
 use Rattle.lapi_base.specs.declared.rule.HeaderRule.{HeaderRule}
 use Rattle.lapi_base.specs.declared.rule.CompletionRule.{CompletionRule}
-use Rattle.lapi_base.specs.declared.rule.CompletionRule.TheVariants.{Nothing, Sum, Same, Reversed}
+use Rattle.lapi_base.specs.declared.rule.CompletionRule.TheVariants.{Nothing, Sum, Same, Reversed, Answer}
 use Rattle.lapi_base.specs.declared.rule.Place.{Place}
 use Rattle.lapi_base.specs.declared.rule.Place.TheVariants.{PerOrigin, Fixed, Nowhere}
 use Rattle.lapi_base.specs.declared.rule.Choice.{Choice}
@@ -21,6 +21,7 @@ use Rattle.lapi_base.specs.declared.handler.HeaderIn.{HeaderIn}
 use Rattle.lapi_base.specs.declared.handler.HeaderOut.{HeaderOut}
 use Rattle.lapi_base.specs.declared.handler.Effect.{Effect}
 use Rattle.lapi_base.specs.declared.handler.Effect.TheVariants as effects
+use Rattle.lapi_base.specs.Layout.{may_answer}
 use Rattle.lapi_base.specs.Operations.{statement, is_am, message_length}
 
 -- Words are four bytes, the highest first.
@@ -62,6 +63,7 @@ completion_answer Nothing at bytes = effects.Nothing
 completion_answer Sum at bytes = effects.Word at (sum bytes % 2 ^ 32)
 completion_answer Same at bytes = effects.Same at
 completion_answer Reversed at bytes = effects.Reversed at
+completion_answer Answer at bytes = effects.Answer at (sum bytes % 2 ^ 32)
 
 -- the rules by the handlers' numbers
 abbrev pub no_rule : HeaderRule
@@ -121,10 +123,36 @@ written effects.Nothing bytes = []
 written (effects.Word at value) bytes = (at, word_bytes value) ∷ []
 written (effects.Same at) bytes = (at, bytes) ∷ []
 written (effects.Reversed at) bytes = (at, reverse bytes) ∷ []
+written (effects.Answer at value) bytes = []
 
 -- what a completion handler writes, by its rule
 abbrev pub effect : CompletionRule → (user : ℕ) → (buffer : List ℕ) → List (ℕ × List ℕ)
 effect rule at bytes = written (completion_answer rule at bytes) bytes
 
+-- the completion rule of an active message
+unfoldable pub rule_named : Script → Rules → MsgName → CompletionRule
+rule_named script rules m = completion_rule rules (unwrap_or (completion script rules m) 0)
+
 unfoldable pub effect_of : Script → Rules → MsgName → List ℕ → List (ℕ × List ℕ)
-effect_of script rules m bytes = effect (completion_rule rules (unwrap_or (completion script rules m) 0)) (user script m) bytes
+effect_of script rules m bytes = effect (rule_named script rules m) (user script m) bytes
+
+-- Operation a.i answers: its completion handler has a word for the origin, and there is a place for it.
+abbrev pub is_answer : CompletionRule → Bool
+is_answer Answer = true
+is_answer _ = false
+
+unfoldable pub answers : Script → Rules → ℕ → ℕ → Bool
+answers script rules a i =
+    let m : MsgName = record { origin = a; statement = i; leg = Go } in
+    may_answer script && has_completion script rules a i && is_answer (rule_named script rules m) && (user script m % 4 == 0 && nat_le (user script m + 4) script.memory)
+
+-- the bytes of that word, and where they go
+abbrev pub sent_back : Effect → List ℕ
+sent_back (effects.Answer at value) = word_bytes value
+sent_back _ = []
+
+unfoldable pub answer_of : Script → Rules → MsgName → List ℕ → List ℕ
+answer_of script rules m bytes = sent_back (completion_answer (rule_named script rules m) (user script m) bytes)
+
+abbrev pub answer_pieces : Script → MsgName → List Span
+answer_pieces script m = record { at = user script m; len = 4 } ∷ []

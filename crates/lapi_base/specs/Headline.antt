@@ -1,7 +1,7 @@
 -- What an atomic journal keeps, in the words of those who use it: messages land once, handlers run in order,
 -- fences wait, counters add up. These follow from the atomic machine; each is a law of this project.
-use Rattle.std.specs.Prelude.{◌≡◌, ℕ, ◌+◌, ◌<◌, ◌≤◌, ◌==◌, Bool, true, cond, List, [], ◌∷◌, ◌++◌, reverse}
-use Rattle.std.specs.List.{AllByRecursion, sum_by, count_by}
+use Rattle.std.specs.Prelude.{◌≡◌, ℕ, ◌+◌, ◌<◌, ◌≤◌, ◌==◌, ◌&&◌, Bool, true, false, cond, List, [], ◌∷◌, ◌++◌, reverse}
+use Rattle.std.specs.List.{AllByRecursion, sum_by, count_by, zip}
 use Rattle.lapi_base.specs.declared.statement.Statement.{Statement}
 use Rattle.lapi_base.specs.declared.statement.Statement.TheVariants.{Wait, Set, Fence, Gfence}
 use Rattle.lapi_base.specs.declared.script.Script.{Script}
@@ -13,11 +13,12 @@ use Rattle.lapi_base.specs.declared.event.Event.TheVariants.{Issue, Pass}
 use Rattle.lapi_base.specs.declared.schedule.Act.{Act}
 use Rattle.lapi_base.specs.declared.reply.Bad.{Bad}
 use Rattle.lapi_base.specs.declared.packet.Packet.{Packet}
+use Rattle.lapi_base.specs.Layout.{holds_back}
 use Rattle.lapi_base.specs.Names.{message, Deed, Issued, Entered, Copied, Headed, Landed, Begun, Ended, deed, deed_eq, done}
 use Rattle.lapi_base.specs.Operations.{statement, is_data, is_am}
 use Rattle.lapi_base.specs.Counters.{tells, count}
 use Rattle.lapi_base.specs.Refusals.{round_of}
-use Rattle.lapi_base.specs.Record.{Run, run_of, deliveries}
+use Rattle.lapi_base.specs.Record.{Run, run_of, deliveries, owes}
 use Rattle.lapi_base.specs.Atomic.{Atomic, data_landed}
 use Rattle.lapi_base.specs.Valid.{ValidAct}
 
@@ -123,3 +124,9 @@ abbrev pub HandedAreDeliveries : Type 0
 HandedAreDeliveries = (script : Script) (rules : Rules) (size : Packet → ℕ) (refusal : List ℕ → Bad) (acts : List Act) (a b : ℕ) →
     let r = run_of script rules size refusal acts in
     r.handed a b ≡ reverse (deliveries (r.wire a b) a b acts r.replies)
+
+-- what it tells to be owed is, where the layout holds acknowledgements back, what these lines leave owed
+abbrev pub OwedByDeliveries : Type 0
+OwedByDeliveries = (script : Script) (rules : Rules) (size : Packet → ℕ) (refusal : List ℕ → Bad) (acts : List Act) (a b : ℕ) →
+    let r = run_of script rules size refusal acts in
+    r.owed a b ≡ (holds_back script && owes (r.wire a b) a b (zip acts r.replies) false)

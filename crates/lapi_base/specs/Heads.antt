@@ -2,7 +2,7 @@
 use Rattle.std.specs.Prelude.{ℕ, ◌%◌, Bool, ◌&&◌, ◌||◌, nat_lt, nat_le, ◌==◌, if◌then◌else◌}
 use Rattle.lapi_base.specs.declared.reply.Reason.TheVariants as reasons
 use Rattle.lapi_base.specs.declared.message.Leg.{Leg}
-use Rattle.lapi_base.specs.declared.message.Leg.TheVariants.{Go, Back, Note, Join}
+use Rattle.lapi_base.specs.declared.message.Leg.TheVariants.{Go, Back, Note, Echo, Join}
 use Rattle.lapi_base.specs.declared.head.Head.{Head}
 use Rattle.lapi_base.specs.declared.head.Head.TheVariants as heads
 use Rattle.lapi_base.specs.declared.head.NoteOp.{NoteOp}
@@ -104,6 +104,12 @@ note_form op = do
   cmpl ← field One reasons.Field (λ n. nat_lt n 64)
   Done (heads.Note op cmpl)
 
+unfoldable pub echo_form : Form Head
+echo_form = do
+  dest ← word_form
+  cmpl ← counter_form
+  Done (heads.Echo dest cmpl)
+
 -- the number of a collective call
 unfoldable pub round_form : Form ℕ
 round_form = field Two reasons.Field (λ n. nat_le n 511)
@@ -124,6 +130,7 @@ abbrev pub is_operation : Leg → ℕ → Bool
 is_operation Go op = nat_le 1 op && nat_le op 6
 is_operation Back op = op == 2 || op == 4 || op == 5
 is_operation Note op = op == 1 || op == 3 || op == 6
+is_operation Echo op = op == 6
 is_operation (Join _) op = op == 7 || op == 8
 
 unfoldable pub operation_form : Leg → Form ℕ
@@ -139,4 +146,5 @@ head_form layout Go op length =
     else am_form
 head_form layout Back op length = if op == 2 then get_back_form length else if op == 4 then getv_back_form length else rmw_back_form
 head_form layout Note op length = note_form (note_of op)
+head_form layout Echo op length = echo_form
 head_form layout (Join _) op length = if op == 7 then gfence_form else addr_form

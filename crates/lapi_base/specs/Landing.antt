@@ -38,6 +38,7 @@ head_pieces (heads.Putv tgt cmpl pieces) n = pieces
 head_pieces (heads.GetBack dest org) n = one_span dest n
 head_pieces (heads.GetvBack org dest) n = dest
 head_pieces (heads.RmwBack dest org) n = one_span dest n
+head_pieces (heads.Echo dest cmpl) n = one_span dest n
 head_pieces _ n = []
 
 -- the counter that the landing announces; an active message with a completion announces its counter later
@@ -51,6 +52,7 @@ announces (heads.GetBack dest org) completion = org
 announces (heads.GetvBack org dest) completion = org
 announces (heads.RmwBack dest org) completion = org
 announces (heads.Note op cmpl) completion = Some cmpl
+announces (heads.Echo dest cmpl) completion = cmpl
 announces _ completion = None
 
 module _ (script : Script) (rules : Rules) where

@@ -5,7 +5,7 @@ use Rattle.std.specs.List.{AllByRecursion, IsDistinct}
 use Rattle.lapi_base.specs.declared.script.Script.{Script}
 use Rattle.lapi_base.specs.declared.rule.Rules.{Rules}
 use Rattle.lapi_base.specs.declared.message.MsgName.{MsgName}
-use Rattle.lapi_base.specs.Layout.{window_of}
+use Rattle.lapi_base.specs.Layout.{window_of, holds_back}
 use Rattle.lapi_base.specs.Below.{least_missing}
 use Rattle.lapi_base.specs.Names.{name_eq}
 use Rattle.lapi_base.specs.Record.{Run, out, base, is_sent, is_delivered, is_acked}
@@ -23,6 +23,10 @@ module _ (script : Script) (rules : Rules) where
   -- every number on a wire is below the least that isn't acknowledged, plus the window
   abbrev pub SentAreInWindow : Run → Type 0
   SentAreInWindow r = (a b n : ℕ) → is_sent r a b n ≡ true → n < base script r a b + window_of script
+
+  -- an acknowledgement is owed under a layout that holds them back alone, and between tasks that there are
+  abbrev pub OwedAreHeldBack : Run → Type 0
+  OwedAreHeldBack r = (a b : ℕ) → r.owed a b ≡ true → (holds_back script ≡ true) × (a < script.tasks) × (b < script.tasks)
 
   -- number n of the link is one of message m
   abbrev pub IsNumberOf : Run → (from to : ℕ) → MsgName → ℕ → Type 0

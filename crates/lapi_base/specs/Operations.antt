@@ -12,7 +12,7 @@ use Rattle.lapi_base.specs.declared.statement.Statement.{Statement}
 use Rattle.lapi_base.specs.declared.statement.Statement.TheVariants.{Store, Put, Get, Putv, Getv, Rmw, Am, Wait, Set, Read, Fence, Gfence}
 use Rattle.lapi_base.specs.declared.script.Script.{Script}
 use Rattle.lapi_base.specs.declared.message.Leg.{Leg}
-use Rattle.lapi_base.specs.declared.message.Leg.TheVariants.{Go, Back, Note, Join}
+use Rattle.lapi_base.specs.declared.message.Leg.TheVariants.{Go, Back, Note, Echo, Join}
 use Rattle.lapi_base.specs.declared.message.MsgName.{MsgName}
 use Rattle.lapi_base.specs.Below.{below}
 use Rattle.lapi_base.specs.Layout.{unit_of}
@@ -175,12 +175,14 @@ from_by a b Go = a
 from_by a b (Join d) = a
 from_by a b Back = b
 from_by a b Note = b
+from_by a b Echo = b
 
 abbrev pub to_by : (origin target : ℕ) → Leg → ℕ
 to_by a b Go = b
 to_by a b (Join d) = d
 to_by a b Back = a
 to_by a b Note = a
+to_by a b Echo = a
 
 abbrev pub sender : Script → MsgName → ℕ
 sender script m = from_by m.origin (target script m.origin m.statement) m.leg
@@ -195,6 +197,7 @@ length_by Go (Am target handler header from len tgt org cmpl) = len
 length_by Back (Get target from to len tgt org) = len
 length_by Back (Getv target from to tgt org) = total (pieces_of from)
 length_by Back (Rmw target op at in1 in2 prev org) = 4
+length_by Echo s = 4
 length_by _ _ = 0
 
 unfoldable pub message_length : Script → MsgName → ℕ
@@ -207,9 +210,10 @@ fragment_count script m = fragments_in (unit_of script) (message_length script m
 unfoldable pub fragments : Script → MsgName → List (MsgName × ℕ)
 fragments script m = map (λ j. (m, j)) (upto (fragment_count script m))
 
--- a message is one that its statement has
-abbrev pub has_leg : Script → (origin : ℕ) → Leg → Statement → Bool
-has_leg script a Go s = is_data s
-has_leg script a Back s = has_back s
-has_leg script a Note s = is_some (cmpl_counter s)
-has_leg script a (Join d) s = has_join s && (nat_lt d script.tasks && not (d == a))
+-- a message is one that its statement has; a statement that answers has an Echo and no Note
+abbrev pub has_leg : Script → (answers : Bool) → (origin : ℕ) → Leg → Statement → Bool
+has_leg script answers a Go s = is_data s
+has_leg script answers a Back s = has_back s
+has_leg script answers a Note s = is_some (cmpl_counter s) && not answers
+has_leg script answers a Echo s = answers
+has_leg script answers a (Join d) s = has_join s && (nat_lt d script.tasks && not (d == a))

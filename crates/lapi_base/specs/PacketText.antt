@@ -31,6 +31,7 @@ head_name (heads.GetvBack _ _) = codes "getv"
 head_name (heads.RmwGo _ _ _ _ _ _) = codes "rmw"
 head_name (heads.RmwBack _ _) = codes "rmw"
 head_name (heads.Am _ _ _ _) = codes "am"
+head_name (heads.Echo _ _) = codes "am"
 head_name (heads.Note op _) = note_name op
 head_name (heads.Gfence _) = codes "gfence"
 head_name (heads.Addr _ _) = codes "addr"
@@ -57,6 +58,7 @@ head_text (heads.RmwGo op at in1 in2 prev org) =
 head_text (heads.RmwBack dest org) = codes " dest " ++ decimal dest ++ codes " org " ++ counter_word org
 head_text (heads.Am handler tgt cmpl header) =
     codes " handler " ++ decimal handler ++ codes " tgt " ++ counter_word tgt ++ codes " cmpl " ++ counter_word cmpl ++ codes " header " ++ hex_word header
+head_text (heads.Echo dest cmpl) = codes " dest " ++ decimal dest ++ codes " cmpl " ++ counter_word cmpl
 head_text (heads.Note op cmpl) = codes " cmpl " ++ decimal cmpl
 head_text (heads.Gfence round) = codes " round " ++ decimal round
 head_text (heads.Addr round address) = codes " round " ++ decimal round ++ codes " address " ++ decimal address

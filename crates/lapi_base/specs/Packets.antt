@@ -5,7 +5,7 @@ use Rattle.lapi_base.specs.declared.statement.Statement.{Statement}
 use Rattle.lapi_base.specs.declared.statement.Statement.TheVariants.{Put, Get, Putv, Getv, Rmw, Am, Gfence}
 use Rattle.lapi_base.specs.declared.script.Script.{Script}
 use Rattle.lapi_base.specs.declared.message.Leg.{Leg}
-use Rattle.lapi_base.specs.declared.message.Leg.TheVariants.{Go, Back, Note, Join}
+use Rattle.lapi_base.specs.declared.message.Leg.TheVariants.{Go, Back, Note, Echo, Join}
 use Rattle.lapi_base.specs.declared.message.MsgName.{MsgName}
 use Rattle.lapi_base.specs.declared.head.Head.{Head}
 use Rattle.lapi_base.specs.declared.head.NoteOp.{NoteOp}
@@ -14,6 +14,7 @@ use Rattle.lapi_base.specs.declared.packet.Packet.TheVariants.{Data}
 use Rattle.lapi_base.specs.Layout.{unit_of}
 use Rattle.lapi_base.specs.Fragments.{fragment_bytes}
 use Rattle.lapi_base.specs.Operations.{statement, address, spans, pieces_of, target, sender, receiver, message_length, cmpl_counter}
+use Rattle.lapi_base.specs.Handlers.{user}
 use Rattle.lapi_base.specs.Refusals.{round_of}
 
 abbrev pub note_op : Statement → NoteOp
@@ -41,6 +42,7 @@ module _ (script : Script) (m : MsgName) where
   head_by Back (Get target from to len tgt org) = Head.GetBack to org
   head_by Back (Getv target from to tgt org) = Head.GetvBack org (spans script peer (pieces_of to))
   head_by Back (Rmw target op at in1 in2 prev org) = Head.RmwBack prev org
+  head_by Echo s = Head.Echo (user script m) (cmpl_counter s)
   head_by Note s = Head.Note (note_op s) (unwrap_or (cmpl_counter s) 0)
   head_by (Join d) Gfence = Head.Gfence round
   head_by (Join d) (Statement.Addr at) = Head.Addr round at

@@ -50,6 +50,7 @@ module _ (script : Script) where
   HeadFits rules n (heads.RmwGo op at in1 in2 prev org) = IsWord at × IsWord prev × NamesCounter org
   HeadFits rules n (heads.RmwBack dest org) = IsWord dest × NamesCounter org
   HeadFits rules n (heads.Am handler tgt cmpl header) = (handler < length rules.headers) × NamesCounter tgt × NamesCounter cmpl
+  HeadFits rules n (heads.Echo dest cmpl) = IsWord dest × NamesCounter cmpl
   HeadFits rules n (heads.Note op cmpl) = cmpl < script.counters
   HeadFits rules n (heads.Gfence round) = round ≤ 511
   HeadFits rules n (heads.Addr round address) = (round ≤ 511) × (address ≤ script.memory)

@@ -7,7 +7,7 @@ use Rattle.lapi_base.specs.declared.statement.Statement.{Statement}
 use Rattle.lapi_base.specs.declared.statement.Statement.TheVariants.{Wait, Fence, Gfence}
 use Rattle.lapi_base.specs.declared.script.Script.{Script}
 use Rattle.lapi_base.specs.declared.rule.Rules.{Rules}
-use Rattle.lapi_base.specs.declared.message.Leg.TheVariants.{Go, Back, Note, Join}
+use Rattle.lapi_base.specs.declared.message.Leg.TheVariants.{Go, Back, Note, Echo, Join}
 use Rattle.lapi_base.specs.declared.message.MsgName.{MsgName}
 use Rattle.lapi_base.specs.declared.event.Event.{Event}
 use Rattle.lapi_base.specs.declared.event.Event.TheVariants.{Issue, Refuse, Enter, Pass, Copy, Head, Land}
@@ -20,26 +20,27 @@ use Rattle.lapi_base.specs.declared.reply.Reply.{Reply}
 use Rattle.lapi_base.specs.declared.reply.Reply.TheVariants.{Did, Blocked, Absent, Idle, Busy}
 use Rattle.lapi_base.specs.declared.packet.Packet.{Packet}
 use Rattle.lapi_base.specs.declared.packet.Packet.TheVariants.{Data, Ack}
-use Rattle.lapi_base.specs.Layout.{window_of}
+use Rattle.lapi_base.specs.Layout.{window_of, holds_back}
 use Rattle.lapi_base.specs.Below.{every_below, below, least_missing, has_bit, bits_of}
 use Rattle.lapi_base.specs.Names.{message, name_eq, leg_eq, Issued, Entered, Copied, Landed, done}
 use Rattle.lapi_base.specs.Operations.{upto, statements, statement, is_data, is_am, has_back, has_join, cmpl_counter, sender, receiver, fragments}
-use Rattle.lapi_base.specs.Handlers.{has_completion}
+use Rattle.lapi_base.specs.Handlers.{has_completion, answers}
 use Rattle.lapi_base.specs.Values.{values}
 use Rattle.lapi_base.specs.Counters.{count}
 use Rattle.lapi_base.specs.Refusals.{next, joined, why}
 use Rattle.lapi_base.specs.Jobs.{queue, runs}
 use Rattle.lapi_base.specs.Packets.{data_packet}
 
--- After some lines: the replies in order, each wire's entries in order, those handed over on each wire (the latest first), and the journal (the latest first).
+-- After some lines: the replies in order, each wire's entries in order, those handed over on each wire (the latest first), whether the receiver owes an acknowledgement of them, and the journal (the latest first).
 pub record Run : Type 0 where
   pub replies : List Reply
   pub wire : (from to : ℕ) → List Packet
   pub handed : (from to : ℕ) → List Packet
+  pub owed : (from to : ℕ) → Bool
   pub journal : List Event
 
 abbrev pub start : Run
-start = record { replies = []; wire = λ a b. []; handed = λ a b. []; journal = [] }
+start = record { replies = []; wire = λ a b. []; handed = λ a b. []; owed = λ a b. false; journal = [] }
 
 -- Numbers on a link.
 
@@ -142,12 +143,26 @@ module _ (script : Script) (rules : Rules) where
   abbrev pub reply_with : Run → Reply → Run
   reply_with r reply = record r { replies = r.replies ++ reply ∷ [] }
 
+  -- the acknowledgement of what was delivered on the link from a to b, and the one that b owes to a, if it owes one
+  unfoldable pub ack : Run → (from to : ℕ) → Packet
+  ack r a b =
+      let least = least_missing (length (out script r.journal a b)) (is_delivered r a b) in
+      Ack b a least (bits_of (window_of script) (λ i. is_delivered r a b (least + i)))
+
+  unfoldable pub owed_ack : Run → (from to : ℕ) → List Packet
+  owed_ack r a b = cond (r.owed a b) (ack r a b ∷ []) []
+
+  -- so a Poll puts on the wire from a to b its new numbers, and then what a owes to b
+  abbrev pub sends : Run → List Event → (from to : ℕ) → List Packet
+  sends r J a b = packets J a b (fresh r J a b) ++ owed_ack r b a
+
   unfoldable pub poll : Run → ℕ → Run
   poll r t =
       let J = copy_each r.journal (ready script r.journal t) in record {
         replies = r.replies ++ Did ∷ [];
-        wire = λ a b. cond (a == t) (r.wire a b ++ packets J a b (fresh r J a b)) (r.wire a b);
+        wire = λ a b. cond (a == t) (r.wire a b ++ sends r J a b) (r.wire a b);
         handed = r.handed;
+        owed = λ a b. not (b == t) && r.owed a b;
         journal = J;
       }
 
@@ -160,6 +175,7 @@ module _ (script : Script) (rules : Rules) where
     replies = r.replies ++ Did ∷ [];
     wire = λ a b. cond (a == t) (r.wire a b ++ packets r.journal a b (stale r a b)) (r.wire a b);
     handed = r.handed;
+    owed = r.owed;
     journal = r.journal;
   }
 
@@ -182,17 +198,18 @@ module _ (script : Script) (rules : Rules) where
       cond (is_am (statement script m.origin m.statement) && leg_eq m.leg Go && not (some_number script pairs m (is_delivered r a b))) (Head m ∷ []) []
       ++ cond (all_numbers script pairs m (λ k. k == n || is_delivered r a b k)) (Land m ∷ after_land m) []
 
-  -- the acknowledgement of what was delivered on the link from a to b
-  unfoldable pub ack : Run → (from to : ℕ) → Packet
-  ack r a b =
-      let least = least_missing (length (out script r.journal a b)) (is_delivered r a b) in
-      Ack b a least (bits_of (window_of script) (λ i. is_delivered r a b (least + i)))
-
   abbrev pub with_handed : Run → (from to : ℕ) → Packet → Run
   with_handed r a b p = record r { handed = λ x y. cond (x == a && y == b) (p ∷ r.handed x y) (r.handed x y) }
 
-  abbrev pub with_entry : Run → (from to : ℕ) → Packet → Run
-  with_entry r a b p = record r { wire = λ x y. cond (x == a && y == b) (r.wire x y ++ p ∷ []) (r.wire x y) }
+  -- by the layout an acknowledgement goes out at once, or is owed until the receiver's next Poll
+  unfoldable pub at_once : Packet → List Packet
+  at_once told = cond (holds_back script) [] (told ∷ [])
+
+  abbrev pub with_ack : Run → (from to : ℕ) → Packet → Run
+  with_ack r a b told = record r {
+    wire = λ x y. cond (x == b && y == a) (r.wire x y ++ at_once told) (r.wire x y);
+    owed = λ x y. (holds_back script && (x == a && y == b)) || r.owed x y;
+  }
 
   abbrev pub with_events : Run → List Event → Run
   with_events r es = record r { journal = followed r.journal es }
@@ -202,7 +219,7 @@ module _ (script : Script) (rules : Rules) where
   hand_over r a b (Data p) =
       let s = with_handed r a b (Data p) in
       let t = with_events s (cond (is_delivered r a b p.seq) [] (arrival r a b p.name p.seq)) in
-      with_entry t b a (ack s a b)
+      with_ack t a b (ack s a b)
 
   abbrev pub deliver_entry : Run → (from to : ℕ) → Option Packet → Run
   deliver_entry r a b None = reply_with r Absent
@@ -255,9 +272,13 @@ module _ (script : Script) (rules : Rules) where
   unfoldable pub begin : Run → (task worker : ℕ) → Run
   begin r t w = begin_at r t w (runs r.journal t w)
 
+  -- what follows the end of a job: the answer, if there is one, or the notice
+  abbrev pub after_end : MsgName → List Event
+  after_end m = cond (answers script rules m.origin m.statement) (Copy (message m.origin m.statement Echo) ∷ []) (note_of m)
+
   abbrev pub end_at : Run → (task worker : ℕ) → Option MsgName → Run
   end_at r t w None = reply_with r Idle
-  end_at r t w (Some m) = reply_with (with_events r (Event.End m t w ∷ note_of m)) Did
+  end_at r t w (Some m) = reply_with (with_events r (Event.End m t w ∷ after_end m)) Did
 
   unfoldable pub end : Run → (task worker : ℕ) → Run
   end r t w = end_at r t w (runs r.journal t w)
@@ -298,3 +319,17 @@ handed_by wire a b _ reply = []
 -- and of all lines, in order
 unfoldable pub deliveries : (wire : List Packet) → (from to : ℕ) → List Act → List Reply → List Packet
 deliveries wire a b acts replies = flat_map (λ (line : Act × Reply). handed_by wire a b line.0 line.1) (zip acts replies)
+
+-- Whether b owes an acknowledgement to a: it was handed a data packet from a, and hasn't polled since.
+abbrev pub is_numbered : Packet → Bool
+is_numbered (Data p) = true
+is_numbered (Ack from to base bits) = false
+
+abbrev pub owes_by : (wire : List Packet) → (from to : ℕ) → Act → Reply → (before : Bool) → Bool
+owes_by wire a b (Poll t) reply before = not (b == t) && before
+owes_by wire a b act reply before = list_any is_numbered (handed_by wire a b act reply) || before
+
+-- and after all lines, in order
+unfoldable pub owes : (wire : List Packet) → (from to : ℕ) → List (Act × Reply) → (before : Bool) → Bool
+owes wire a b [] before = before
+owes wire a b (line ∷ lines) before = owes wire a b lines (owes_by wire a b line.0 line.1 before)

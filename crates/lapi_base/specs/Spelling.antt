@@ -5,7 +5,7 @@ use Rattle.std.specs.Int.{div_ceil}
 use Rattle.lapi_base.specs.declared.reply.Bad.{Bad}
 use Rattle.lapi_base.specs.declared.reply.Reason.TheVariants as reasons
 use Rattle.lapi_base.specs.declared.message.Leg.{Leg}
-use Rattle.lapi_base.specs.declared.message.Leg.TheVariants.{Go, Back, Note, Join}
+use Rattle.lapi_base.specs.declared.message.Leg.TheVariants.{Go, Back, Note, Echo, Join}
 use Rattle.lapi_base.specs.declared.message.MsgName.{MsgName}
 use Rattle.lapi_base.specs.declared.packet.Packet.{Packet}
 use Rattle.lapi_base.specs.declared.packet.Packet.TheVariants as packets
@@ -49,9 +49,9 @@ is_leg from to origin n =
     else if n == 3 then origin == to
     else n == 4 && origin == from && not (from == to)
 
--- 1 Go, 2 Back, 3 Note, 4 Join
+-- 1 Go, 2 Back, 3 Note, 4 Join, 5 Echo
 abbrev pub leg_of : ℕ → ℕ → Leg
-leg_of to n = if n == 1 then Go else if n == 2 then Back else if n == 3 then Note else Join to
+leg_of to n = if n == 1 then Go else if n == 2 then Back else if n == 3 then Note else if n == 5 then Echo else Join to
 
 unfoldable pub leg_form : ℕ → ℕ → ℕ → Form Leg
 leg_form from to origin = do
@@ -70,6 +70,7 @@ abbrev pub is_length : Layout → Leg → ℕ → ℕ → Bool
 is_length layout Go op n = if op == 2 || op == 4 || op == 5 then n == 0 else nat_le n (longest layout)
 is_length layout Back op n = if op == 5 then n == 4 else nat_le n (longest layout)
 is_length layout Note op n = n == 0
+is_length layout Echo op n = n == 4
 is_length layout (Join _) op n = n == 0
 
 unfoldable pub length_form : Layout → Leg → ℕ → Form ℕ

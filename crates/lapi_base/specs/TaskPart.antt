@@ -22,11 +22,12 @@ actor (Inject a b bytes) = b
 actor (Act.Begin t w) = t
 actor (Act.End t w) = t
 
--- The events at the task, the newest first; the entries that it put on the wire to each task, in order; and what was handed to it from each task, the latest first.
+-- The events at the task, the newest first; the entries that it put on the wire to each task, in order; what was handed to it from each task, the latest first; and whether it owes an acknowledgement of that.
 pub record Part : Type 0 where
   pub events : List Event
   pub put : (to : ℕ) → List Packet
   pub handed : (from : ℕ) → List Packet
+  pub owed : (from : ℕ) → Bool
 
 module _ (script : Script) where
   -- the task whose event it is: a Copy is the sender's, a Head and a Land the receiver's
@@ -60,4 +61,4 @@ module _ (script : Script) where
   events_at t J = filter (is_at t) J
 
   unfoldable pub part_at : ℕ → Run → Part
-  part_at t r = record { events = events_at t r.journal; put = λ b. r.wire t b; handed = λ a. r.handed a t }
+  part_at t r = record { events = events_at t r.journal; put = λ b. r.wire t b; handed = λ a. r.handed a t; owed = λ a. r.owed a t }

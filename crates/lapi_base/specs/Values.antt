@@ -10,13 +10,13 @@ use Rattle.lapi_base.specs.declared.statement.Statement.TheVariants.{Store, Rmw}
 use Rattle.lapi_base.specs.declared.script.Script.{Script}
 use Rattle.lapi_base.specs.declared.rule.Rules.{Rules}
 use Rattle.lapi_base.specs.declared.message.Leg.{Leg}
-use Rattle.lapi_base.specs.declared.message.Leg.TheVariants.{Go, Back, Note, Join}
+use Rattle.lapi_base.specs.declared.message.Leg.TheVariants.{Go, Back, Note, Echo, Join}
 use Rattle.lapi_base.specs.declared.message.MsgName.{MsgName}
 use Rattle.lapi_base.specs.declared.event.Event.{Event}
 use Rattle.lapi_base.specs.declared.event.Event.TheVariants.{Issue, Copy, Land, Begin, End}
 use Rattle.lapi_base.specs.Names.{message, name_eq}
 use Rattle.lapi_base.specs.Operations.{upto, statement, spans, target, target_pieces, origin_pieces, receiver, is_am, is_rmw, has_back}
-use Rattle.lapi_base.specs.Handlers.{number_of, word_bytes, buffer, effect_of}
+use Rattle.lapi_base.specs.Handlers.{number_of, word_bytes, buffer, effect_of, answer_of, answer_pieces}
 
 -- all memories: the byte of each task at each place
 abbrev pub Memories : Type 0
@@ -75,6 +75,7 @@ module _ (script : Script) (rules : Rules) where
       (scattered (at_target m.origin m.statement) (word_bytes (new_word s (number_of (gathered v.memory (target script m.origin m.statement) (at_target m.origin m.statement))))))
       (cond (has_back s) [] (scattered (at_target m.origin m.statement) (v.bytes m))))
   land_writes v m Note s = []
+  land_writes v m Echo s = scattered (answer_pieces script m) (v.bytes m)
   land_writes v m (Join d) s = []
 
   abbrev pub store_writes : Statement → List Write
@@ -99,6 +100,7 @@ module _ (script : Script) (rules : Rules) where
   source_by v m Go s = cond (has_back s) [] (gathered v.memory m.origin (at_origin m.origin m.statement))
   source_by v m Back s = cond (is_rmw s) (v.bytes m) (gathered v.memory (target script m.origin m.statement) (at_target m.origin m.statement))
   source_by v m Note s = []
+  source_by v m Echo s = let go = message m.origin m.statement Go in answer_of script rules go (v.held go)
   source_by v m (Join d) s = []
 
   abbrev pub with_bytes : Values → MsgName → List ℕ → MsgName → List ℕ

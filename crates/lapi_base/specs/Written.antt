@@ -13,7 +13,7 @@ use Rattle.lapi_base.specs.declared.span.Span.{Span}
 use Rattle.lapi_base.specs.declared.head.NoteOp.{NoteOp}
 use Rattle.lapi_base.specs.declared.head.NoteOp.TheVariants as notes
 use Rattle.lapi_base.specs.declared.message.Leg.{Leg}
-use Rattle.lapi_base.specs.declared.message.Leg.TheVariants.{Go, Back, Note, Join}
+use Rattle.lapi_base.specs.declared.message.Leg.TheVariants.{Go, Back, Note, Echo, Join}
 use Rattle.lapi_base.specs.declared.statement.RmwOp.{RmwOp}
 use Rattle.lapi_base.specs.declared.statement.RmwOp.TheVariants as updates
 
@@ -23,6 +23,7 @@ leg_number Go = 1
 leg_number Back = 2
 leg_number Note = 3
 leg_number (Join _) = 4
+leg_number Echo = 5
 
 abbrev pub note_number : NoteOp → ℕ
 note_number notes.Put = 1
@@ -40,6 +41,7 @@ head_number (heads.GetvBack _ _) = 4
 head_number (heads.RmwGo _ _ _ _ _ _) = 5
 head_number (heads.RmwBack _ _) = 5
 head_number (heads.Am _ _ _ _) = 6
+head_number (heads.Echo _ _) = 6
 head_number (heads.Note op _) = note_number op
 head_number (heads.Gfence _) = 7
 head_number (heads.Addr _ _) = 8
@@ -85,6 +87,7 @@ head (heads.GetvBack org dest) = counter org ++ one (length dest) ++ spans dest
 head (heads.RmwGo op at in1 in2 prev org) = one (update_number op) ++ four at ++ four in1 ++ four in2 ++ four prev ++ counter org
 head (heads.RmwBack dest org) = four dest ++ counter org
 head (heads.Am handler tgt cmpl header) = one handler ++ counter tgt ++ counter cmpl ++ one (length header) ++ header
+head (heads.Echo dest cmpl) = four dest ++ counter cmpl
 head (heads.Note op cmpl) = one cmpl
 head (heads.Gfence round) = two round
 head (heads.Addr round address) = two round ++ four address

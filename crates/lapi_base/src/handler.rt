@@ -28,4 +28,6 @@ pub enum Effect {
     Same { at: u32 },
     /// Writes them in reverse order.
     Reversed { at: u32 },
+    /// Writes nothing here, and sends a word for this address to the origin.
+    Answer { at: u32, value: u32 },
 }

@@ -63,6 +63,10 @@ pub enum Head {
         cmpl: Option<u32>,
         header: UserHeader,
     },
+    Echo {
+        dest: u32,
+        cmpl: Option<u32>,
+    },
     Note {
         op: NoteOp,
         cmpl: u32,

@@ -7,6 +7,8 @@ pub enum Leg {
     Back,
     /// Tells the origin's completion counter.
     Note,
+    /// The word that a completion handler answers, to the origin; it takes the notice's place.
+    Echo,
     /// Tells this task that the origin has entered a collective call.
     Join(u32),
 }

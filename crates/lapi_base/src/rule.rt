@@ -39,6 +39,8 @@ pub enum CompletionRule {
     Sum,
     Same,
     Reversed,
+    /// The sum, for the origin.
+    Answer,
 }
 
 /// The rules of the header handlers, by their number.

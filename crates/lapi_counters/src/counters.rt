@@ -27,6 +27,13 @@ impl Counters {
         Ok(Counters { values })
     }
 
+    /// How many counters there are.
+    pub fn count(&self) -> usize
+        ensures { result ≡ length self.now }
+    {
+        self.values.len()
+    }
+
     /// Counts one event.
     pub fn announce(&mut self, c: u32)
         requires known { c < length self.old }

@@ -9,7 +9,7 @@ use Rattle.lapi_base.specs.declared.statement.Statement.{Statement}
 use Rattle.lapi_base.specs.declared.statement.Statement.TheVariants.{Am}
 use Rattle.lapi_base.specs.declared.rule.Rules.{Rules}
 use Rattle.lapi_base.specs.declared.message.Leg.{Leg}
-use Rattle.lapi_base.specs.declared.message.Leg.TheVariants.{Go, Back, Note, Join}
+use Rattle.lapi_base.specs.declared.message.Leg.TheVariants.{Go, Back, Note, Echo, Join}
 use Rattle.lapi_base.specs.declared.message.MsgName.{MsgName}
 use Rattle.lapi_base.specs.declared.event.Event.{Event}
 use Rattle.lapi_base.specs.declared.event.Event.TheVariants.{Head, Land}
@@ -259,6 +259,7 @@ module _ (script : Script) (rules : Rules) where
       issued-by Go e h = h.0
       issued-by Back e h = absurd (cc)
       issued-by Note e h = absurd (cc)
+      issued-by Echo e h = absurd (cc)
       issued-by (Join d) e h = absurd (cc)
 
       keeps-head : head_test ≡ true → Keeps script rules J (Head p.name)
@@ -284,6 +285,7 @@ module _ (script : Script) (rules : Rules) where
           (λ e. (n.0, (c, tt)))
       land-needs J' a i Back c n h = (c, n)
       land-needs J' a i Note c n h = (c, n)
+      land-needs J' a i Echo c n h = (c, n)
       land-needs J' a i (Join d) c n h = (c, n)
 
       unlanded : has_number (handed A B) p.seq ≡ false → done (Landed p.name) J ≡ false

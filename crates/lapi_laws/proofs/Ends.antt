@@ -1,24 +1,25 @@
 -- A quiet record is final, and stays as it is while no task takes a step.
-use Rattle.std.proofs.Common.{◌≡◌, ℕ, ◌<◌, ◌==◌, true, false, cond, ◌&&◌, not, [], ◌∷◌, ◌++◌, length, Some, refl, sym, ap, ◌∙◌, subst, ⊎_elim}
+use Rattle.std.proofs.Common.{◌≡◌, ℕ, ◌<◌, ◌==◌, Bool, true, false, cond, ◌&&◌, not, [], ◌∷◌, ◌++◌, length, Some, refl, sym, ap, ◌∙◌, subst, ⊎_elim}
 use Rattle.std.specs.Prelude.{is_some}
 use Rattle.std.specs.List.{AllByRecursion, list_all}
-use Rattle.std.proofs.lemmas.Bool.{true≢false, false≢true, and_parts, and_from, both_ways, cond_both, cond-true, cond-false, eqb-true, eq-eqb, ltb-true, or_right, false_from_ne_true}
+use Rattle.std.proofs.lemmas.Bool.{true≢false, false≢true, and_parts, and_from, both_ways, cond_both, cond-true, cond-false, eqb-true, eq-eqb, ltb-true, or_right, false_from_ne_true, not-true}
 use Rattle.lapi_base.specs.declared.script.Script.{Script}
 use Rattle.lapi_base.specs.declared.rule.Rules.{Rules}
-use Rattle.lapi_base.specs.declared.message.Leg.TheVariants.{Go, Back, Note, Join}
+use Rattle.lapi_base.specs.declared.message.Leg.TheVariants.{Go, Back, Note, Echo, Join}
+use Rattle.lapi_base.specs.declared.message.Leg.{Leg}
 use Rattle.lapi_base.specs.declared.event.Event.TheVariants.{Copy}
 use Rattle.lapi_base.specs.Names.{Deed, Issued, Entered, Copied, Landed, Begun, Ended, done, message}
-use Rattle.lapi_base.specs.Operations.{statements, statement, is_data, has_back, has_join, has_leg, cmpl_counter, target}
-use Rattle.lapi_base.specs.Handlers.{has_completion}
+use Rattle.lapi_base.specs.Operations.{statements, statement, is_data, has_back, has_join, has_leg, cmpl_counter, target, sender, receiver}
+use Rattle.lapi_base.specs.Handlers.{has_completion, answers}
 use Rattle.lapi_base.specs.Jobs.{is_job, runs}
-use Rattle.lapi_base.specs.Record.{Run, joins, to_copy_of, ready, after_land, note_of}
+use Rattle.lapi_base.specs.Record.{Run, joins, to_copy_of, ready, after_land, note_of, after_end}
 use Rattle.lapi_base.specs.Atomic.{only_if, to_land, to_follow, chain, join_chain}
 use Rattle.lapi_base.specs.Final.{Quiet, Final}
 use Rattle.lapi_laws.proofs.NumberLaws.{all-append, list_all-at}
 use Rattle.lapi_laws.proofs.Deeds.{eqb-refl}
 use Rattle.lapi_laws.proofs.Backward.{there}
 use Rattle.lapi_laws.proofs.Workers.{begun}
-use Rattle.lapi_laws.proofs.Lines.{SoundRun, to-land}
+use Rattle.lapi_laws.proofs.Lines.{SoundRun, to-land, answer-completion}
 use Rattle.lapi_laws.proofs.Follows.{Stand, Owes}
 use Rattle.lapi_laws.proofs.Quiet.{upto-each, joins-each, cmpl-no_back, join-no_data, copied-landed, target-room, all-begun, goes}
 
@@ -70,31 +71,48 @@ module _ (script : Script) (rules : Rules) where
       back-copied : has_back (statement script a i) ≡ true → done (Copied (message a i Back)) r.journal ≡ true
       back-copied b = (subst (λ x. Stand r.journal (cond x (Copy (message a i Back) ∷ []) (cond (has_completion script rules a i) [] (note_of script rules (message a i Go))))) b land-stands).0
 
-      note-stands : is_some (cmpl_counter (statement script a i)) ≡ true → Stand r.journal (note_of script rules (message a i Go))
+      ended-stands : has_completion script rules a i ≡ true → Stand r.journal (after_end script rules (message a i Go))
+      ended-stands e = o.ends (message a i Go) (job-ended e)
+
+      note-stands : (is_some (cmpl_counter (statement script a i)) && not (answers script rules a i)) ≡ true → Stand r.journal (note_of script rules (message a i Go))
       note-stands c =
+          let both = and_parts _ _ c in
           elim (has_completion script rules a i) as (λ x. has_completion script rules a i ≡ x → Stand r.journal (note_of script rules (message a i Go))) [
-            | true ↦ λ e. o.ends (message a i Go) (job-ended e)
+            | true ↦ λ e. subst (λ x. Stand r.journal (cond x (Copy (message a i Echo) ∷ []) (note_of script rules (message a i Go)))) (not-true _ both.1) (ended-stands e)
             | false ↦ λ e.
                 subst (λ x. Stand r.journal (cond x [] (note_of script rules (message a i Go)))) e
-                (subst (λ x. Stand r.journal (cond x (Copy (message a i Back) ∷ []) (cond (has_completion script rules a i) [] (note_of script rules (message a i Go))))) (cmpl-no_back (statement script a i) c) land-stands)
+                (subst (λ x. Stand r.journal (cond x (Copy (message a i Back) ∷ []) (cond (has_completion script rules a i) [] (note_of script rules (message a i Go))))) (cmpl-no_back (statement script a i) both.0) land-stands)
           ] refl
 
-      note-copied : is_some (cmpl_counter (statement script a i)) ≡ true → done (Copied (message a i Note)) r.journal ≡ true
-      note-copied c = (subst (λ x. Stand r.journal (cond x (Copy (message a i Note) ∷ []) [])) c (note-stands c)).0
+      note-copied : (is_some (cmpl_counter (statement script a i)) && not (answers script rules a i)) ≡ true → done (Copied (message a i Note)) r.journal ≡ true
+      note-copied c = (subst (λ x. Stand r.journal (cond x (Copy (message a i Note) ∷ []) [])) (and_parts _ _ c).0 (note-stands c)).0
+
+      echo-copied : answers script rules a i ≡ true → done (Copied (message a i Echo)) r.journal ≡ true
+      echo-copied c = (subst (λ x. Stand r.journal (cond x (Copy (message a i Echo) ∷ []) (note_of script rules (message a i Go)))) c (ended-stands (answer-completion script rules a i c))).0
+
+      -- the copy and the landing of a leg, where it has one
+      both-ends : (leg : Leg) (has : Bool) → sender script (message a i leg) < script.tasks → receiver script (message a i leg) < script.tasks → (has ≡ true → done (Copied (message a i leg)) r.journal ≡ true) → AllByRecursion (λ x. done x r.journal ≡ true) (only_if has (Copied (message a i leg) ∷ Landed (message a i leg) ∷ []))
+      both-ends leg has from to copied =
+          cond_both has (Copied (message a i leg) ∷ Landed (message a i leg) ∷ []) [] (AllByRecursion (λ x. done x r.journal ≡ true)) (λ e. (copied e, (copied-landed script rules r s q (message a i leg) from to (copied e), tt))) (λ _. tt)
 
       whole : list_all (λ x. done x r.journal) (chain script rules a i) ≡ true
       whole =
           let P = λ (x : Deed). done x r.journal ≡ true in
+          let back = only_if (has_back (statement script a i)) (Copied (message a i Back) ∷ Landed (message a i Back) ∷ []) in
+          let note = only_if (is_some (cmpl_counter (statement script a i)) && not (answers script rules a i)) (Copied (message a i Note) ∷ Landed (message a i Note) ∷ []) in
+          let echo = only_if (answers script rules a i) (Copied (message a i Echo) ∷ Landed (message a i Echo) ∷ []) in
           list_all-at (λ x. done x r.journal) (chain script rules a i)
-          (all-append P (to_follow script rules a i ++ only_if (has_back (statement script a i)) (Copied (message a i Back) ∷ Landed (message a i Back) ∷ [])) (only_if (is_some (cmpl_counter (statement script a i))) (Copied (message a i Note) ∷ Landed (message a i Note) ∷ []))
-          (all-append P (to_follow script rules a i) (only_if (has_back (statement script a i)) (Copied (message a i Back) ∷ Landed (message a i Back) ∷ []))
+          (all-append P ((to_follow script rules a i ++ back) ++ note) echo
+          (all-append P (to_follow script rules a i ++ back) note
+          (all-append P (to_follow script rules a i) back
           (all-append P (only_if (has_completion script rules a i) (Begun (message a i Go) ∷ Ended (message a i Go) ∷ [])) (Landed (message a i Go) ∷ to_land script rules a i)
           (cond_both (has_completion script rules a i) (Begun (message a i Go) ∷ Ended (message a i Go) ∷ []) [] (AllByRecursion P) (λ e. (job-begun e, (job-ended e, tt))) (λ _. tt))
           (go-landed, to-land script rules r.journal a i s.atomic go-landed))
-          (cond_both (has_back (statement script a i)) (Copied (message a i Back) ∷ Landed (message a i Back) ∷ []) [] (AllByRecursion P) (λ e. (back-copied e, (copied-landed script rules r s q (message a i Back) target-in room.0 (back-copied e), tt))) (λ _. tt)))
-          (cond_both (is_some (cmpl_counter (statement script a i))) (Copied (message a i Note) ∷ Landed (message a i Note) ∷ []) [] (AllByRecursion P) (λ e. (note-copied e, (copied-landed script rules r s q (message a i Note) target-in room.0 (note-copied e), tt))) (λ _. tt)))
+          (both-ends Back (has_back (statement script a i)) target-in room.0 back-copied))
+          (both-ends Note (is_some (cmpl_counter (statement script a i)) && not (answers script rules a i)) target-in room.0 note-copied))
+          (both-ends Echo (answers script rules a i) target-in room.0 echo-copied))
 
-    joined-whole : (a i d : ℕ) → done (Entered a i) r.journal ≡ true → has_leg script a (Join d) (statement script a i) ≡ true → list_all (λ x. done x r.journal) (join_chain a i d) ≡ true
+    joined-whole : (a i d : ℕ) → done (Entered a i) r.journal ≡ true → has_leg script (answers script rules a i) a (Join d) (statement script a i) ≡ true → list_all (λ x. done x r.journal) (join_chain a i d) ≡ true
     joined-whole a i d entered leg =
         let is = and_parts _ _ (there script rules (Entered a i) r.journal s.atomic entered) in
         let parts = and_parts _ _ leg in

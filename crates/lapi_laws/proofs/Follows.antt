@@ -20,11 +20,11 @@ use Rattle.lapi_base.specs.declared.packet.Packet.{Packet}
 use Rattle.lapi_base.specs.declared.packet.Packet.TheVariants.{Data, Ack}
 use Rattle.lapi_base.specs.Names.{leg_eq, Deed, Copied, Landed, Ended, deed, done, message}
 use Rattle.lapi_base.specs.Operations.{statements, statement, has_back, is_am, cmpl_counter}
-use Rattle.lapi_base.specs.Handlers.{has_completion}
+use Rattle.lapi_base.specs.Handlers.{has_completion, answers}
 use Rattle.lapi_base.specs.Counters.{count}
 use Rattle.lapi_base.specs.Refusals.{next, joined, why}
 use Rattle.lapi_base.specs.Jobs.{queue, runs}
-use Rattle.lapi_base.specs.Record.{Run, start, out, has_number, all_numbers, some_number, ready, copy_each, followed, poll, tick, note_of, after_land, arrival, hand_over, deliver, deliver_entry, data_clear, event_if, proposed, unless_refused, add_event, reply_with, step, begin_first, begin_at, begin, end_at, end, cut_entry, perform, after, run_of}
+use Rattle.lapi_base.specs.Record.{Run, start, out, has_number, all_numbers, some_number, ready, copy_each, followed, poll, tick, note_of, after_land, after_end, arrival, hand_over, deliver, deliver_entry, data_clear, event_if, proposed, unless_refused, add_event, reply_with, step, begin_first, begin_at, begin, end_at, end, cut_entry, perform, after, run_of}
 use Rattle.lapi_laws.proofs.Deeds.{done-nil, done-cases, done-later, done-head}
 use Rattle.lapi_laws.proofs.Sound.{before}
 use Rattle.lapi_laws.proofs.NumberLaws.{all-weaker}
@@ -56,7 +56,7 @@ followed-stand (e ∷ es) J = (done-followed (deed e) es (e ∷ J) (done-head e 
 module _ (script : Script) (rules : Rules) where
   pub record Owes (J : List Event) : Type 0 where
     pub lands : (m : MsgName) → done (Landed m) J ≡ true → Stand J (after_land script rules m)
-    pub ends : (m : MsgName) → done (Ended m) J ≡ true → Stand J (note_of script rules m)
+    pub ends : (m : MsgName) → done (Ended m) J ≡ true → Stand J (after_end script rules m)
 
   -- an event that is neither Land nor End
   abbrev IsOther : Event → Type 0
@@ -83,7 +83,7 @@ module _ (script : Script) (rules : Rules) where
   owes-other : (e : Event) (J : List Event) → IsOther e → Owes J → Owes (e ∷ J)
   owes-other e J h o = record {
     lands = λ m s. stand-later e J (after_land script rules m) (o.lands m (before script rules (Landed m) e J (other-not e (Landed m) h tt) s));
-    ends = λ m s. stand-later e J (note_of script rules m) (o.ends m (before script rules (Ended m) e J (other-not e (Ended m) h tt) s));
+    ends = λ m s. stand-later e J (after_end script rules m) (o.ends m (before script rules (Ended m) e J (other-not e (Ended m) h tt) s));
   }
 
   -- Copies neither land nor end anything.
@@ -95,6 +95,9 @@ module _ (script : Script) (rules : Rules) where
 
   note-copies : (m : MsgName) → AllByRecursion IsCopy (note_of script rules m)
   note-copies m = cond_both (is_some (cmpl_counter (statement script m.origin m.statement))) _ [] (AllByRecursion IsCopy) (λ _. (tt, tt)) (λ _. tt)
+
+  end-copies : (m : MsgName) → AllByRecursion IsCopy (after_end script rules m)
+  end-copies m = cond_both (answers script rules m.origin m.statement) _ (note_of script rules m) (AllByRecursion IsCopy) (λ _. (tt, tt)) (λ _. note-copies m)
 
   after-copies : (m : MsgName) → AllByRecursion IsCopy (after_land script rules m)
   after-copies m =
@@ -113,19 +116,19 @@ module _ (script : Script) (rules : Rules) where
             (λ (x : Landed n ≡ Landed m). let same : m ≡ n = cc in subst (λ z. Stand (followed K es) (after_land script rules z)) same (followed-stand es K))
             (λ (x : done (Landed n) J ≡ true). stand-followed es (after_land script rules n) K (stand-later (Land m) J (after_land script rules n) (o.lands n x)))
             (done-cases (Landed n) (Land m) J (copy-before es K (Landed n) tt (after-copies m) s));
-        ends = λ n s. stand-followed es (note_of script rules n) K (stand-later (Land m) J (note_of script rules n) (o.ends n (before script rules (Ended n) (Land m) J (λ y. cc) (copy-before es K (Ended n) tt (after-copies m) s))));
+        ends = λ n s. stand-followed es (after_end script rules n) K (stand-later (Land m) J (after_end script rules n) (o.ends n (before script rules (Ended n) (Land m) J (λ y. cc) (copy-before es K (Ended n) tt (after-copies m) s))));
       }
 
-  owes-end : (m : MsgName) (t w : ℕ) (J : List Event) → Owes J → Owes (followed (End m t w ∷ J) (note_of script rules m))
+  owes-end : (m : MsgName) (t w : ℕ) (J : List Event) → Owes J → Owes (followed (End m t w ∷ J) (after_end script rules m))
   owes-end m t w J o =
-      let es = note_of script rules m in
+      let es = after_end script rules m in
       let K = End m t w ∷ J in record {
-        lands = λ n s. stand-followed es (after_land script rules n) K (stand-later (End m t w) J (after_land script rules n) (o.lands n (before script rules (Landed n) (End m t w) J (λ y. cc) (copy-before es K (Landed n) tt (note-copies m) s))));
+        lands = λ n s. stand-followed es (after_land script rules n) K (stand-later (End m t w) J (after_land script rules n) (o.lands n (before script rules (Landed n) (End m t w) J (λ y. cc) (copy-before es K (Landed n) tt (end-copies m) s))));
         ends = λ n s.
             ⊎_elim
-            (λ (x : Ended n ≡ Ended m). let same : m ≡ n = cc in subst (λ z. Stand (followed K es) (note_of script rules z)) same (followed-stand es K))
-            (λ (x : done (Ended n) J ≡ true). stand-followed es (note_of script rules n) K (stand-later (End m t w) J (note_of script rules n) (o.ends n x)))
-            (done-cases (Ended n) (End m t w) J (copy-before es K (Ended n) tt (note-copies m) s));
+            (λ (x : Ended n ≡ Ended m). let same : m ≡ n = cc in subst (λ z. Stand (followed K es) (after_end script rules z)) same (followed-stand es K))
+            (λ (x : done (Ended n) J ≡ true). stand-followed es (after_end script rules n) K (stand-later (End m t w) J (after_end script rules n) (o.ends n x)))
+            (done-cases (Ended n) (End m t w) J (copy-before es K (Ended n) tt (end-copies m) s));
       }
 
   owes-copied : (ms : List MsgName) (J : List Event) → Owes J → Owes (copy_each J ms)

@@ -20,7 +20,7 @@ use Rattle.lapi_laws.proofs.Runs.{start-sound, run-sound}
 use Rattle.lapi_laws.proofs.SentWindow.{run-window}
 use Rattle.lapi_laws.proofs.Follows.{run-owes}
 use Rattle.lapi_laws.proofs.Told.{after-told}
-use Rattle.lapi_laws.proofs.Quiet.{delivered-quiet}
+use Rattle.lapi_laws.proofs.Delivered.{delivered-quiet}
 use Rattle.lapi_laws.proofs.Ends.{quiet-final}
 
 module _ (script : Script) (rules : Rules) where
@@ -47,7 +47,7 @@ module _ (script : Script) (rules : Rules) where
       unfolding run_of has_number
       quiet d =
           delivered-quiet script rules (run_of script rules size refusal acts) (run-sound script rules spells size refusal acts v) (run-window script rules size refusal acts)
-          (after-told script rules spells size refusal acts start v (start-sound script rules) (λ a b n h. absurd (false≢true h))) d
+          (after-told script rules spells size refusal acts start v (start-sound script rules) (λ a b e n h. absurd (false≢true h))) d
 
       pub complete : Quiet script rules (run_of script rules size refusal acts) → Final script rules (run_of script rules size refusal acts).journal
       complete q = quiet-final script rules (run_of script rules size refusal acts) (run-sound script rules spells size refusal acts v) (run-owes script rules size refusal acts) q

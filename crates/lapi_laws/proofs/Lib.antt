@@ -14,6 +14,8 @@ pub mod Told
 pub mod Quiet
 pub mod Ends
 pub mod Still
+pub mod Delivered
+pub mod Owed
 pub mod Laws
 pub mod HandedOver
 pub mod Rows

@@ -2,12 +2,12 @@
 use Rattle.std.proofs.Common.{◌≡◌, ℕ, ◌+◌, ◌-◌, ◌<◌, ◌==◌, Bool, true, false, cond, ◌&&◌, not, List, [], ◌∷◌, ◌++◌, length, map, filter, Option, Some, None, refl, sym, subst, ⊎_elim, arith}
 use Rattle.std.specs.Prelude.{slice_get, is_some, nat_lt}
 use Rattle.std.specs.List.{AllByRecursion, list_any, flat_map}
-use Rattle.std.proofs.lemmas.Bool.{and_parts, and_from, both_ways, cond_both, eqb-true, or_cases, false_from_ne_true, and_left, ltb-true, ltb-false, lt-ltb}
-use Rattle.lapi_base.specs.Layout.{window_of}
+use Rattle.std.proofs.lemmas.Bool.{and_parts, and_from, both_ways, cond_both, eqb-true, or_cases, false_from_ne_true, and_left, and_right, not_from_false, ltb-true, ltb-false, lt-ltb}
+use Rattle.lapi_base.specs.Layout.{window_of, holds_back}
 use Rattle.lapi_base.specs.declared.script.Script.{Script}
 use Rattle.lapi_base.specs.declared.rule.Rules.{Rules}
 use Rattle.lapi_base.specs.declared.message.Leg.{Leg}
-use Rattle.lapi_base.specs.declared.message.Leg.TheVariants.{Go, Back, Note, Join}
+use Rattle.lapi_base.specs.declared.message.Leg.TheVariants.{Go, Back, Note, Echo, Join}
 use Rattle.lapi_base.specs.declared.message.MsgName.{MsgName}
 use Rattle.lapi_base.specs.declared.event.Event.{Event}
 use Rattle.lapi_base.specs.declared.event.Event.TheVariants.{Copy, Head, Land}
@@ -17,9 +17,9 @@ use Rattle.lapi_base.specs.declared.packet.DataPacket.{DataPacket}
 use Rattle.lapi_base.specs.Below.{least_missing, has_bit, bits_of}
 use Rattle.lapi_base.specs.Names.{Issued, Entered, Copied, Landed, Begun, Ended, done, message}
 use Rattle.lapi_base.specs.Operations.{upto, statements, statement, sender, receiver, is_data, has_back, has_join, cmpl_counter}
-use Rattle.lapi_base.specs.Handlers.{has_completion}
+use Rattle.lapi_base.specs.Handlers.{has_completion, answers}
 use Rattle.lapi_base.specs.Packets.{data_packet}
-use Rattle.lapi_base.specs.Record.{Run, out, is_number, has_number, joins, to_copy_of, ready, copy_each, followed, packet_of, packets, fresh, poll, stale, tick, note_of, after_land, arrival, ack, with_handed, hand_over, deliver, deliver_entry}
+use Rattle.lapi_base.specs.Record.{Run, out, is_number, has_number, joins, to_copy_of, ready, copy_each, followed, packet_of, packets, fresh, ack, owed_ack, sends, poll, stale, tick, note_of, after_land, arrival, at_once, with_handed, hand_over, deliver, deliver_entry}
 use Rattle.lapi_base.specs.Atomic.{Atomic, Keeps, needs, copy_needs, only_if, to_land, to_follow, has_message, has_statement}
 use Rattle.lapi_laws.proofs.NumberLaws.{all-filter, all-weaker, all-append, below-all, list_all-at, least_missing-below, has_bit-of}
 use Rattle.lapi_laws.proofs.Deeds.{done-head, done-all-later}
@@ -119,14 +119,43 @@ module _ (script : Script) (rules : Rules) where
           (λ d k. (and_from _ _ (there script rules (Entered t i) J h both.1) (and_from _ _ both.0 (and_from _ _ (lt-ltb d script.tasks k.0.0) k.1)), (both.1, tt))))
           (λ _. tt))
 
+  -- An acknowledgement tells of what was delivered.
+  ack-fits : (J : List Event) (r : Run) (a b : ℕ) → Fits script rules J r.handed b a (ack script rules r a b)
+  unfolding ack
+  ack-fits J r a b n h =
+      let set = has_number (r.handed a b) in
+      let least = least_missing (length (out script r.journal a b)) set in
+      ⊎_elim
+      (λ (x : nat_lt n least ≡ true). least_missing-below (length (out script r.journal a b)) set n (ltb-true n least x))
+      (λ (x : has_bit (bits_of (window_of script) (λ i. set (least + i))) (n - least) ≡ true).
+      let y = has_bit-of (window_of script) (λ i. set (least + i)) (n - least) x in
+      elim (nat_lt n least) as (λ t. nat_lt n least ≡ t → set n ≡ true) [
+        | true ↦ λ e. least_missing-below (length (out script r.journal a b)) set n (ltb-true n least e)
+        | false ↦ λ e. let ge = ltb-false n least e in let same : least + (n - least) ≡ n = omega arith in subst (λ k. set k ≡ true) same y.1
+      ] refl)
+      (or_cases _ _ h)
+
+  -- so does one that is owed, and one that goes out at once
+  owed-fits : (J : List Event) (r : Run) (a b : ℕ) → AllByRecursion (Fits script rules J r.handed b a) (owed_ack script rules r a b)
+  unfolding owed_ack
+  owed-fits J r a b = cond_both (r.owed a b) (ack script rules r a b ∷ []) [] (AllByRecursion (Fits script rules J r.handed b a)) (λ _. (ack-fits J r a b, tt)) (λ _. tt)
+
+  once-fits : (J : List Event) (handed : Lists) (a b : ℕ) (p : Packet) → Fits script rules J handed a b p → AllByRecursion (Fits script rules J handed a b) (at_once script rules p)
+  unfolding at_once
+  once-fits J handed a b p fit = cond_both (holds_back script) [] (p ∷ []) (AllByRecursion (Fits script rules J handed a b)) (λ _. tt) (λ _. (fit, tt))
+
+  -- all that a Poll puts on a wire is what it says
+  pub sends-fit : (r : Run) (J : List Event) (a b : ℕ) → AllByRecursion (Fits script rules J r.handed a b) (sends script rules r J a b)
+  sends-fit r J a b = all-append (Fits script rules J r.handed a b) (packets script rules J a b (fresh script rules r J a b)) (owed_ack script rules r b a) (packets-fit J r.handed a b (fresh script rules r J a b)) (owed-fits J r b a)
+
   pub poll-sound : (r : Run) (t : ℕ) → SoundRun r → SoundRun (poll script rules r t)
   unfolding poll
   poll-sound r t s =
       let J = copy_each r.journal (ready script r.journal t) in
       let s' = copy_each-sound (ready script r.journal t) r.journal r.wire r.handed (ready-all r.journal t s.atomic) s in
-      add_entries script rules J r.wire (λ a b. cond (a == t) (r.wire a b ++ packets script rules J a b (fresh script rules r J a b)) (r.wire a b)) r.handed
-      (λ a b. cond_both (a == t) (r.wire a b ++ packets script rules J a b (fresh script rules r J a b)) (r.wire a b) (AllByRecursion (Fits script rules J r.handed a b))
-      (λ _. all-append (Fits script rules J r.handed a b) (r.wire a b) (packets script rules J a b (fresh script rules r J a b)) (s'.wires a b) (packets-fit J r.handed a b (fresh script rules r J a b)))
+      add_entries script rules J r.wire (λ a b. cond (a == t) (r.wire a b ++ sends script rules r J a b) (r.wire a b)) r.handed
+      (λ a b. cond_both (a == t) (r.wire a b ++ sends script rules r J a b) (r.wire a b) (AllByRecursion (Fits script rules J r.handed a b))
+      (λ _. all-append (Fits script rules J r.handed a b) (r.wire a b) (sends script rules r J a b) (s'.wires a b) (sends-fit r J a b))
       (λ _. s'.wires a b))
       s'
 
@@ -154,12 +183,21 @@ module _ (script : Script) (rules : Rules) where
   to-follow J a i absent h l =
       subst (λ b. AllByRecursion (λ d. done d J ≡ true) (only_if b (Begun (message a i Go) ∷ Ended (message a i Go) ∷ []) ++ Landed (message a i Go) ∷ to_land script rules a i)) (sym absent) (l, to-land J a i h l)
 
+  -- what answers has a completion
+  no-answer : (a i : ℕ) → has_completion script rules a i ≡ false → answers script rules a i ≡ false
+  unfolding answers
+  no-answer a i h = and_left _ _ (and_left _ _ (and_right _ _ h))
+
+  pub answer-completion : (a i : ℕ) → answers script rules a i ≡ true → has_completion script rules a i ≡ true
+  unfolding answers
+  answer-completion a i h = (and_parts _ _ (and_parts _ _ (and_parts _ _ h).0).0).1
+
   -- the Note, if there is one
-  pub note-sound : (J : List Event) (wire handed : Lists) (a i : ℕ) → has_statement script rules a i ≡ true → done (Copied (message a i Note)) J ≡ false → AllByRecursion (λ d. done d J ≡ true) (to_follow script rules a i) → Sound script rules J wire handed → Sound script rules (followed J (note_of script rules (message a i Go))) wire handed
+  pub note-sound : (J : List Event) (wire handed : Lists) (a i : ℕ) → answers script rules a i ≡ false → has_statement script rules a i ≡ true → done (Copied (message a i Note)) J ≡ false → AllByRecursion (λ d. done d J ≡ true) (to_follow script rules a i) → Sound script rules J wire handed → Sound script rules (followed J (note_of script rules (message a i Go))) wire handed
   unfolding followed
-  note-sound J wire handed a i is new needs s =
+  note-sound J wire handed a i silent is new needs s =
       cond_both (is_some (cmpl_counter (statement script a i))) (Copy (message a i Note) ∷ []) [] (λ es. Sound script rules (followed J es) wire handed)
-      (λ e. add_copy script rules (message a i Note) J wire handed (keeps-copy J (message a i Note) (and_from _ _ is e, needs) new) s)
+      (λ e. add_copy script rules (message a i Note) J wire handed (keeps-copy J (message a i Note) (and_from _ _ is (and_from _ _ e (not_from_false _ silent)), needs) new) s)
       (λ _. s)
 
   -- what follows the Land of a message
@@ -180,37 +218,23 @@ module _ (script : Script) (rules : Rules) where
       cond_both (has_completion script rules a i) [] (note_of script rules (message a i Go)) (λ es. Sound script rules (followed K es) wire handed)
       (λ _. s)
       (λ e.
-      note-sound K wire handed a i is
+      note-sound K wire handed a i (no-answer a i e) is
       (false_from_ne_true _ (λ yes. both_ways _ (new_note J a i h absent) (before script rules (Copied (message a i Note)) (Land (message a i Go)) J (λ y. cc) yes)))
       (to-follow K a i e s.atomic land) s))
   land_follow J wire handed a i Back h absent s = s
   land_follow J wire handed a i Note h absent s = s
+  land_follow J wire handed a i Echo h absent s = s
   land_follow J wire handed a i (Join d) h absent s = s
 
-  -- Deliver: an acknowledgement tells of what was delivered.
-  ack-fits : (J : List Event) (r : Run) (a b : ℕ) → Fits script rules J r.handed b a (ack script rules r a b)
-  unfolding ack
-  ack-fits J r a b n h =
-      let set = has_number (r.handed a b) in
-      let least = least_missing (length (out script r.journal a b)) set in
-      ⊎_elim
-      (λ (x : nat_lt n least ≡ true). least_missing-below (length (out script r.journal a b)) set n (ltb-true n least x))
-      (λ (x : has_bit (bits_of (window_of script) (λ i. set (least + i))) (n - least) ≡ true).
-      let y = has_bit-of (window_of script) (λ i. set (least + i)) (n - least) x in
-      elim (nat_lt n least) as (λ t. nat_lt n least ≡ t → set n ≡ true) [
-        | true ↦ λ e. least_missing-below (length (out script r.journal a b)) set n (ltb-true n least e)
-        | false ↦ λ e. let ge = ltb-false n least e in let same : least + (n - least) ≡ n = omega arith in subst (λ k. set k ≡ true) same y.1
-      ] refl)
-      (or_cases _ _ h)
-
-  add_ack : (J : List Event) (wire : Lists) (r : Run) (a b : ℕ) → Sound script rules J wire r.handed → Sound script rules J (λ x y. cond (x == b && y == a) (wire x y ++ ack script rules r a b ∷ []) (wire x y)) r.handed
+  -- Deliver.
+  add_ack : (J : List Event) (wire : Lists) (r : Run) (a b : ℕ) → Sound script rules J wire r.handed → Sound script rules J (λ x y. cond (x == b && y == a) (wire x y ++ at_once script rules (ack script rules r a b)) (wire x y)) r.handed
   add_ack J wire r a b s =
-      add_entries script rules J wire (λ x y. cond (x == b && y == a) (wire x y ++ ack script rules r a b ∷ []) (wire x y)) r.handed
-      (λ x y. cond_both (x == b && y == a) (wire x y ++ ack script rules r a b ∷ []) (wire x y) (AllByRecursion (Fits script rules J r.handed x y))
+      add_entries script rules J wire (λ x y. cond (x == b && y == a) (wire x y ++ at_once script rules (ack script rules r a b)) (wire x y)) r.handed
+      (λ x y. cond_both (x == b && y == a) (wire x y ++ at_once script rules (ack script rules r a b)) (wire x y) (AllByRecursion (Fits script rules J r.handed x y))
       (λ e.
       let ends = and_parts _ _ e in
       let fit = subst (λ v. Fits script rules J r.handed x v (ack script rules r a b)) (sym (eqb-true y a ends.1)) (subst (λ u. Fits script rules J r.handed u a (ack script rules r a b)) (sym (eqb-true x b ends.0)) (ack-fits J r a b)) in
-      all-append (Fits script rules J r.handed x y) (wire x y) (ack script rules r a b ∷ []) (s.wires x y) (fit, tt))
+      all-append (Fits script rules J r.handed x y) (wire x y) (at_once script rules (ack script rules r a b)) (s.wires x y) (once-fits J r.handed x y (ack script rules r a b) fit))
       (λ _. s.wires x y))
       s
 

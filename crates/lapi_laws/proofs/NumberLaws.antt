@@ -6,7 +6,7 @@ use Rattle.std.proofs.lemmas.List.{append-nil}
 use Rattle.std.specs.List.{list_any, list_all, AllByRecursion}
 use Rattle.std.proofs.lemmas.Bool.{true≢false, false≢true, and_parts, and_from, and_cases, or_cases, cases_lt, cond-true, cond-false, eq-eqb, cond_both, both_ways, le-ltb, or_left, or_right}
 use Rattle.lapi_base.specs.declared.script.Script.{Script}
-use Rattle.lapi_base.specs.Layout.{window_of}
+use Rattle.lapi_base.specs.Layout.{Layout, First, Second, layout_of, window, window_of}
 use Rattle.lapi_base.specs.Below.{every_below, below, least_missing, has_bit, bits_of}
 
 pub every_below-at : (n : ℕ) (p : ℕ → Bool) (k : ℕ) → every_below n p ≡ true → k < n → p k ≡ true
@@ -176,4 +176,8 @@ any-get t (y ∷ xs) (suc k) x e h = or_right _ _ (any-get t xs k x e h)
 -- every layout has a window
 pub window-positive : (script : Script) → 0 < window_of script
 unfolding window_of
-window-positive script = lit< tt
+window-positive script = each (layout_of script.layout)
+  where
+    each : (l : Layout) → 0 < window l
+    each First = lit< tt
+    each Second = lit< tt

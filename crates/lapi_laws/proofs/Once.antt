@@ -15,6 +15,7 @@ use Rattle.lapi_laws.proofs.NumberLaws.{list_all-each}
 use Rattle.lapi_laws.proofs.Deeds.{done-cons, deed_eq-true}
 use Rattle.lapi_laws.proofs.Backward.{Atomic-head, Atomic-tail}
 use Rattle.lapi_laws.proofs.Runs.{run-sound}
+use Rattle.lapi_laws.proofs.Workers.{begun-of}
 
 -- how often a deed stands, with one more event
 times-cons : (d : Deed) (e : Event) (J : List Event) → times d (e ∷ J) ≡ cond (deed_eq d (deed e)) 1 0 + times d J
@@ -67,7 +68,7 @@ module _ (script : Script) (rules : Rules) where
     λ m before e same at. (needed J before e (Headed m) h same at).1.0,
     λ a i am before e same at. head-needed a i before am (needed J before e (Landed (message a i Go)) h same at),
     λ m before e same at. (needed J before e (Begun m) h same at).0,
-    λ m before e same at. (needed J before e (Ended m) h same at).0,
+    λ m before e same at. begun-of script rules e before m (atomic-end at.0 (e ∷ before) (subst (Atomic script rules) at.1 h)) (sym same),
   )
 
 -- the laws, of every atomic journal

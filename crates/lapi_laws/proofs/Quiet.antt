@@ -25,7 +25,7 @@ use Rattle.lapi_base.specs.Refusals.{option_any, first_reason, why, why_by}
 use Rattle.lapi_base.specs.Jobs.{is_job, landed_jobs, queue, runs}
 use Rattle.lapi_base.specs.Atomic.{Atomic, Keeps}
 use Rattle.lapi_base.specs.Record.{Run, out, covers, has_number, has_ack, is_sent, is_acked, base, fresh}
-use Rattle.lapi_base.specs.Final.{Quiet, WasHanded, AllDelivered}
+use Rattle.lapi_base.specs.Final.{Resting, Quiet}
 use Rattle.lapi_laws.proofs.NumberLaws.{least_missing-least, least_missing-not, window-positive}
 use Rattle.lapi_laws.proofs.Deeds.{done-nil, done-cases, done-later, done-head, name_eq-true, name_eq-refl, eqb-refl}
 use Rattle.lapi_laws.proofs.Backward.{Atomic-head, Atomic-tail, shown}
@@ -34,16 +34,6 @@ use Rattle.lapi_laws.proofs.Arrival.{some-same}
 use Rattle.lapi_laws.proofs.Turns.{below-place}
 use Rattle.lapi_laws.proofs.Lines.{SoundRun}
 use Rattle.lapi_laws.proofs.Sound.{before, acked-delivered}
-use Rattle.lapi_laws.proofs.SentWindow.{WindowRun}
-use Rattle.lapi_laws.proofs.Told.{Tells, ToldRun}
-
-any-at : {X : Type 0} (t : X → Bool) (xs : List X) (k : ℕ) (x : X) → k < length xs → t (slice_index_or xs k x) ≡ true → list_any t xs ≡ true
-any-at t [] k x l h = absurd (omega arith)
-any-at t (y ∷ xs) zero x l h = or_left _ _ h
-any-at t (y ∷ xs) (suc k) x l h = or_right _ _ (any-at t xs k x (let q : k < length xs = omega arith in q) h)
-
-contains-any : {X : Type 0} (t : X → Bool) (xs : List X) (x : X) → Contains xs x → t x ≡ true → list_any t xs ≡ true
-contains-any t xs x c h = any-at t xs c.0 x c.1 (ap t c.2 ∙ h)
 
 -- no number passes where none is listed
 below-none : (n : ℕ) (p : ℕ → Bool) (k : ℕ) → below n p ≡ [] → k < n → p k ≡ true → ⊥
@@ -127,27 +117,16 @@ join-no_data (Read counter) h = absurd (false≢true h)
 join-no_data Fence h = absurd (false≢true h)
 
 module _ (script : Script) (rules : Rules) where
-  covered : (r : Run) → SoundRun script rules r → WindowRun script rules r → (a b n : ℕ) → is_sent r a b n ≡ true → (p : Packet) → Tells script rules (has_number (r.handed a b)) p → has_number (r.handed a b) n ≡ true → covers n p ≡ true
-  covered r s w a b n sent (Data p) t d = absurd t
-  covered r s w a b n sent (Ack from to least bits) t d =
-      let unacked : has_ack (r.handed b a) least ≡ false = false_from_ne_true _ (λ h. both_ways _ t.0 (acked-delivered script rules r.journal r.wire r.handed s a b least h)) in
-      let low = least_missing-least (length (out script r.journal a b)) (has_ack (r.handed b a)) least unacked in
-      t.1 n d (omega (arith, low, w a b n sent))
+  -- A quiet record, but for acknowledgements that are owed: a packet that is handed over again makes its receiver owe one.
+  pub record Calm (r : Run) : Type 0 where
+    pub acked : (a b n : ℕ) → is_sent r a b n ≡ true → is_acked r a b n ≡ true
+    pub resting : Resting script rules r
 
-  -- The last acknowledgement of each wire tells of all that was sent.
-  pub delivered-quiet : (r : Run) → SoundRun script rules r → WindowRun script rules r → ToldRun script rules r → AllDelivered script rules r → Quiet script rules r
-  unfolding has_ack
-  delivered-quiet r s w told all = record {
-    acked = λ a b n sent.
-        let d = all.delivered a b n sent in
-        let last = told a b n d in
-        let handed = subst (WasHanded script rules r b a) last.1.0 (all.told b a) in
-        contains-any (covers n) (r.handed b a) last.0 handed (covered r s w a b n sent last.0 last.1.1 d);
-    resting = all.resting;
-  }
+  pub calm : (r : Run) → Quiet script rules r → Calm r
+  calm r q = record { acked = q.acked; resting = q.resting }
 
   -- Quiet: whatever was copied has landed.
-  pub all-acked : (r : Run) → Quiet script rules r → (a b : ℕ) → a < script.tasks → b < script.tasks → (n : ℕ) → n < length (out script r.journal a b) → is_acked r a b n ≡ true
+  pub all-acked : (r : Run) → Calm r → (a b : ℕ) → a < script.tasks → b < script.tasks → (n : ℕ) → n < length (out script r.journal a b) → is_acked r a b n ≡ true
   unfolding fresh base
   all-acked r q a b la lb n l =
       true_from_ne_false _ (λ unacked.
@@ -161,7 +140,7 @@ module _ (script : Script) (rules : Rules) where
 
   pub copied-landed : (r : Run) → SoundRun script rules r → Quiet script rules r → (m : MsgName) → sender script m < script.tasks → receiver script m < script.tasks → done (Copied m) r.journal ≡ true → done (Landed m) r.journal ≡ true
   copied-landed r s q m la lb c =
-      s.arrived m c (λ n x. acked-delivered script rules r.journal r.wire r.handed s (sender script m) (receiver script m) n (all-acked r q (sender script m) (receiver script m) la lb n (slice_get_within (out script r.journal (sender script m) (receiver script m)) n (m, x.0) x.1)))
+      s.arrived m c (λ n x. acked-delivered script rules r.journal r.wire r.handed s (sender script m) (receiver script m) n (all-acked r (calm r q) (sender script m) (receiver script m) la lb n (slice_get_within (out script r.journal (sender script m) (receiver script m)) n (m, x.0) x.1)))
 
   -- An issued operation's target is there.
   abbrev HasTarget : Deed → Type 0

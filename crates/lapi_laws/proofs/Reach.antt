@@ -16,14 +16,14 @@ use Rattle.lapi_base.specs.Operations.{statements}
 use Rattle.lapi_base.specs.Refusals.{next, why}
 use Rattle.lapi_base.specs.Jobs.{queue, runs}
 use Rattle.lapi_base.specs.Valid.{ValidAct}
-use Rattle.lapi_base.specs.Record.{Run, start, out, is_number, has_number, is_delivered, is_acked, ready, copy_each, packets, fresh, poll, stale, tick, ack, with_handed, hand_over, deliver, deliver_entry, unless_refused, add_event, reply_with, step, begin_first, begin_at, begin, end_at, end, cut_entry, perform, after, run_of}
+use Rattle.lapi_base.specs.Record.{Run, start, out, is_number, has_number, is_delivered, is_acked, ready, copy_each, packets, sends, poll, stale, tick, with_handed, hand_over, deliver, deliver_entry, unless_refused, add_event, reply_with, step, begin_first, begin_at, begin, end_at, end, cut_entry, perform, after, run_of}
 use Rattle.lapi_base.specs.Headline.{HoldsOfRuns}
 use Rattle.lapi_base.specs.Layout.{window_of}
 use Rattle.lapi_base.specs.Links.{least_undelivered, StaysInWindow}
 use Rattle.lapi_laws.proofs.NumberLaws.{least_missing-grows, any-get}
 use Rattle.lapi_laws.proofs.Sound.{Lists, acked-delivered}
 use Rattle.lapi_laws.proofs.Runs.{run-sound}
-use Rattle.lapi_laws.proofs.SentWindow.{run-window}
+use Rattle.lapi_laws.proofs.SentWindow.{ack-entry, run-window}
 
 -- a number of a list is one of a longer list
 number-front : (xs ys : List Packet) (n : ℕ) → has_number xs n ≡ true → has_number (xs ++ ys) n ≡ true
@@ -69,9 +69,7 @@ module _ (script : Script) (rules : Rules) where
   unfolding hand_over
   hand_over-sent r a b k (Ack from to base bits) e h x y n d = handed-sent r a b k (Ack from to base bits) e h x y n d
   hand_over-sent r a b k (Data p) e h x y n d =
-      let t = with_handed script rules r a b (Data p) in
-      let old = handed-sent r a b k (Data p) e h x y n d in
-      cond_both (x == b && y == a) (r.wire x y ++ ack script rules t a b ∷ []) (r.wire x y) (λ ps. has_number ps n ≡ true) (λ _. number-front (r.wire x y) (ack script rules t a b ∷ []) n old) (λ _. old)
+      ack-entry script rules r.wire (with_handed script rules r a b (Data p)) a b x y n ∙ handed-sent r a b k (Data p) e h x y n d
 
   module _ (spells : List ℕ → Bool) (size : Packet → ℕ) (refusal : List ℕ → Bad) where
     -- one line of a schedule, and all of them
@@ -81,7 +79,7 @@ module _ (script : Script) (rules : Rules) where
         cond_both (nat_lt (next r.journal a) (length (statements script a))) (add_event script rules r (unless_refused script rules r a (next r.journal a) (why script rules r.journal a (next r.journal a)))) (reply_with script rules r Idle) SentRun
         (λ _. elim (unless_refused script rules r a (next r.journal a) (why script rules r.journal a (next r.journal a))) as (λ o. SentRun (add_event script rules r o)) [ None ↦ h | Some e ↦ h ])
         (λ _. h)
-    perform-sent r (Poll t) h = let J = copy_each r.journal (ready script r.journal t) in more-sent r.wire r.handed t (λ a b. packets script rules J a b (fresh script rules r J a b)) h
+    perform-sent r (Poll t) h = let J = copy_each r.journal (ready script r.journal t) in more-sent r.wire r.handed t (λ a b. sends script rules r J a b) h
     perform-sent r (Tick t) h = more-sent r.wire r.handed t (λ a b. packets script rules r.journal a b (stale script rules r a b)) h
     perform-sent r (Deliver a b k) h =
         elim (slice_get (r.wire a b) k) as (λ o. slice_get (r.wire a b) k ≡ o → SentRun (deliver_entry script rules r a b o)) [

@@ -13,7 +13,7 @@ use Rattle.lapi_base.specs.declared.rule.Place.{Place}
 use Rattle.lapi_base.specs.declared.rule.Place.TheVariants.{PerOrigin, Nowhere}
 use Rattle.lapi_base.specs.declared.rule.Choice.{Choice}
 use Rattle.lapi_base.specs.declared.rule.Choice.TheVariants.{Never, Always}
-use Rattle.lapi_base.specs.declared.rule.CompletionRule.TheVariants.{Nothing, Sum, Same, Reversed}
+use Rattle.lapi_base.specs.declared.rule.CompletionRule.TheVariants.{Nothing, Sum, Same, Reversed, Answer}
 use Rattle.lapi_base.specs.declared.message.Leg.TheVariants.{Go, Back, Note, Join}
 use Rattle.lapi_base.specs.declared.refusal.Refusal.TheVariants.{BadTask, BadTargetRange, BadOriginRange, BadCounter, TooLong, NoTable, BadHandler, BadUserHeader, VecCount, VecLength, StrideBelowBlock, Misaligned}
 use Rattle.lapi_base.specs.declared.event.Event.{Event}
@@ -27,23 +27,23 @@ use Rattle.lapi_base.specs.declared.head.Head.{Head}
 use Rattle.lapi_base.specs.declared.head.NoteOp.{NoteOp}
 use Rattle.lapi_base.specs.declared.packet.Packet.{Packet}
 use Rattle.lapi_base.specs.declared.packet.Packet.TheVariants.{Data, Ack}
-use Rattle.lapi_base.specs.Layout.{unit_of, window_of, longest_of, longest_active_of}
+use Rattle.lapi_base.specs.Layout.{unit_of, window_of, longest_of, longest_active_of, holds_back, may_answer}
 use Rattle.lapi_base.specs.Below.{every_below, below, least_missing, has_bit, bits_of}
 use Rattle.lapi_base.specs.Names.{message, name_eq, done}
 use Rattle.lapi_base.specs.Operations.{upto, statement, table_rounds, entry, address, pieces_of, message_length, fragment_count, fragments}
-use Rattle.lapi_base.specs.Handlers.{number_of, word_bytes, header_word, buffer, completion, user, has_completion, effect_of}
+use Rattle.lapi_base.specs.Handlers.{number_of, word_bytes, header_word, buffer, completion, user, has_completion, rule_named, answers, answer_of, effect_of}
 use Rattle.lapi_base.specs.Values.{gathered, scattered, byte_after, rmw_word, values}
 use Rattle.lapi_base.specs.Counters.{tells, count, reads}
 use Rattle.lapi_base.specs.Refusals.{next, gfence_rounds, round_of, partner, joined, first_reason, why_by, why}
 use Rattle.lapi_base.specs.Jobs.{is_job, landed_jobs, queue, runs}
 use Rattle.lapi_base.specs.Packets.{data_packet}
-use Rattle.lapi_base.specs.Record.{Run, out, has_number, has_ack, base, all_numbers, some_number, data_done, data_clear, ready, copy_each, followed, packets, fresh, poll, stale, tick, arrival, ack, hand_over, deliver, step, begin, end, perform, after, run_of}
+use Rattle.lapi_base.specs.Record.{Run, out, has_number, has_ack, base, all_numbers, some_number, data_done, data_clear, ready, copy_each, followed, packets, fresh, poll, stale, tick, arrival, ack, owed_ack, at_once, hand_over, deliver, step, begin, end, perform, after, run_of}
 
 -- the built-in handlers
 abbrev pub builtin : Rules
 builtin = record {
   headers = record { place = Place.Word; choice = Never } ∷ record { place = Place.Word; choice = Choice.Word } ∷ record { place = PerOrigin 0 256; choice = Always 3 } ∷ record { place = Nowhere; choice = Always 1 } ∷ [];
-  completions = Nothing ∷ Sum ∷ Same ∷ Reversed ∷ [];
+  completions = Nothing ∷ Sum ∷ Same ∷ Reversed ∷ Answer ∷ [];
 }
 
 -- a script and the lines of a run of it
@@ -58,7 +58,7 @@ two_tasks memory xs ys lines = record { script = record { layout = 1; tasks = 2;
 -- The run of a row. No line cuts a packet or injects bytes, so it doesn't matter what is passed for those.
 -- A proof with the line `unfolding run` computes with all definitions.
 unfoldable pub run : Row → Run
-unfolding unit_of window_of longest_of longest_active_of every_below below least_missing has_bit bits_of name_eq done upto statement table_rounds entry address pieces_of message_length fragment_count fragments number_of word_bytes header_word buffer completion user has_completion effect_of gathered scattered byte_after rmw_word values tells count next gfence_rounds round_of partner joined first_reason why_by why is_job landed_jobs queue runs data_packet out has_number has_ack base all_numbers some_number data_done data_clear ready copy_each followed packets fresh poll stale tick arrival ack hand_over deliver step begin end perform after run_of reads
+unfolding unit_of window_of longest_of longest_active_of every_below below least_missing has_bit bits_of name_eq done upto statement table_rounds entry address pieces_of message_length fragment_count fragments number_of word_bytes header_word buffer completion user has_completion may_answer rule_named answers answer_of effect_of gathered scattered byte_after rmw_word values tells count next gfence_rounds round_of partner joined first_reason why_by why is_job landed_jobs queue runs data_packet out has_number has_ack base all_numbers some_number data_done data_clear ready copy_each followed packets fresh poll stale tick arrival ack owed_ack at_once holds_back hand_over deliver step begin end perform after run_of reads
 run row = run_of row.script builtin (λ p. 0) (λ bytes. record { place = 0; reason = Short }) row.lines
 
 -- the events in the order of time

@@ -1,10 +1,10 @@
 -- Every number on a wire is below the least one that is not acknowledged, plus the window.
-use Rattle.std.proofs.Common.{◌≡◌, ◌⊎◌, ℕ, ◌+◌, ◌<◌, ◌≤◌, ◌==◌, true, false, cond, ◌&&◌, not, List, [], ◌∷◌, ◌++◌, length, Option, Some, None, sym, ◌∙◌, subst, ⊎_elim, arith, length-append}
+use Rattle.std.proofs.Common.{◌≡◌, ◌⊎◌, ℕ, ◌+◌, ◌<◌, ◌≤◌, ◌==◌, Bool, true, false, cond, ◌&&◌, ◌||◌, not, List, [], ◌∷◌, ◌++◌, length, Option, Some, None, refl, sym, ap, ◌∙◌, subst, ⊎_elim, arith, length-append}
 use Rattle.std.specs.Prelude.{slice_get, nat_lt}
 use Rattle.std.specs.List.{AllByRecursion, list_any}
 use Rattle.std.proofs.lemmas.Bool.{false≢true, and_parts, cond_both, eqb-true, or_cases, or_right, ltb-true}
 use Rattle.std.proofs.lemmas.List.Folds.{list_any-append}
-use Rattle.lapi_base.specs.Layout.{window_of}
+use Rattle.lapi_base.specs.Layout.{window_of, holds_back}
 use Rattle.lapi_base.specs.declared.script.Script.{Script}
 use Rattle.lapi_base.specs.declared.rule.Rules.{Rules}
 use Rattle.lapi_base.specs.declared.message.MsgName.{MsgName}
@@ -21,10 +21,14 @@ use Rattle.lapi_base.specs.Operations.{statements, sender, fragments}
 use Rattle.lapi_base.specs.Refusals.{next, why}
 use Rattle.lapi_base.specs.Jobs.{queue, runs}
 use Rattle.lapi_base.specs.Packets.{data_packet}
-use Rattle.lapi_base.specs.Record.{Run, start, out, is_number, covers, has_number, has_ack, base, is_sent, ready, copy_each, followed, packet_of, packets, fresh, poll, stale, tick, arrival, ack, with_handed, hand_over, deliver, deliver_entry, unless_refused, add_event, step, begin_first, begin_at, begin, end_at, end, note_of, cut_entry, perform, after, run_of, reply_with}
+use Rattle.lapi_base.specs.Record.{Run, start, out, is_number, covers, has_number, has_ack, base, is_sent, ready, copy_each, followed, packet_of, packets, fresh, ack, owed_ack, sends, poll, stale, tick, arrival, at_once, with_handed, hand_over, deliver, deliver_entry, unless_refused, add_event, step, begin_first, begin_at, begin, end_at, end, after_end, cut_entry, perform, after, run_of, reply_with}
 use Rattle.lapi_laws.proofs.NumberLaws.{any-all, below-all, least_missing-grows}
 use Rattle.lapi_laws.proofs.Lines.{all-flat_map}
 use Rattle.lapi_laws.proofs.Sound.{Lists}
+
+pub or-false : (z : Bool) → (z || false) ≡ z
+or-false true = refl
+or-false false = refl
 
 module _ (script : Script) (rules : Rules) where
   -- Links never shrink.
@@ -84,6 +88,22 @@ module _ (script : Script) (rules : Rules) where
   unfolding has_number
   number-append xs ys n h = or_cases _ _ (sym (list_any-append (is_number n) xs ys) ∙ h)
 
+  -- an acknowledgement has no number
+  owed-none : (r : Run) (a b n : ℕ) → has_number (owed_ack script rules r a b) n ≡ false
+  unfolding has_number owed_ack ack
+  owed-none r a b n = cond_both (r.owed a b) (ack script rules r a b ∷ []) [] (λ ps. list_any (is_number n) ps ≡ false) (λ _. refl) (λ _. refl)
+
+  once-none : (r : Run) (a b n : ℕ) → has_number (at_once script rules (ack script rules r a b)) n ≡ false
+  unfolding has_number at_once ack
+  once-none r a b n = cond_both (holds_back script) [] (ack script rules r a b ∷ []) (λ ps. list_any (is_number n) ps ≡ false) (λ _. refl) (λ _. refl)
+
+  -- so what a Poll puts on a wire has the numbers of its data alone
+  pub sends-number : (r : Run) (J : List Event) (a b n : ℕ) → has_number (sends script rules r J a b) n ≡ has_number (packets script rules J a b (fresh script rules r J a b)) n
+  unfolding has_number
+  sends-number r J a b n =
+      list_any-append (is_number n) (packets script rules J a b (fresh script rules r J a b)) (owed_ack script rules r b a)
+      ∙ ap (λ x. has_number (packets script rules J a b (fresh script rules r J a b)) n || x) (owed-none r b a n) ∙ or-false _
+
   abbrev pub WindowRun : Run → Type 0
   WindowRun r = InWindow r.journal r.wire r.handed
 
@@ -108,15 +128,15 @@ module _ (script : Script) (rules : Rules) where
       let J = copy_each r.journal (ready script r.journal t) in
       let w' = window-grows r.journal J r.wire r.handed r.handed (grows-copied (ready script r.journal t) r.journal) (λ x y k e. e) w in
       let top = least_missing (length (out script J a b)) (has_ack (r.handed b a)) + window_of script in
-      cond_both (a == t) (r.wire a b ++ packets script rules J a b (fresh script rules r J a b)) (r.wire a b) (λ ps. has_number ps n ≡ true → n < top)
+      cond_both (a == t) (r.wire a b ++ sends script rules r J a b) (r.wire a b) (λ ps. has_number ps n ≡ true → n < top)
       (λ _ found.
       ⊎_elim
       (λ (x : has_number (r.wire a b) n ≡ true). w' a b n x)
-      (λ (x : has_number (packets script rules J a b (fresh script rules r J a b)) n ≡ true).
+      (λ (x : has_number (sends script rules r J a b) n ≡ true).
       packets-number J a b (λ k. k < top) (fresh script rules r J a b)
       (Rattle.lapi_laws.proofs.NumberLaws.all-weaker (λ k. (k < length (out script J a b)) × ((not (is_sent r a b k) && nat_lt k top) ≡ true)) (λ k. k < top) (λ k x. ltb-true k top (and_parts _ _ x.1).1) (fresh script rules r J a b) (below-all (length (out script J a b)) (λ k. not (is_sent r a b k) && nat_lt k top)))
-      n x)
-      (number-append (r.wire a b) (packets script rules J a b (fresh script rules r J a b)) n found))
+      n (sym (sends-number r J a b n) ∙ x))
+      (number-append (r.wire a b) (sends script rules r J a b) n found))
       (λ _ found. w' a b n found)
       h
 
@@ -125,13 +145,13 @@ module _ (script : Script) (rules : Rules) where
   unfolding has_ack
   handed-acks r a b p x y n h = cond_both (x == a && y == b) (p ∷ r.handed x y) (r.handed x y) (λ ps. list_any (covers n) ps ≡ true) (λ _. or_right _ _ h) (λ _. h)
 
-  pub ack-entry : (wire : Lists) (r : Run) (a b x y n : ℕ) → has_number (cond (x == b && y == a) (wire x y ++ ack script rules r a b ∷ []) (wire x y)) n ≡ true → has_number (wire x y) n ≡ true
-  unfolding has_number ack
-  ack-entry wire r a b x y n h =
-      cond_both (x == b && y == a) (wire x y ++ ack script rules r a b ∷ []) (wire x y) (λ ps. list_any (is_number n) ps ≡ true → list_any (is_number n) (wire x y) ≡ true)
-      (λ _ found. ⊎_elim (λ (z : list_any (is_number n) (wire x y) ≡ true). z) (λ (z : false ≡ true). absurd (false≢true z)) (or_cases _ _ (sym (list_any-append (is_number n) (wire x y) (ack script rules r a b ∷ [])) ∙ found)))
-      (λ _ found. found)
-      h
+  -- and the acknowledgement that follows at once, if it does, adds no number to a wire
+  pub ack-entry : (wire : Lists) (r : Run) (a b x y n : ℕ) → has_number (cond (x == b && y == a) (wire x y ++ at_once script rules (ack script rules r a b)) (wire x y)) n ≡ has_number (wire x y) n
+  unfolding has_number
+  ack-entry wire r a b x y n =
+      cond_both (x == b && y == a) (wire x y ++ at_once script rules (ack script rules r a b)) (wire x y) (λ ps. list_any (is_number n) ps ≡ list_any (is_number n) (wire x y))
+      (λ _. list_any-append (is_number n) (wire x y) (at_once script rules (ack script rules r a b)) ∙ ap (λ t. list_any (is_number n) (wire x y) || t) (once-none r a b n) ∙ or-false _)
+      (λ _. refl)
 
   hand_over-window : (r : Run) (a b : ℕ) (p : Packet) → WindowRun r → WindowRun (hand_over script rules r a b p)
   unfolding hand_over
@@ -139,7 +159,7 @@ module _ (script : Script) (rules : Rules) where
   hand_over-window r a b (Data p) w =
       let events = cond (has_number (r.handed a b) p.seq) [] (arrival script rules r a b p.name p.seq) in
       let w' = window-grows r.journal (followed r.journal events) r.wire r.handed (with_handed script rules r a b (Data p)).handed (grows-followed events r.journal) (handed-acks r a b (Data p)) w in
-      λ x y n h. w' x y n (ack-entry r.wire (with_handed script rules r a b (Data p)) a b x y n h)
+      λ x y n h. w' x y n (sym (ack-entry r.wire (with_handed script rules r a b (Data p)) a b x y n) ∙ h)
 
   deliver-window : (r : Run) (a b k : ℕ) → WindowRun r → WindowRun (deliver script rules r a b k)
   unfolding deliver
@@ -171,7 +191,7 @@ module _ (script : Script) (rules : Rules) where
 
   end-window : (r : Run) (t w : ℕ) → WindowRun r → WindowRun (end script rules r t w)
   unfolding end
-  end-window r t w h = elim (runs r.journal t w) as (λ o. WindowRun (end_at script rules r t w o)) [ None ↦ h | Some m ↦ followed-window r (End m t w ∷ note_of script rules m) h ]
+  end-window r t w h = elim (runs r.journal t w) as (λ o. WindowRun (end_at script rules r t w o)) [ None ↦ h | Some m ↦ followed-window r (End m t w ∷ after_end script rules m) h ]
 
   module _ (size : Packet → ℕ) (refusal : List ℕ → Bad) where
     pub perform-window : (r : Run) (act : Act) → WindowRun r → WindowRun (perform script rules size refusal r act)

@@ -2,7 +2,7 @@
 use Rattle.std.proofs.Common.{◌≡◌, ℕ, ◌<◌, Bool, true, not, List, [], ◌∷◌, Option, Some, None, refl, ap, subst}
 use Rattle.std.specs.Prelude.{is_some}
 use Rattle.std.specs.List.{list_all, AllByRecursion}
-use Rattle.std.proofs.lemmas.Bool.{false≢true, and_parts, and_from, eqb-true, or_left, or_right}
+use Rattle.std.proofs.lemmas.Bool.{false≢true, and_parts, and_from, eqb-true, or_left, or_right, not-true, not_from_false}
 use Rattle.std.proofs.lemmas.Option.{slice_get_within}
 use Rattle.lapi_base.specs.declared.script.Script.{Script}
 use Rattle.lapi_base.specs.declared.rule.Rules.{Rules}
@@ -45,9 +45,9 @@ module _ (script : Script) (rules : Rules) where
   told-number r a b n (Data p) e t = subst (λ k. is_acked r a b k ≡ true) (eqb-true p.seq n e) t
   told-number r a b n (Ack from to base bits) e t = absurd (false≢true e)
 
-  settled-parts : (r : Run) (a b : ℕ) → is_settled script rules r a b ≡ true → (list_all (is_told script rules r a b) (r.wire a b) ≡ true) × (is_empty (fresh script rules r r.journal a b) ≡ true)
+  settled-parts : (r : Run) (a b : ℕ) → is_settled script rules r a b ≡ true → (list_all (is_told script rules r a b) (r.wire a b) ≡ true) × (is_empty (fresh script rules r r.journal a b) ≡ true) × (not (r.owed a b) ≡ true)
   unfolding is_settled
-  settled-parts r a b h = and_parts _ _ h
+  settled-parts r a b h = let both = and_parts _ _ h in let first = and_parts _ _ both.0 in (first.0, first.1, both.1)
 
   pub quiet-from : (r : Run) → SoundRun script rules r → is_quiet script rules r ≡ true → Quiet script rules r
   unfolding is_quiet is_idle has_number
@@ -70,6 +70,7 @@ module _ (script : Script) (rules : Rules) where
           no_copy = λ t l. (and_parts _ _ (idle t l)).1;
           no_entry = λ a b la lb. empty-from _ (settled-parts r a b (settled a b la lb)).1;
         };
+        none_owed = λ a b la lb. not-true _ (settled-parts r a b (settled a b la lb)).2;
       }
 
   is-told : (r : Run) → Quiet script rules r → (a b : ℕ) (ps : List Packet) → ((n : ℕ) → has_number ps n ≡ true → is_acked r a b n ≡ true) → list_all (is_told script rules r a b) ps ≡ true
@@ -88,4 +89,4 @@ module _ (script : Script) (rules : Rules) where
       (q.resting.no_copy t l)))
       (every_below-from script.tasks (λ a. every_below script.tasks (is_settled script rules r a)) (λ a la.
       every_below-from script.tasks (is_settled script rules r a) (λ b lb.
-      and_from _ _ (is-told r q a b (r.wire a b) (q.acked a b)) (empty-of _ (q.resting.no_entry a b la lb)))))
+      and_from _ _ (and_from _ _ (is-told r q a b (r.wire a b) (q.acked a b)) (empty-of _ (q.resting.no_entry a b la lb))) (not_from_false _ (q.none_owed a b la lb)))))

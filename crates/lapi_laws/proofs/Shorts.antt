@@ -6,19 +6,20 @@ use Rattle.std.proofs.lemmas.Bool.{both_ways, and_parts, cond_both, eqb-true, lt
 use Rattle.std.proofs.lemmas.List.{length-append, length-map}
 use Rattle.std.proofs.lemmas.Map.Steps.{length-le_from_distinct_below}
 use Rattle.std.proofs.lemmas.Option.{slice_get_within}
-use Rattle.lapi_base.specs.Layout.{unit_of, longest_of, longest_active_of}
+use Rattle.lapi_base.specs.Layout.{Layout, First, Second, layout_of, unit, longest, longest_active, unit_of, longest_of, longest_active_of}
 use Rattle.lapi_base.specs.declared.script.Script.{Script}
 use Rattle.lapi_base.specs.declared.statement.Statement.{Statement}
 use Rattle.lapi_base.specs.declared.statement.Statement.TheVariants.{Put, Get, Putv, Getv, Am}
 use Rattle.lapi_base.specs.declared.rule.Rules.{Rules}
 use Rattle.lapi_base.specs.declared.message.Leg.{Leg}
-use Rattle.lapi_base.specs.declared.message.Leg.TheVariants.{Go, Back, Note, Join}
+use Rattle.lapi_base.specs.declared.message.Leg.TheVariants.{Go, Back, Note, Echo, Join}
 use Rattle.lapi_base.specs.declared.message.MsgName.{MsgName}
 use Rattle.lapi_base.specs.declared.refusal.Refusal.{Refusal}
 use Rattle.lapi_base.specs.declared.event.Event.{Event}
 use Rattle.lapi_base.specs.declared.event.Event.TheVariants.{Issue, Copy}
 use Rattle.lapi_base.specs.Names.{Deed, Issued, Copied, Landed, Begun, Ended, deed, done, message}
 use Rattle.lapi_base.specs.Operations.{upto, statements, statement, sender, receiver, has_leg, has_join, total, pieces_of, length_by, message_length, fragment_count, fragments}
+use Rattle.lapi_base.specs.Fragments.{fragments_in}
 use Rattle.lapi_base.specs.Handlers.{has_completion}
 use Rattle.lapi_base.specs.Refusals.{too_long, first_reason, why_by, why}
 use Rattle.lapi_base.specs.Record.{out, is_number, has_number}
@@ -38,7 +39,8 @@ pub leg_code : Leg → ℕ
 leg_code Go = 0
 leg_code Back = 1
 leg_code Note = 2
-leg_code (Join d) = 3 + d
+leg_code Echo = 3
+leg_code (Join d) = 4 + d
 
 -- and of a message
 code : MsgName → ℕ
@@ -50,6 +52,7 @@ unfolding leg_code
 leg-one Go Go h = refl
 leg-one Back Back h = refl
 leg-one Note Note h = refl
+leg-one Echo Echo h = refl
 leg-one (Join d) (Join e) h = ap Join (omega arith)
 leg-one _ _ h = absurd (omega arith)
 
@@ -93,10 +96,10 @@ module _ (script : Script) (rules : Rules) (valid : ValidScript script) where
       index (s ∷ ls) (suc k) h = index ls k h.1
 
   -- a leg that a statement has is in range
-  leg-range : (a : ℕ) (leg : Leg) (s : Statement) → has_leg script a leg s ≡ true → leg_code leg < 16
+  leg-range : (answers : Bool) (a : ℕ) (leg : Leg) (s : Statement) → has_leg script answers a leg s ≡ true → leg_code leg < 16
   unfolding leg_code
-  leg-range a (Join d) s h = let l : d < script.tasks = ltb-true d script.tasks (and_parts (nat_lt d script.tasks) (not (d == a)) (and_parts (has_join s) (nat_lt d script.tasks && not (d == a)) h).1).0 in let t : script.tasks ≤ 8 = valid.tasks.1 in omega arith
-  leg-range a _ s h = omega arith
+  leg-range answers a (Join d) s h = let l : d < script.tasks = ltb-true d script.tasks (and_parts (nat_lt d script.tasks) (not (d == a)) (and_parts (has_join s) (nat_lt d script.tasks && not (d == a)) h).1).0 in let t : script.tasks ≤ 8 = valid.tasks.1 in omega arith
+  leg-range answers a _ s h = omega arith
 
   -- a message that is there is in range
   pub in-range : (m : MsgName) → has_message script rules m ≡ true → InRange m
@@ -108,7 +111,7 @@ module _ (script : Script) (rules : Rules) (valid : ValidScript script) where
       let t : script.tasks ≤ 8 = valid.tasks.1 in
       let s : m.statement < length (statements script m.origin) = ltb-true m.statement (length (statements script m.origin)) place.1 in
       let f = statements-few m.origin in
-      (omega arith, omega arith, leg-range m.origin m.leg (statement script m.origin m.statement) both.1)
+      (omega arith, omega arith, leg-range _ m.origin m.leg (statement script m.origin m.statement) both.1)
 
   -- this is the code of a message that was copied
   abbrev Known : List Event → ℕ → Type 0
@@ -180,16 +183,36 @@ none-tests (l ∷ ls) h =
       | false ↦ λ e g. (e, none-tests ls g)
     ] refl h
 
+-- In each layout a longest message is 64 units, and no active message is longer.
+few-units : (l : Layout) (n : ℕ) → n ≤ longest l → fragments_in (unit l) n ≤ 64
+few-units First n h = let g : max 1 ((n + 255) / 256) ≤ 64 = omega arith in g
+few-units Second n h = let g : max 1 ((n + 1023) / 1024) ≤ 64 = omega arith in g
+
+longest-least : (script : Script) → 4 ≤ longest_of script
+unfolding longest_of
+longest-least script = each (layout_of script.layout)
+  where
+    each : (l : Layout) → 4 ≤ longest l
+    each First = omega arith
+    each Second = omega arith
+
+longest-most : (script : Script) → longest_active_of script ≤ longest_of script
+unfolding longest_of longest_active_of
+longest-most script = each (layout_of script.layout)
+  where
+    each : (l : Layout) → longest_active l ≤ longest l
+    each First = omega arith
+    each Second = omega arith
+
 module _ (script : Script) (rules : Rules) where
   -- a message of an operation that isn't too long is short
-  length-short : (leg : Leg) (s : Statement) → too_long script s ≡ false → length_by leg s ≤ 16384
-  unfolding longest_of longest_active_of
-  length-short Go (Put target to from len tgt org cmpl) h = ltb-false 16384 len h
-  length-short Go (Putv target to from tgt org cmpl) h = ltb-false 16384 (total (pieces_of from)) (or_parts _ _ h).1
-  length-short Go (Am target handler header from len tgt org cmpl) h = ltb-false 16384 len h
-  length-short Back (Get target from to len tgt org) h = ltb-false 16384 len h
-  length-short Back (Getv target from to tgt org) h = ltb-false 16384 (total (pieces_of from)) (or_parts _ _ h).0
-  length-short _ _ h = omega arith
+  length-short : (leg : Leg) (s : Statement) → too_long script s ≡ false → length_by leg s ≤ longest_of script
+  length-short Go (Put target to from len tgt org cmpl) h = ltb-false (longest_of script) len h
+  length-short Go (Putv target to from tgt org cmpl) h = ltb-false (longest_of script) (total (pieces_of from)) (or_parts _ _ h).1
+  length-short Go (Am target handler header from len tgt org cmpl) h = let l = ltb-false (longest_active_of script) len h in omega (arith, l, longest-most script)
+  length-short Back (Get target from to len tgt org) h = ltb-false (longest_of script) len h
+  length-short Back (Getv target from to tgt org) h = ltb-false (longest_of script) (total (pieces_of from)) (or_parts _ _ h).0
+  length-short _ _ h = omega (arith, longest-least script)
 
   -- An issued operation isn't too long.
   abbrev IsShort : Deed → Type 0
@@ -211,23 +234,23 @@ module _ (script : Script) (rules : Rules) where
   last-of P [] ys h = h
   last-of P (x ∷ xs) ys h = last-of P xs ys h.1
 
-  -- Go and Back come after an Issue; a Note and a Join carry nothing.
-  needs-short : (J : List Event) (a i : ℕ) (leg : Leg) → Atomic script rules J → AllByRecursion (λ d. done d J ≡ true) (copy_needs script rules a i leg) → length_by leg (statement script a i) ≤ 16384
+  -- Go and Back come after an Issue; an Echo carries a word, and a Note and a Join nothing.
+  needs-short : (J : List Event) (a i : ℕ) (leg : Leg) → Atomic script rules J → AllByRecursion (λ d. done d J ≡ true) (copy_needs script rules a i leg) → length_by leg (statement script a i) ≤ longest_of script
   needs-short J a i Go h n = length-short Go (statement script a i) (shown script rules IsShort short-now (Issued a i) J h n.0)
   needs-short J a i Back h n =
       let rest = last-of (λ d. done d J ≡ true) (only_if (has_completion script rules a i) (Begun (message a i Go) ∷ Ended (message a i Go) ∷ [])) (Landed (message a i Go) ∷ to_land script rules a i) n in
       length-short Back (statement script a i) (shown script rules IsShort short-now (Issued a i) J h rest.1.0)
-  needs-short J a i _ h n = omega arith
+  needs-short J a i _ h n = omega (arith, longest-least script)
 
   -- so every message that was copied is short
-  pub copied-short : (J : List Event) (m : MsgName) → Atomic script rules J → done (Copied m) J ≡ true → message_length script m ≤ 16384
+  pub copied-short : (J : List Event) (m : MsgName) → Atomic script rules J → done (Copied m) J ≡ true → message_length script m ≤ longest_of script
   unfolding message_length needs
   copied-short J m h d = needs-short J m.origin m.statement m.leg h (closed script rules (Copied m) J h d)
 
   -- and has few fragments
   pub copied-few : (J : List Event) (m : MsgName) → Atomic script rules J → done (Copied m) J ≡ true → fragment_count script m ≤ 64
-  unfolding fragment_count unit_of
-  copied-few J m h d = let n = message_length script m in let l : n ≤ 16384 = copied-short J m h d in let g : max 1 ((n + 255) / 256) ≤ 64 = omega arith in g
+  unfolding fragment_count unit_of longest_of
+  copied-few J m h d = few-units (layout_of script.layout) (message_length script m) (copied-short J m h d)
 
   -- so every number on a wire is small
   sent-small : (J : List Event) (wire handed : Lists) → ValidScript script → Sound script rules J wire handed → (a b n : ℕ) → has_number (wire a b) n ≡ true → n < 4194304

@@ -1,10 +1,11 @@
--- The last acknowledgement on a wire tells of all that was delivered, as far as it reaches.
-use Rattle.std.proofs.Common.{◌≡◌, ℕ, ◌+◌, ◌-◌, ◌<◌, ◌≤◌, ◌==◌, Bool, true, false, cond, ◌&&◌, List, [], ◌∷◌, ◌++◌, length, Option, Some, None, refl, sym, ap, ◌∙◌, subst, ⊎_elim, arith}
+-- Where no acknowledgement is owed on a link, the last one on its wire tells of all that was delivered, as far as it reaches.
+use Rattle.std.proofs.Common.{◌≡◌, ℕ, ◌+◌, ◌-◌, ◌<◌, ◌≤◌, ◌==◌, Bool, true, false, cond, ◌&&◌, ◌||◌, not, List, [], ◌∷◌, ◌++◌, length, Option, Some, None, refl, sym, ap, ◌∙◌, subst, ⊎_elim, arith, append_assoc}
 use Rattle.std.specs.Prelude.{slice_get, nat_lt}
 use Rattle.std.specs.List.{AllByRecursion, list_any}
-use Rattle.std.proofs.lemmas.Bool.{and_from, both_ways, cond_both, cond-true, eqb-true, eq-eqb, or_cases, or_right, or_left, lt-ltb, cases_lt, false_from_ne_true, and_right}
+use Rattle.std.proofs.lemmas.Bool.{true≢false, and_from, and_parts, both_ways, cond_both, cond-true, cond-false, eqb-true, or_cases, or_right, or_left, lt-ltb, cases_lt, false_from_ne_true}
+use Rattle.std.proofs.lemmas.List.{append-nil}
 use Rattle.std.proofs.lemmas.Option.{slice_get_within}
-use Rattle.lapi_base.specs.Layout.{window_of}
+use Rattle.lapi_base.specs.Layout.{window_of, holds_back}
 use Rattle.lapi_base.specs.declared.script.Script.{Script}
 use Rattle.lapi_base.specs.declared.rule.Rules.{Rules}
 use Rattle.lapi_base.specs.declared.event.Event.{Event}
@@ -20,13 +21,13 @@ use Rattle.lapi_base.specs.Operations.{statements}
 use Rattle.lapi_base.specs.Refusals.{next, why}
 use Rattle.lapi_base.specs.Jobs.{queue, runs}
 use Rattle.lapi_base.specs.Packets.{data_packet}
-use Rattle.lapi_base.specs.Record.{Run, out, is_number, covers, has_number, ready, copy_each, packet_of, packets, fresh, poll, stale, tick, ack, with_handed, hand_over, deliver, deliver_entry, unless_refused, add_event, reply_with, step, begin_first, begin_at, begin, end_at, end, cut_entry, perform, after}
+use Rattle.lapi_base.specs.Record.{Run, out, is_number, covers, has_number, ready, copy_each, packet_of, packets, fresh, ack, owed_ack, poll, stale, tick, at_once, with_handed, hand_over, deliver, deliver_entry, unless_refused, add_event, reply_with, step, begin_first, begin_at, begin, end_at, end, cut_entry, perform, after}
 use Rattle.lapi_base.specs.Valid.{ValidAct}
 use Rattle.lapi_base.specs.Final.{or_first, last_ack}
 use Rattle.lapi_laws.proofs.NumberLaws.{has_bit-from, least_missing-not}
 use Rattle.lapi_laws.proofs.Out.{all-get}
 use Rattle.lapi_laws.proofs.Lines.{SoundRun, all-flat_map, all-any}
-use Rattle.lapi_laws.proofs.Sound.{Lists, Fits, known}
+use Rattle.lapi_laws.proofs.Sound.{Fits, known}
 use Rattle.lapi_laws.proofs.Runs.{perform-sound}
 
 abbrev IsData : Packet → Type 0
@@ -62,11 +63,9 @@ module _ (script : Script) (rules : Rules) where
   abbrev pub LastTells : List Packet → (ℕ → Bool) → Type 0
   LastTells wire set = (n : ℕ) → set n ≡ true → (p : Packet) × ((last_ack wire ≡ Some p) × Tells set p)
 
-  abbrev pub Told : Lists → Lists → Type 0
-  Told wire handed = (a b : ℕ) → LastTells (wire b a) (has_number (handed a b))
-
+  -- of each link where none is owed
   abbrev pub ToldRun : Run → Type 0
-  ToldRun r = Told r.wire r.handed
+  ToldRun r = (a b : ℕ) → r.owed a b ≡ false → LastTells (r.wire b a) (has_number (r.handed a b))
 
   packets-data : (J : List Event) (a b : ℕ) (numbers : List ℕ) → AllByRecursion IsData (packets script rules J a b numbers)
   unfolding packets data_packet
@@ -74,77 +73,120 @@ module _ (script : Script) (rules : Rules) where
       all-flat_map (λ _. Unit {0}) IsData (λ n. packet_of script rules J n (slice_get (out script J a b) n)) numbers (all-any numbers)
       (λ n _. elim (slice_get (out script J a b) n) as (λ o. AllByRecursion IsData (packet_of script rules J n o)) [ None ↦ tt | Some pair ↦ (tt, tt) ])
 
-  -- data that are put on wires
-  more-told : (wire handed : Lists) (J : List Event) (t : ℕ) (numbers : (a b : ℕ) → List ℕ) → Told wire handed → Told (λ a b. cond (a == t) (wire a b ++ packets script rules J a b (numbers a b)) (wire a b)) handed
-  more-told wire handed J t numbers h a b =
-      cond_both (b == t) (wire b a ++ packets script rules J b a (numbers b a)) (wire b a) (λ ps. LastTells ps (has_number (handed a b)))
-      (λ _ n d. let r = h a b n d in (r.0, (last_ack-data (wire b a) (packets script rules J b a (numbers b a)) (packets-data J b a (numbers b a)) ∙ r.1.0, r.1.1)))
-      (λ _. h a b)
-
   -- an acknowledgement that is handed over
   ack-told : (r : Run) (a b from to least bits : ℕ) → ToldRun r → ToldRun (hand_over script rules r a b (Ack from to least bits))
   unfolding hand_over has_number
-  ack-told r a b from to least bits h x y =
+  ack-told r a b from to least bits h x y e =
       cond_both (x == a && y == b) (Ack from to least bits ∷ r.handed x y) (r.handed x y) (λ ps. LastTells (r.wire y x) (λ n. list_any (is_number n) ps))
-      (λ _. h x y)
-      (λ _. h x y)
+      (λ _. h x y e)
+      (λ _. h x y e)
 
-  -- a data packet that is handed over: the acknowledgement that follows tells of all
+  -- the acknowledgement of what was delivered so far tells of all, where all of it are numbers of the link
+  ack-tells : (r : Run) (a b : ℕ) → ((n : ℕ) → has_number (r.handed a b) n ≡ true → n < length (out script r.journal a b)) → Tells (has_number (r.handed a b)) (ack script rules r a b)
+  unfolding ack
+  ack-tells r a b room =
+      let set = has_number (r.handed a b) in
+      let least = least_missing (length (out script r.journal a b)) set in (
+        false_from_ne_true (set least) (λ h. both_ways _ (least_missing-not (length (out script r.journal a b)) set (room least h)) h),
+        λ n h l.
+            ⊎_elim
+            (λ (lt : n < least). or_left _ _ (lt-ltb n least lt))
+            (λ (ge : least ≤ n).
+            let i : n - least < window_of script = omega arith in
+            let same : n ≡ least + (n - least) = omega arith in
+            or_right _ _ (has_bit-from (window_of script) (λ k. set (least + k)) (n - least) i (subst (λ k. set k ≡ true) same h)))
+            (cases_lt n least),
+      )
+
+  ack-last : (r : Run) (a b : ℕ) (xs : List Packet) → last_ack (xs ++ ack script rules r a b ∷ []) ≡ Some (ack script rules r a b)
+  unfolding ack
+  ack-last r a b xs = last_ack-push xs b a _ _
+
+  -- so it does at the end of a wire
+  last-tells : (r : Run) (a b : ℕ) (xs : List Packet) → ((n : ℕ) → has_number (r.handed a b) n ≡ true → n < length (out script r.journal a b)) → LastTells (xs ++ ack script rules r a b ∷ []) (has_number (r.handed a b))
+  last-tells r a b xs room n _ = (ack script rules r a b, (ack-last r a b xs, ack-tells r a b room))
+
+  handed-room : (r : Run) → SoundRun script rules r → (a b n : ℕ) → has_number (r.handed a b) n ≡ true → n < length (out script r.journal a b)
+  handed-room r s a b n h = let k = known script rules r.journal r.wire r.handed s a b n h in slice_get_within (out script r.journal a b) n k.0 k.1
+
+  -- a Poll puts data on its wires, and then what it owes
+  more-tells : (xs ys : List Packet) (set : ℕ → Bool) → AllByRecursion IsData ys → LastTells xs set → LastTells (xs ++ ys) set
+  more-tells xs ys set only h n d = let r = h n d in (r.0, (last_ack-data xs ys only ∙ r.1.0, r.1.1))
+
+  poll-told : (r : Run) (t : ℕ) → SoundRun script rules r → ToldRun r → ToldRun (poll script rules r t)
+  unfolding poll owed_ack
+  poll-told r t s h a b =
+      let J = copy_each r.journal (ready script r.journal t) in
+      let new = packets script rules J b a (fresh script rules r J b a) in
+      let set = has_number (r.handed a b) in
+      elim (b == t) as (λ c. (not c && r.owed a b) ≡ false → LastTells (cond c (r.wire b a ++ (new ++ owed_ack script rules r a b)) (r.wire b a)) set) [
+        | true ↦ λ _.
+            elim (r.owed a b) as (λ o. r.owed a b ≡ o → LastTells (r.wire b a ++ (new ++ cond o (ack script rules r a b ∷ []) [])) set) [
+              | true ↦ λ _. subst (λ ps. LastTells ps set) (append_assoc (r.wire b a) new (ack script rules r a b ∷ [])) (last-tells r a b (r.wire b a ++ new) (handed-room r s a b))
+              | false ↦ λ e. subst (λ ps. LastTells (r.wire b a ++ ps) set) (sym (append-nil new)) (more-tells (r.wire b a) new set (packets-data J b a (fresh script rules r J b a)) (h a b e))
+            ] refl
+        | false ↦ λ e. h a b e
+      ]
+
+  -- a Tick puts data on its wires
+  tick-told : (r : Run) (t : ℕ) → ToldRun r → ToldRun (tick script rules r t)
+  unfolding tick
+  tick-told r t h a b e =
+      cond_both (b == t) (r.wire b a ++ packets script rules r.journal b a (stale script rules r b a)) (r.wire b a) (λ ps. LastTells ps (has_number (r.handed a b)))
+      (λ _. more-tells (r.wire b a) (packets script rules r.journal b a (stale script rules r b a)) (has_number (r.handed a b)) (packets-data r.journal b a (stale script rules r b a)) (h a b e))
+      (λ _. h a b e)
+
+  -- a data packet that is handed over: the acknowledgement that follows tells of all, or it is owed
   module _ (r : Run) (a b : ℕ) (p : DataPacket) (s : SoundRun script rules r) (fit : Fits script rules r.journal r.handed a b (Data p)) where
     abbrev now : Run
     now = with_handed script rules r a b (Data p)
 
-    number-room : (n : ℕ) → has_number (now.handed a b) n ≡ true → n < length (out script r.journal a b)
+    number-room : (x y : ℕ) → x ≡ a → y ≡ b → (n : ℕ) → has_number (now.handed x y) n ≡ true → n < length (out script r.journal x y)
     unfolding has_number
-    number-room n h =
-        cond_both (a == a && b == b) (Data p ∷ r.handed a b) (r.handed a b) (λ ps. list_any (is_number n) ps ≡ true → n < length (out script r.journal a b))
+    number-room x y ex ey n h =
+        let here : n ≡ p.seq → n < length (out script r.journal x y) =
+        λ e. subst (λ k. k < length (out script r.journal x y)) (sym e) (subst (λ v. p.seq < length (out script r.journal x v)) (sym ey) (subst (λ u. p.seq < length (out script r.journal u b)) (sym ex) (slice_get_within (out script r.journal a b) p.seq (p.name, p.fragment) fit)))
+        in
+        cond_both (x == a && y == b) (Data p ∷ r.handed x y) (r.handed x y) (λ ps. list_any (is_number n) ps ≡ true → n < length (out script r.journal x y))
         (λ _ h'.
         ⊎_elim
-        (λ (e : (p.seq == n) ≡ true). subst (λ k. k < length (out script r.journal a b)) (eqb-true p.seq n e) (slice_get_within (out script r.journal a b) p.seq (p.name, p.fragment) fit))
-        (λ (e : list_any (is_number n) (r.handed a b) ≡ true). let k = known script rules r.journal r.wire r.handed s a b n e in slice_get_within (out script r.journal a b) n k.0 k.1)
+        (λ (e : (p.seq == n) ≡ true). here (sym (eqb-true p.seq n e)))
+        (λ (e : list_any (is_number n) (r.handed x y) ≡ true). handed-room r s x y n e)
         (or_cases _ _ h'))
-        (λ _ h'. let k = known script rules r.journal r.wire r.handed s a b n h' in slice_get_within (out script r.journal a b) n k.0 k.1)
+        (λ _ h'. handed-room r s x y n h')
         h
 
-    ack-tells : Tells (has_number (now.handed a b)) (ack script rules now a b)
-    unfolding ack
-    ack-tells =
-        let set = has_number (now.handed a b) in
-        let least = least_missing (length (out script r.journal a b)) set in (
-          false_from_ne_true (set least) (λ h. both_ways _ (least_missing-not (length (out script r.journal a b)) set (number-room least h)) h),
-          λ n h l.
-              ⊎_elim
-              (λ (lt : n < least). or_left _ _ (lt-ltb n least lt))
-              (λ (ge : least ≤ n).
-              let i : n - least < window_of script = omega arith in
-              let same : n ≡ least + (n - least) = omega arith in
-              or_right _ _ (has_bit-from (window_of script) (λ k. set (least + k)) (n - least) i (subst (λ k. set k ≡ true) same h)))
-              (cases_lt n least),
-        )
-
-    ack-last : (xs : List Packet) → last_ack (xs ++ ack script rules now a b ∷ []) ≡ Some (ack script rules now a b)
-    unfolding ack
-    ack-last xs = last_ack-push xs b a _ _
-
+    -- the wire of the link itself, and of any other
     data-told : ToldRun r → ToldRun (hand_over script rules r a b (Data p))
-    unfolding hand_over
+    unfolding hand_over at_once
     data-told h x y =
-        elim (x == a) as (λ s1. (x == a) ≡ s1 → LastTells (cond (y == b && s1) (r.wire y x ++ ack script rules now a b ∷ []) (r.wire y x)) (has_number (cond (s1 && y == b) (Data p ∷ r.handed x y) (r.handed x y)))) [
-          | true ↦ λ e1.
-              elim (y == b) as (λ s2. (y == b) ≡ s2 → LastTells (cond (s2 && true) (r.wire y x ++ ack script rules now a b ∷ []) (r.wire y x)) (has_number (cond (true && s2) (Data p ∷ r.handed x y) (r.handed x y)))) [
-                | true ↦ λ e2 n _. (
-                  ack script rules now a b,
-                  (
-                    ack-last (r.wire y x),
-                    subst (λ v. Tells (has_number (Data p ∷ r.handed x v)) (ack script rules now a b)) (sym (eqb-true y b e2))
-                        (subst (λ u. Tells (has_number (Data p ∷ r.handed u b)) (ack script rules now a b)) (sym (eqb-true x a e1))
-                        (subst (λ ps. Tells (has_number ps) (ack script rules now a b)) (cond-true (a == a && b == b) (Data p ∷ r.handed a b) (r.handed a b) (and_from _ _ (eq-eqb a a refl) (eq-eqb b b refl))) ack-tells)),
-                  ),
-                )
-                | false ↦ λ e2. h x y
-              ] refl
-          | false ↦ λ e1. subst (λ t. LastTells (cond t (r.wire y x ++ ack script rules now a b ∷ []) (r.wire y x)) (has_number (r.handed x y))) (sym (and_right (y == b) false refl)) (h x y)
+        let told = ack script rules now a b in
+        elim (x == a && y == b) as (λ c. (x == a && y == b) ≡ c → ((holds_back script && c) || r.owed x y) ≡ false → LastTells (cond (y == b && x == a) (r.wire y x ++ cond (holds_back script) [] (told ∷ [])) (r.wire y x)) (has_number (cond c (Data p ∷ r.handed x y) (r.handed x y)))) [
+          | true ↦ λ t.
+              let ends = and_parts (x == a) (y == b) t in
+              let ex = eqb-true x a ends.0 in
+              let ey = eqb-true y b ends.1 in
+              elim (holds_back script) as (λ k. ((k && true) || r.owed x y) ≡ false → LastTells (cond (y == b && x == a) (r.wire y x ++ cond k [] (told ∷ [])) (r.wire y x)) (has_number (Data p ∷ r.handed x y))) [
+                | true ↦ λ e. absurd (true≢false e)
+                | false ↦ λ _.
+                    subst (λ ps. LastTells ps (has_number (Data p ∷ r.handed x y))) (sym (cond-true (y == b && x == a) (r.wire y x ++ told ∷ []) (r.wire y x) (and_from _ _ ends.1 ends.0)))
+                    (subst (λ ps. LastTells (r.wire y x ++ told ∷ []) (has_number ps)) (cond-true (x == a && y == b) (Data p ∷ r.handed x y) (r.handed x y) t)
+                    (subst (λ q. LastTells (r.wire y x ++ q ∷ []) (has_number (now.handed x y))) (λ i. ack script rules now (ex i) (ey i)) (last-tells now x y (r.wire y x) (number-room x y ex ey))))
+              ]
+          | false ↦ λ t e.
+              subst (λ ps. LastTells ps (has_number (r.handed x y))) (sym (cond-false (y == b && x == a) (r.wire y x ++ cond (holds_back script) [] (told ∷ [])) (r.wire y x) (and-swap (x == a) (y == b) t)))
+              (h x y (or-second _ _ e))
         ] refl
+      where
+        and-swap : (u v : Bool) → (u && v) ≡ false → (v && u) ≡ false
+        and-swap true true e = e
+        and-swap true false e = refl
+        and-swap false true e = refl
+        and-swap false false e = refl
+
+        or-second : (u v : Bool) → (u || v) ≡ false → v ≡ false
+        or-second true v e = absurd (true≢false e)
+        or-second false v e = e
 
   hand_over-told : (r : Run) (a b : ℕ) (p : Packet) → SoundRun script rules r → Fits script rules r.journal r.handed a b p → ToldRun r → ToldRun (hand_over script rules r a b p)
   hand_over-told r a b (Ack from to least bits) s fit h = ack-told r a b from to least bits h
@@ -156,13 +198,13 @@ module _ (script : Script) (rules : Rules) where
 
   module _ (spells : List ℕ → Bool) (size : Packet → ℕ) (refusal : List ℕ → Bad) where
     pub perform-told : (r : Run) (act : Act) → SoundRun script rules r → ToldRun r → ToldRun (perform script rules size refusal r act)
-    unfolding perform step poll tick deliver begin end
+    unfolding perform step deliver begin end
     perform-told r (Step a) s h =
         cond_both (nat_lt (next r.journal a) (length (statements script a))) (add_event script rules r (unless_refused script rules r a (next r.journal a) (why script rules r.journal a (next r.journal a)))) (reply_with script rules r Idle) ToldRun
         (λ _. event-told r (unless_refused script rules r a (next r.journal a) (why script rules r.journal a (next r.journal a))) h)
         (λ _. h)
-    perform-told r (Poll t) s h = more-told r.wire r.handed (copy_each r.journal (ready script r.journal t)) t (fresh script rules r (copy_each r.journal (ready script r.journal t))) h
-    perform-told r (Tick t) s h = more-told r.wire r.handed r.journal t (stale script rules r) h
+    perform-told r (Poll t) s h = poll-told r t s h
+    perform-told r (Tick t) s h = tick-told r t h
     perform-told r (Deliver a b k) s h =
         elim (slice_get (r.wire a b) k) as (λ o. slice_get (r.wire a b) k ≡ o → ToldRun (deliver_entry script rules r a b o)) [
           | None ↦ λ e. h

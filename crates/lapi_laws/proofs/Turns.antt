@@ -1,35 +1,35 @@
 -- Each schedule line keeps what holds of every record: statements and jobs.
 use Rattle.std.proofs.Common.{◌≡◌, ℕ, zero, suc, ◌<◌, ◌≤◌, ◌==◌, Bool, true, false, cond, ◌&&◌, ◌||◌, not, List, [], ◌∷◌, ◌++◌, length, filter, Some, None, refl, sym, ap, ◌∙◌, subst, ⊎_elim, arith}
 use Rattle.std.specs.Prelude.{slice_get, is_some, nat_lt, nat_le}
-use Rattle.std.specs.List.{AllByRecursion}
+use Rattle.std.specs.List.{list_all, AllByRecursion}
 use Rattle.std.proofs.lemmas.Bool.{false≢true, and_parts, and_from, both_ways, cond_both, cond-true, eqb-true, or_cases, or_right, not-true, false_from_ne_true, cases_lt, ltb-true, lt-ltb}
 use Rattle.lapi_base.specs.declared.script.Script.{Script}
 use Rattle.lapi_base.specs.declared.statement.Statement.{Statement}
 use Rattle.lapi_base.specs.declared.statement.Statement.TheVariants.{Store, Put, Get, Putv, Getv, Rmw, Am, Wait, Set, Read, Fence, Gfence}
 use Rattle.lapi_base.specs.declared.rule.Rules.{Rules}
 use Rattle.lapi_base.specs.declared.message.Leg.{Leg}
-use Rattle.lapi_base.specs.declared.message.Leg.TheVariants.{Go, Back, Note, Join}
+use Rattle.lapi_base.specs.declared.message.Leg.TheVariants.{Go, Back, Note, Echo, Join}
 use Rattle.lapi_base.specs.declared.refusal.Refusal.{Refusal}
 use Rattle.lapi_base.specs.declared.event.Event.{Event}
-use Rattle.lapi_base.specs.declared.event.Event.TheVariants.{Issue, Refuse, Enter, Pass, Begin, End}
+use Rattle.lapi_base.specs.declared.event.Event.TheVariants.{Issue, Refuse, Enter, Pass, Copy, Begin, End}
 use Rattle.lapi_base.specs.Below.{below}
 use Rattle.lapi_base.specs.Names.{leg_eq, Issued, Refused, Entered, Passed, Copied, Landed, Begun, Ended, deed, done, message}
-use Rattle.lapi_base.specs.Operations.{statements, statement, receiver, is_data, is_gfence, has_back, table_rounds}
-use Rattle.lapi_base.specs.Handlers.{has_completion}
+use Rattle.lapi_base.specs.Operations.{statements, statement, receiver, is_data, is_am, is_gfence, has_back, table_rounds}
+use Rattle.lapi_base.specs.Handlers.{has_completion, answers}
 use Rattle.lapi_base.specs.Counters.{count}
 use Rattle.lapi_base.specs.Refusals.{next, gfence_rounds, round_of, partner, join_landed, joined, why}
 use Rattle.lapi_base.specs.declared.reply.Reply.TheVariants.{Idle}
 use Rattle.lapi_base.specs.Jobs.{is_job, queue, runs}
-use Rattle.lapi_base.specs.Record.{Run, out, is_acked, all_numbers, data_done, data_clear, followed, reply_with, event_if, proposed, unless_refused, add_event, step, begin_first, begin_at, begin, end_at, end}
-use Rattle.lapi_base.specs.Atomic.{Keeps, needs, land_needs, only_if, to_land, has_statement, is_issued, is_passed, is_entered, is_first, is_run, landed_before, data_landed, partner_cleared, all_cleared, pass_allowed}
+use Rattle.lapi_base.specs.Record.{Run, out, is_acked, all_numbers, data_done, data_clear, followed, reply_with, event_if, proposed, unless_refused, add_event, step, begin_first, begin_at, begin, end_at, end, note_of}
+use Rattle.lapi_base.specs.Atomic.{Keeps, needs, land_needs, only_if, to_land, to_follow, has_message, has_statement, is_issued, is_passed, is_entered, is_first, is_run, landed_before, data_landed, partner_cleared, all_cleared, pass_allowed}
 use Rattle.lapi_laws.proofs.NumberLaws.{all-weaker, below-all, list_all-at, every_below-at, every_below-from, filter-all, filter-push}
 use Rattle.lapi_laws.proofs.Deeds.{done-cases, done-later, done-head, done-all-later, name_eq-refl, leg_eq-true}
 use Rattle.lapi_laws.proofs.Out.{get-front, get-back, all-get}
 use Rattle.lapi_laws.proofs.Backward.{closed, there, behind}
 use Rattle.lapi_laws.proofs.Workers.{Waiting, queue-waiting, begun, unended}
-use Rattle.lapi_laws.proofs.Sound.{Lists, Sound, before, add_silent, acked-delivered, landed_before-from, landed_before-later, implied-at}
+use Rattle.lapi_laws.proofs.Sound.{Lists, Sound, before, add_copy, add_silent, acked-delivered, landed_before-from, landed_before-later, implied-at}
 use Rattle.lapi_laws.proofs.Arrival.{all_numbers-at}
-use Rattle.lapi_laws.proofs.Lines.{SoundRun, note-sound}
+use Rattle.lapi_laws.proofs.Lines.{SoundRun, keeps-copy, note-sound}
 
 pub below-place : (n : ℕ) (p : ℕ → Bool) (i : ℕ) → i < n → p i ≡ true → slice_get (below n p) (length (filter (λ j. nat_lt j i) (below n p))) ≡ Some i
 unfolding below
@@ -261,6 +261,7 @@ module _ (script : Script) (rules : Rules) where
   to-land-by J a i Go e h = h
   to-land-by J a i Back e h = absurd (cc)
   to-land-by J a i Note e h = absurd (cc)
+  to-land-by J a i Echo e h = absurd (cc)
   to-land-by J a i (Join d) e h = absurd (cc)
 
   pub begin-sound : (r : Run) (t w : ℕ) → t < script.tasks → w < script.workers → SoundRun script rules r → SoundRun script rules (begin script rules r t w)
@@ -300,26 +301,35 @@ module _ (script : Script) (rules : Rules) where
       let m = message a i Go in
       let K = End m t w ∷ r.journal in
       let b = begun script rules r.journal t w m s.atomic e in
-      let here = (and_parts _ _ (and_parts _ _ b.1).0).0 in
+      let job = and_parts (has_message script rules m && (leg_eq m.leg Go && is_am (statement script m.origin m.statement))) (receiver script m == t && (nat_lt t script.tasks && nat_lt w script.workers)) b.1 in
+      let there : has_message script rules m ≡ true = (and_parts (has_message script rules m) (leg_eq m.leg Go && is_am (statement script m.origin m.statement)) job.0).0 in
+      let here : has_statement script rules a i ≡ true = (and_parts (has_statement script rules a i) (is_data (statement script a i)) there).0 in
       let stood = closed script rules (Begun m) r.journal s.atomic b.0 in
       let unended' = unended script rules r.journal t w m s.atomic e in
       let keeps : Keeps script rules r.journal (End m t w) = record {
         there = b.1;
         once = unended';
-        after = list_all-at (λ d. done d r.journal) (Begun m ∷ Landed m ∷ to_land script rules a i) (b.0, stood);
+        after = subst (λ c. list_all (λ d. done d r.journal) (only_if c (Begun m ∷ []) ++ Landed m ∷ to_land script rules a i) ≡ true) (sym b.2) (list_all-at (λ d. done d r.journal) (Begun m ∷ Landed m ∷ to_land script rules a i) (b.0, stood));
         jobs = subst (λ o. is_run script rules m o ≡ true) (sym e) (name_eq-refl m);
         waits = refl;
         order = tt;
       } in
       let s' = add_silent script rules (End m t w) r.journal r.wire r.handed tt keeps (quiet-fences (End m t w) r.journal r.wire r.handed (λ c j x. cc) (λ c j x. cc) s) s in
-      note-sound script rules K r.wire r.handed a i (and_parts _ _ here).0
-      (false_from_ne_true _ (λ yes.
-      let old = closed script rules (Copied (message a i Note)) r.journal s.atomic (before script rules (Copied (message a i Note)) (End m t w) r.journal (λ y. cc) yes) in
-      let known = subst (λ c. AllByRecursion (λ d. done d r.journal ≡ true) (only_if c (Begun m ∷ Ended m ∷ []) ++ Landed m ∷ to_land script rules a i)) b.2 old in
-      both_ways _ unended' known.1.0))
-      (subst (λ c. AllByRecursion (λ d. done d K ≡ true) (only_if c (Begun m ∷ Ended m ∷ []) ++ Landed m ∷ to_land script rules a i)) (sym b.2)
-      (done-later (Begun m) (End m t w) r.journal b.0, (done-head (End m t w) r.journal, done-all-later (Landed m ∷ to_land script rules a i) (End m t w) r.journal stood)))
-      s'
+      let follow = subst (λ c. AllByRecursion (λ d. done d K ≡ true) (only_if c (Begun m ∷ Ended m ∷ []) ++ Landed m ∷ to_land script rules a i)) (sym b.2)
+      (done-later (Begun m) (End m t w) r.journal b.0, (done-head (End m t w) r.journal, done-all-later (Landed m ∷ to_land script rules a i) (End m t w) r.journal stood)) in
+      let unsent : AllByRecursion (λ d. done d r.journal ≡ true) (to_follow script rules a i) → ⊥ =
+      λ old. let known = subst (λ c. AllByRecursion (λ d. done d r.journal ≡ true) (only_if c (Begun m ∷ Ended m ∷ []) ++ Landed m ∷ to_land script rules a i)) b.2 old in both_ways _ unended' known.1.0
+      in
+      cond_both (answers script rules a i) (Copy (message a i Echo) ∷ []) (note_of script rules m) (λ es. Sound script rules (followed K es) r.wire r.handed)
+      (λ answered.
+      add_copy script rules (message a i Echo) K r.wire r.handed
+      (keeps-copy script rules K (message a i Echo) (and_from _ _ here answered, follow)
+      (false_from_ne_true _ (λ sent. unsent (closed script rules (Copied (message a i Echo)) r.journal s.atomic (before script rules (Copied (message a i Echo)) (End m t w) r.journal (λ y. cc) sent)))))
+      s')
+      (λ silent.
+      note-sound script rules K r.wire r.handed a i silent here
+      (false_from_ne_true _ (λ sent. unsent (closed script rules (Copied (message a i Note)) r.journal s.atomic (before script rules (Copied (message a i Note)) (End m t w) r.journal (λ y. cc) sent))))
+      follow s')
 
   pub end-sound : (r : Run) (t w : ℕ) → SoundRun script rules r → SoundRun script rules (end script rules r t w)
   unfolding end

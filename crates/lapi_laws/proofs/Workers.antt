@@ -7,15 +7,15 @@ use Rattle.lapi_base.specs.declared.message.MsgName.{MsgName}
 use Rattle.lapi_base.specs.declared.event.Event.{Event}
 use Rattle.lapi_base.specs.declared.event.Event.TheVariants.{Issue, Refuse, Enter, Pass, Copy, Head, Land, Begin, End}
 use Rattle.lapi_base.specs.declared.message.Leg.TheVariants.{Go}
-use Rattle.lapi_base.specs.Names.{leg_eq, Landed, Begun, Ended, done}
+use Rattle.lapi_base.specs.Names.{leg_eq, Landed, Begun, Ended, deed, done}
 use Rattle.std.specs.List.{AllByRecursion}
 use Rattle.lapi_laws.proofs.NumberLaws.{all-weaker, all-append, all-filter}
 use Rattle.lapi_base.specs.Jobs.{is_job, landed_jobs, queue, runs}
 use Rattle.lapi_base.specs.Operations.{receiver}
 use Rattle.lapi_base.specs.Handlers.{has_completion}
-use Rattle.lapi_base.specs.Atomic.{Atomic, needs, has_job, is_first, is_run}
-use Rattle.lapi_laws.proofs.Deeds.{done-cases, done-later, done-head, name_eq-true}
-use Rattle.lapi_laws.proofs.Backward.{Atomic-head, Atomic-tail, closed}
+use Rattle.lapi_base.specs.Atomic.{Atomic, has_job, is_first, is_run}
+use Rattle.lapi_laws.proofs.Deeds.{done-nil, done-cases, done-later, done-head, name_eq-true}
+use Rattle.lapi_laws.proofs.Backward.{Atomic-head, Atomic-tail}
 
 pub is_run-some : (m : MsgName) (o : Option MsgName) (script : Script) (rules : Rules) → is_run script rules m o ≡ true → o ≡ Some m
 is_run-some m None script rules h = absurd (false≢true h)
@@ -32,7 +32,7 @@ module _ (script : Script) (rules : Rules) where
   older : (e : Event) (J : List Event) (t : ℕ) (ms : List MsgName) → AllByRecursion (Waiting J t) ms → AllByRecursion (Waiting (e ∷ J) t) ms
   older e J t ms h = all-weaker (Waiting J t) (Waiting (e ∷ J) t) (waiting-later e J t) ms h
 
-  landed-waiting : (J : List Event) (t : ℕ) → AllByRecursion (Waiting J t) (landed_jobs script rules J t)
+  pub landed-waiting : (J : List Event) (t : ℕ) → AllByRecursion (Waiting J t) (landed_jobs script rules J t)
   unfolding landed_jobs
   landed-waiting [] t = tt
   landed-waiting (Land m ∷ J) t =
@@ -132,9 +132,29 @@ module _ (script : Script) (rules : Rules) where
   one_place (Head n ∷ J) t w a v m h r s = one_place J t w a v m (Atomic-tail script rules (Head n) J h) r s
   one_place (Land n ∷ J) t w a v m h r s = one_place J t w a v m (Atomic-tail script rules (Land n) J h) r s
 
+  -- what ends was begun
+  pub begun-of : (e : Event) (J : List Event) (m : MsgName) → Atomic script rules (e ∷ J) → Ended m ≡ deed e → done (Begun m) J ≡ true
+  begun-of (End n t w) J m h same =
+      let there = is_run-some n (runs J t w) script rules (Atomic-head script rules (End n t w) J h).jobs in
+      let same' : n ≡ m = cc in
+      subst (λ y. done (Begun y) J ≡ true) same' (begun J t w n (Atomic-tail script rules (End n t w) J h) there).0
+  begun-of (Issue a i) J m h same = absurd (cc)
+  begun-of (Refuse a i y) J m h same = absurd (cc)
+  begun-of (Enter a i) J m h same = absurd (cc)
+  begun-of (Pass a i) J m h same = absurd (cc)
+  begun-of (Copy n) J m h same = absurd (cc)
+  begun-of (Head n) J m h same = absurd (cc)
+  begun-of (Land n) J m h same = absurd (cc)
+  begun-of (Begin n t w) J m h same = absurd (cc)
+
   ended-begun : (J : List Event) (m : MsgName) → Atomic script rules J → done (Ended m) J ≡ true → done (Begun m) J ≡ true
-  unfolding needs
-  ended-begun J m h s = (closed script rules (Ended m) J h s).0
+  ended-begun [] m h s = absurd (both_ways _ (done-nil (Ended m)) s)
+  ended-begun (e ∷ J) m h s =
+      done-later (Begun m) e J
+      (⊎_elim
+      (λ (x : Ended m ≡ deed e). begun-of e J m h x)
+      (λ (x : done (Ended m) J ≡ true). ended-begun J m (Atomic-tail script rules e J h) x)
+      (done-cases (Ended m) e J s))
 
   -- what runs has not ended
   pub unended : (J : List Event) (t w : ℕ) (m : MsgName) → Atomic script rules J → runs J t w ≡ Some m → done (Ended m) J ≡ false

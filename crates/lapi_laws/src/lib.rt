@@ -14,6 +14,6 @@ pub use atomic::journal_is_atomic;
 pub use counter::counters_add_up;
 pub use fence::fences_wait;
 pub use finality::{delivered_is_final, quiet_is_tested};
-pub use handed::handed_are_deliveries;
+pub use handed::{handed_are_deliveries, owed_by_deliveries};
 pub use order::{handlers_run_in_order, messages_land_once};
-pub use window::{few_are_partial, numbers_are_small, window_is_kept};
+pub use window::{few_are_partial, numbers_are_small, owed_are_held_back, window_is_kept};

@@ -1,12 +1,17 @@
 //! What is bounded on every link.
 ghost use Rattle.lapi_base.specs.Headline.{HoldsOfRuns};
-ghost use Rattle.lapi_base.specs.Links.{AckedAreDelivered, SentAreInWindow, StaysInWindow, FewArePartial, NumbersAreSmall, NumbersFit};
+ghost use Rattle.lapi_base.specs.Links.{AckedAreDelivered, SentAreInWindow, StaysInWindow, OwedAreHeldBack, FewArePartial, NumbersAreSmall, NumbersFit};
 
 /// What is acknowledged was delivered, and what was sent lies in the window of the sender, and of the receiver.
 pub fn window_is_kept()
     ensures delivered { HoldsOfRuns AckedAreDelivered }
     ensures sent { HoldsOfRuns SentAreInWindow }
     ensures reach { HoldsOfRuns StaysInWindow }
+{}
+
+/// An acknowledgement is owed where the layout holds it back, and nowhere else.
+pub fn owed_are_held_back()
+    ensures { HoldsOfRuns OwedAreHeldBack }
 {}
 
 /// At most as many messages of a link are there in part as the window has numbers.

@@ -7,12 +7,12 @@ use Rattle.lapi_base.specs.declared.span.Span.{Span}
 use Rattle.lapi_base.specs.declared.packet.Packet.{Packet}
 use Rattle.lapi_base.specs.declared.reply.Reason.{Reason}
 use Rattle.lapi_base.specs.declared.message.Leg.{Leg}
-use Rattle.lapi_base.specs.declared.message.Leg.TheVariants.{Go, Back, Note, Join}
+use Rattle.lapi_base.specs.declared.message.Leg.TheVariants.{Go, Back, Note, Echo, Join}
 use Rattle.lapi_base.specs.declared.head.NoteOp.{NoteOp}
 use Rattle.lapi_base.specs.Form.{Form, Done, ◌>>=◌, bytes_form, IsSpelled, reading}
 use Rattle.lapi_base.specs.Layout.{Layout, First, longest}
 use Rattle.lapi_base.specs.Parts.{counter_form, range_form, word_form, count_form, span_form, within_span, covering_span, matching_span, left_behind, behind, within_form, covering_form, matching_form}
-use Rattle.lapi_base.specs.Heads.{put_form, get_go_form, get_back_form, putv_form, getv_go_form, getv_back_form, update_form, rmw_go_form, rmw_back_form, header_count_form, am_form, note_of, note_form, round_form, gfence_form, addr_form, operation_form, head_form}
+use Rattle.lapi_base.specs.Heads.{put_form, get_go_form, get_back_form, putv_form, getv_go_form, getv_back_form, update_form, rmw_go_form, rmw_back_form, header_count_form, am_form, note_of, note_form, echo_form, round_form, gfence_form, addr_form, operation_form, head_form}
 use Rattle.lapi_base.specs.Spelling.{task_form, kind_form, front_form, acknowledgement_form, leg_form, name_form, is_length, length_form, fragment_form, fragment_size, data_form, packet_form}
 use Rattle.lapi_packet.proofs.Forms.{AtMost, at_most_more, at_most_bind, at_most_spelling, at_most_place, always_spelled, read_cases, done, failed, pair_is}
 use Rattle.lapi_packet.proofs.Numbers.{IsBytes}
@@ -138,6 +138,10 @@ at_most_note : (op : NoteOp) → AtMost 131 (note_form op)
 unfolding note_form
 at_most_note op = (omega arith, λ n l k. tt)
 
+at_most_echo : AtMost 131 echo_form
+unfolding echo_form word_form counter_form
+at_most_echo = (omega arith, λ n l k. (omega arith, λ n l k. tt))
+
 at_most_gfence : AtMost 131 gfence_form
 unfolding gfence_form round_form
 at_most_gfence = (omega arith, λ n l k. tt)
@@ -151,6 +155,7 @@ abbrev head_most : Leg → ℕ → ℕ
 head_most Go op = if op == 4 then 259 else 131
 head_most Back op = 131
 head_most Note op = 131
+head_most Echo op = 131
 head_most (Join _) op = 131
 
 at_most_go : (layout : Layout) (op size : ℕ) → AtMost (head_most Go op) (head_form layout Go op size)
@@ -172,6 +177,7 @@ unfolding head_form
 at_most_head layout Go op size = at_most_go layout op size
 at_most_head layout Back op size = at_most_if 131 (op == 2) _ _ (at_most_get_back size) (at_most_if 131 (op == 4) _ _ (at_most_getv_back size) at_most_rmw_back)
 at_most_head layout Note op size = at_most_note (note_of op)
+at_most_head layout Echo op size = at_most_echo
 at_most_head layout (Join _) op size = at_most_if 131 (op == 7) _ _ at_most_gfence at_most_addr
 
 -- ---- packets
@@ -193,6 +199,7 @@ head_and_payload Go op size fragment e =
     ]
 head_and_payload Back op size fragment e = omega arith
 head_and_payload Note op size fragment e = omega arith
+head_and_payload Echo op size fragment e = omega arith
 head_and_payload (Join _) op size fragment e = omega arith
 
 at_most_data : (from to : ℕ) → AtMost 402 (data_form First from to)
@@ -227,17 +234,18 @@ at_most_packet = (
   omega arith,
   λ n l k. (
     omega arith,
-    λ n l k. (
-      omega arith,
-      λ kind l k. (
-        omega arith,
-        λ from l k. (
+    λ version l v.
+        rw (eqb-true version 1 v) (
           omega arith,
-          λ to l k.
-              at_most_if 402 (kind == 1) (data_form First from to) (acknowledgement_form First from to) (at_most_data from to) (at_most_acknowledgement from to),
+          λ kind l k. (
+            omega arith,
+            λ from l k. (
+              omega arith,
+              λ to l k.
+                  at_most_if 402 (kind == 1) (data_form First from to) (acknowledgement_form First from to) (at_most_data from to) (at_most_acknowledgement from to),
+            ),
+          ),
         ),
-      ),
-    ),
   ),
 )
 

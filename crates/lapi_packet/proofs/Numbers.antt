@@ -3,9 +3,9 @@ use Rattle.std.proofs.Common.{◌≡◌, ℕ, ◌+◌, ◌^◌, ◌<◌, ◌%◌
 use Rattle.std.specs.Int.{from_be_bytes}
 use Rattle.std.proofs.lemmas.Bool.{cases_lt, lt-ltb, le-ltb}
 use Rattle.std.proofs.lemmas.List.{take_at, drop_at, take-append-drop, length-append, length-take, length-drop, get_or-drop, get_or-take, get_or_past}
-use Rattle.std.proofs.lemmas.Nat.{be_bytes_2, be_bytes_4, from_be_bytes-to_be_bytes_2, from_be_bytes-to_be_bytes_4}
+use Rattle.std.proofs.lemmas.Nat.{be_bytes_2, be_bytes_4, be_bytes_8, from_be_bytes-to_be_bytes_2, from_be_bytes-to_be_bytes_4, from_be_bytes-to_be_bytes_8}
 use Rattle.lapi_base.specs.declared.reply.Reason.TheVariants as reasons
-use Rattle.lapi_base.specs.Form.{Size, One, Two, Four, width, byte_count, bytes_of, number_at}
+use Rattle.lapi_base.specs.Form.{Size, One, Two, Four, Eight, width, byte_count, bytes_of, number_at}
 
 abbrev pub IsBytes : List ℕ → Type 0
 IsBytes bytes = (i : ℕ) → get_or bytes i 0 < 256
@@ -28,11 +28,13 @@ pub length-bytes_of : (size : Size) (n : ℕ) → length (bytes_of size n) ≡ b
 length-bytes_of One n = refl
 length-bytes_of Two n = refl
 length-bytes_of Four n = refl
+length-bytes_of Eight n = refl
 
 value-bytes_of : (size : Size) (n : ℕ) → n < 256 ^ byte_count size → value size (bytes_of size n) ≡ n
 value-bytes_of One n lt = omega arith
 value-bytes_of Two n lt = from_be_bytes-to_be_bytes_2 n lt
 value-bytes_of Four n lt = from_be_bytes-to_be_bytes_4 n lt
+value-bytes_of Eight n lt = from_be_bytes-to_be_bytes_8 n lt
 
 one_byte : (bytes : List ℕ) → length bytes ≡ 1 → IsBytes bytes → bytes_of One (value One bytes) ≡ bytes
 one_byte [] len fits = absurd (omega arith)
@@ -43,11 +45,13 @@ bytes_of-value : (size : Size) (bytes : List ℕ) → length bytes ≡ byte_coun
 bytes_of-value One bytes len fits = one_byte bytes len fits
 bytes_of-value Two bytes len fits = be_bytes_2 bytes _ len fits refl
 bytes_of-value Four bytes len fits = be_bytes_4 bytes _ len fits refl
+bytes_of-value Eight bytes len fits = be_bytes_8 bytes _ len fits refl
 
 value-below : (size : Size) (bytes : List ℕ) → IsBytes bytes → value size bytes < 256 ^ byte_count size
 value-below One bytes fits = omega (arith, fits 0)
 value-below Two bytes fits = omega (arith, fits 0, fits 1)
 value-below Four bytes fits = omega (arith, fits 0, fits 1, fits 2, fits 3)
+value-below Eight bytes fits = omega (arith, fits 0, fits 1, fits 2, fits 3, fits 4, fits 5, fits 6, fits 7)
 
 -- what a field takes from the front of bytes
 pub record Takes (size : Size) (bytes : List ℕ) (n : ℕ) (rest : List ℕ) : Type 0 where

@@ -8,11 +8,11 @@ use Rattle.lapi_base.specs.declared.head.Head.{Head}
 use Rattle.lapi_base.specs.declared.head.NoteOp.{NoteOp}
 use Rattle.lapi_base.specs.declared.packet.Packet.{Packet}
 use Rattle.lapi_base.specs.declared.message.Leg.{Leg}
-use Rattle.lapi_base.specs.declared.message.Leg.TheVariants.{Go, Back, Note, Join}
+use Rattle.lapi_base.specs.declared.message.Leg.TheVariants.{Go, Back, Note, Echo, Join}
 use Rattle.lapi_base.specs.Form.{Form, Done, ◌>>=◌, bytes_form}
 use Rattle.lapi_base.specs.Layout.{Layout, First, longest}
 use Rattle.lapi_base.specs.Parts.{counter_form, range_form, word_form, count_form, span_form, within_span, covering_span, matching_span, left_behind, behind, within_form, covering_form, matching_form}
-use Rattle.lapi_base.specs.Heads.{put_form, get_go_form, get_back_form, putv_form, getv_go_form, getv_back_form, update_of, update_form, rmw_go_form, rmw_back_form, header_count_form, am_form, note_of, note_form, round_form, gfence_form, addr_form, is_operation, operation_form, head_form}
+use Rattle.lapi_base.specs.Heads.{put_form, get_go_form, get_back_form, putv_form, getv_go_form, getv_back_form, update_of, update_form, rmw_go_form, rmw_back_form, header_count_form, am_form, note_of, note_form, echo_form, round_form, gfence_form, addr_form, is_operation, operation_form, head_form}
 use Rattle.lapi_base.specs.Spelling.{task_form, kind_form, front_form, acknowledgement_form, is_leg, leg_of, leg_form, name_form, length_form, fragment_form, fragment_size, data_form, packet_form, Spells}
 use Rattle.lapi_base.specs.Written.{leg_number, head_number, note_number, update_number}
 use Rattle.lapi_base.specs.Written as written
@@ -127,6 +127,10 @@ written_note : (op : NoteOp) → Written (note_form op) [] written.head
 unfolding note_form
 written_note op = λ cmpl _ _. refl
 
+written_echo : Written echo_form [] written.head
+unfolding echo_form word_form counter_form
+written_echo = λ dest _ _ cmpl _ _. rw (counter_number cmpl) refl
+
 written_gfence : Written gfence_form [] written.head
 unfolding gfence_form round_form
 written_gfence = λ round _ _. refl
@@ -146,6 +150,7 @@ written_head layout Go op size =
 written_head layout Back op size =
     written_if (op == 2) _ _ [] written.head (λ _. written_get_back size) (λ _. written_if (op == 4) _ _ [] written.head (λ _. written_getv_back size) (λ _. written_rmw_back))
 written_head layout Note op size = written_note (note_of op)
+written_head layout Echo op size = written_echo
 written_head layout (Join _) op size = written_if (op == 7) _ _ [] written.head (λ _. written_gfence) (λ _. written_addr)
 
 -- ---- the operation of a head
@@ -195,6 +200,10 @@ am_is = λ handler _ _ tgt _ _ cmpl _ _ count _ _. always_bind (IsOf 6) (bytes_f
 note_is : (op : NoteOp) → Always (IsOf (note_number op)) (note_form op)
 unfolding note_form
 note_is op = λ cmpl _ _. refl
+
+echo_is : Always (IsOf 6) echo_form
+unfolding echo_form word_form counter_form
+echo_is = λ dest _ _ cmpl _ _. refl
 
 gfence_is : Always (IsOf 7) gfence_form
 unfolding gfence_form round_form
@@ -260,6 +269,7 @@ unfolding head_form
 head_is layout Go op size e = go_is layout op size e
 head_is layout Back op size e = back_is layout op size e
 head_is layout Note op size e = same_is (note_form (note_of op)) (note_number (note_of op)) op (noted op e) (note_is (note_of op))
+head_is layout Echo op size e = same_is echo_form 6 op (sym (eqb-true op 6 e)) echo_is
 head_is layout (Join _) op size e =
     always_if (IsOf op) (op == 7) _ _ (λ a. same_is gfence_form 7 op (sym (eqb-true op 7 a)) gfence_is)
     (λ a. elim (or_cases (op == 7) (op == 8) e) [
@@ -281,7 +291,7 @@ leg_is from to origin n e =
               let last : (n == 4 && origin == from && not (from == to)) ≡ true = rw (a, b, d) at e in
               let p = and_parts (n == 4 && origin == from) (not (from == to)) last in
               let q = and_parts (n == 4) (origin == from) p.0 in
-              rw (a, b, d) (sym (eqb-true n 4 q.0))
+              rw (eqb-true n 4 q.0) refl
         ]
       ]
     ]
@@ -313,12 +323,13 @@ fronted magic version kind from to n m v k = rw (eqb-true magic 76 m, eqb-true v
 pub written_packet : Written packet_form [] written.packet
 unfolding packet_form front_form kind_form task_form
 written_packet = λ magic _ m version _ v kind _ known from _ _ to _ _.
-    written_if (kind == 1) (data_form First from to) (acknowledgement_form First from to) _ written.packet
-    (λ a. written_data from to _ (fronted magic version kind from to 1 m v (eqb-true kind 1 a)))
+    rw (eqb-true version 1 v)
+    (written_if (kind == 1) (data_form First from to) (acknowledgement_form First from to) _ written.packet
+    (λ a. written_data from to _ (fronted magic 1 kind from to 1 m refl (eqb-true kind 1 a)))
     (λ a. elim (or_cases (kind == 1) (kind == 2) known) [
       | inl b ↦ absurd (other kind 1 a (eqb-true kind 1 b))
-      | inr b ↦ written_acknowledgement from to _ (fronted magic version kind from to 2 m v (eqb-true kind 2 b))
-    ])
+      | inr b ↦ written_acknowledgement from to _ (fronted magic 1 kind from to 2 m refl (eqb-true kind 2 b))
+    ]))
 
 -- what is written for a packet that has a spelling
 pub spelling_is : (packet : Packet) (bytes : List ℕ) → Spells packet bytes → written.packet packet ≡ bytes

@@ -3,7 +3,8 @@
 //! ```text
 //! place  size  field      rule                                             reason
 //! 14     4     length     at most 16,384; 0 with Go of Get, Getv and       Field
-//!                         Rmw, with Note and with Join; 4 with Back of Rmw
+//!                         Rmw, with Note and with Join; 4 with Back of
+//!                         Rmw and with Echo
 //! 18     2     fragment   below max(1, ceiling of length / 256)            Field
 //! 20           head       (head.rt)
 //!              payload    min(256, length - 256 * fragment) bytes, any
@@ -53,6 +54,7 @@ fn is_length(leg: Leg, operation: Operation, length: u32) -> bool
             Operation::Rmw => length == 4,
             _ => length <= LONGEST,
         },
+        Leg::Echo => length == 4,
         Leg::Note | Leg::Join(_) => length == 0,
     }
 }

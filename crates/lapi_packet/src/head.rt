@@ -9,6 +9,7 @@ ghost use Rattle.lapi_base.specs.Written as written;
 
 mod addr;
 mod am;
+mod echo;
 mod get_back;
 mod get_go;
 mod getv_back;
@@ -45,6 +46,7 @@ pub(crate) fn read(
             Operation::Putv => note::read(NoteOp::Putv, bytes),
             _ => note::read(NoteOp::Am, bytes),
         },
+        Leg::Echo => echo::read(bytes),
         Leg::Join(_) => match operation {
             Operation::Gfence => gfence::read(bytes),
             _ => addr::read(bytes),
@@ -104,6 +106,7 @@ pub(crate) fn write(head: &Head, out: &mut Frame)
             cmpl,
             header,
         } => am::write(*handler, *tgt, *cmpl, header, out),
+        Head::Echo { dest, cmpl } => echo::write(*dest, *cmpl, out),
         Head::Note { cmpl, .. } => note::write(*cmpl, out),
         Head::Gfence { round } => gfence::write(*round, out),
         Head::Addr { round, address } => addr::write(*round, *address, out),
@@ -147,6 +150,7 @@ pub(crate) fn same(a: &Head, b: &Head) -> bool
             cmpl,
             header,
         } => am::is(a, *handler, *tgt, *cmpl, header),
+        Head::Echo { dest, cmpl } => echo::is(a, *dest, *cmpl),
         Head::Note { op, cmpl } => note::is(a, *op, *cmpl),
         Head::Gfence { round } => gfence::is(a, *round),
         Head::Addr { round, address } => addr::is(a, *round, *address),

@@ -45,6 +45,7 @@ fn leg_of(to: u32, number: u32) -> Leg
         1 => Leg::Go,
         2 => Leg::Back,
         3 => Leg::Note,
+        5 => Leg::Echo,
         _ => Leg::Join(to),
     }
 }
@@ -57,5 +58,6 @@ pub(crate) fn number_of(leg: Leg) -> u32
         Leg::Back => 2,
         Leg::Note => 3,
         Leg::Join(_) => 4,
+        Leg::Echo => 5,
     }
 }

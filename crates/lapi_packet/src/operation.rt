@@ -3,7 +3,7 @@
 //! ```text
 //! place  size  field  rule                                                 reason
 //! 13     1     op     with Go 1 Put, 2 Get, 3 Putv, 4 Getv, 5 Rmw, 6 Am;   Kind
-//!                     with Back 2, 4, 5; with Note 1, 3, 6;
+//!                     with Back 2, 4, 5; with Note 1, 3, 6; with Echo 6;
 //!                     with Join 7 Gfence, 8 Addr
 //! ```
 
@@ -58,6 +58,7 @@ fn is_operation(leg: Leg, number: u32) -> bool
         Leg::Go => 1 <= number && number <= 6,
         Leg::Back => number == 2 || number == 4 || number == 5,
         Leg::Note => number == 1 || number == 3 || number == 6,
+        Leg::Echo => number == 6,
         Leg::Join(_) => number == 7 || number == 8,
     }
 }
@@ -72,7 +73,7 @@ pub(crate) fn number_of(head: &Head) -> u32
         Head::Putv { .. } => 3,
         Head::GetvGo { .. } | Head::GetvBack { .. } => 4,
         Head::RmwGo { .. } | Head::RmwBack { .. } => 5,
-        Head::Am { .. } => 6,
+        Head::Am { .. } | Head::Echo { .. } => 6,
         Head::Note { op, .. } => number_of_note(*op),
         Head::Gfence { .. } => 7,
         Head::Addr { .. } => 8,

@@ -2,7 +2,7 @@
 use Rattle.std.proofs.Common.{◌≡◌, ℕ, zero, suc, ◌+◌, ◌*◌, ◌%◌, ◌^◌, ◌<◌, ◌≤◌, ◌==◌, Bool, true, false, cond, ◌&&◌, List, [], ◌∷◌, ◌++◌, length, Option, Some, None, refl, sym, ap, ◌∙◌, subst, ⊎_elim, arith, inl, inr}
 use Rattle.std.specs.Prelude.{slice_get, nat_lt}
 use Rattle.std.specs.List.{AllByRecursion, list_any}
-use Rattle.std.proofs.lemmas.Bool.{and_parts, cond_both, eqb-true, false_from_ne_true, or_cases, cases_lt}
+use Rattle.std.proofs.lemmas.Bool.{false≢true, and_parts, cond_both, eqb-true, false_from_ne_true, or_cases, cases_lt}
 use Rattle.std.proofs.lemmas.Option.{slice_get_within}
 use Rattle.lapi_base.specs.declared.script.Script.{Script}
 use Rattle.lapi_base.specs.declared.rule.Rules.{Rules}
@@ -15,13 +15,15 @@ use Rattle.lapi_base.specs.declared.reply.Reply.TheVariants.{Idle}
 use Rattle.lapi_base.specs.declared.packet.Packet.{Packet}
 use Rattle.lapi_base.specs.declared.packet.Packet.TheVariants.{Data, Ack}
 use Rattle.lapi_base.specs.declared.packet.DataPacket.{DataPacket}
-use Rattle.lapi_base.specs.Layout.{window_of}
+use Rattle.lapi_base.specs.Layout.{window_of, holds_back}
 use Rattle.lapi_base.specs.Below.{least_missing, bits_of}
 use Rattle.lapi_base.specs.Operations.{statements}
 use Rattle.lapi_base.specs.Refusals.{next, why}
 use Rattle.lapi_base.specs.Jobs.{queue, runs}
 use Rattle.lapi_base.specs.Packets.{data_packet}
-use Rattle.lapi_base.specs.Record.{Run, start, out, is_number, has_number, is_delivered, packet_of, packets, ready, fresh, stale, copy_each, ack, with_handed, hand_over, deliver_entry, deliver, reply_with, unless_refused, add_event, step, poll, tick, begin_first, begin_at, begin, end_at, end, cut_entry, perform, after, run_of}
+use Rattle.lapi_base.specs.Record.{Run, start, out, is_number, has_number, is_delivered, packet_of, packets, ready, fresh, stale, copy_each, ack, owed_ack, sends, at_once, with_handed, hand_over, deliver_entry, deliver, reply_with, unless_refused, add_event, step, poll, tick, begin_first, begin_at, begin, end_at, end, cut_entry, perform, after, run_of}
+use Rattle.lapi_base.specs.Atomic.{Atomic}
+use Rattle.lapi_base.specs.Links.{OwedAreHeldBack}
 use Rattle.lapi_base.specs.Valid.{ValidAct, ValidScript}
 use Rattle.lapi_base.specs.Seen.{HoldsOfRecords}
 use Rattle.lapi_laws.proofs.NumberLaws.{least_missing-le, least_missing-not, all-append}
@@ -29,6 +31,7 @@ use Rattle.lapi_laws.proofs.Out.{all-get}
 use Rattle.lapi_laws.proofs.Sound.{Lists, Fits, known}
 use Rattle.lapi_laws.proofs.Lines.{SoundRun, all-flat_map, all-any}
 use Rattle.lapi_laws.proofs.Runs.{start-sound, perform-sound}
+use Rattle.lapi_laws.proofs.Owed.{perform-owed}
 use Rattle.lapi_laws.proofs.Shorts.{numbers-few, copied-few}
 use Rattle.lapi_parts.proofs.Records.{of-runs}
 
@@ -51,7 +54,7 @@ module _ (script : Script) (rules : Rules) (valid : ValidScript script) where
   -- an acknowledgement of the wire from a to b
   abbrev pub IsTold : (a b : ℕ) → Packet → Type 0
   IsTold a b (Data p) = Unit {0}
-  IsTold a b (Ack from to base bits) = (from ≡ a) × (to ≡ b) × (a < script.tasks) × (b < script.tasks) × (base < 2 ^ 32) × (bits < 2 ^ 32) × (bits % 2 ≡ 0)
+  IsTold a b (Ack from to base bits) = (from ≡ a) × (to ≡ b) × (a < script.tasks) × (b < script.tasks) × (base < 2 ^ 32) × (bits < 2 ^ window_of script) × (bits % 2 ≡ 0)
 
   -- the numbers that were delivered are those of the link, also with one more packet
   delivered-below : (r : Run) (a b : ℕ) (p : DataPacket) (n : ℕ) → SoundRun script rules r → Fits script rules r.journal r.handed a b (Data p) → is_delivered (with_handed script rules r a b (Data p)) a b n ≡ true → n < length (out script r.journal a b)
@@ -69,28 +72,36 @@ module _ (script : Script) (rules : Rules) (valid : ValidScript script) where
       within k e = let x = known script rules r.journal r.wire r.handed s a b k e in slice_get_within (out script r.journal a b) k x.0 x.1
 
   -- so the least that is missing isn't delivered
-  least-not : (r : Run) (a b : ℕ) (p : DataPacket) → SoundRun script rules r → Fits script rules r.journal r.handed a b (Data p) → is_delivered (with_handed script rules r a b (Data p)) a b (least_missing (length (out script r.journal a b)) (is_delivered (with_handed script rules r a b (Data p)) a b)) ≡ false
-  least-not r a b p s f =
+  least-not : (r : Run) (a b : ℕ) → ((n : ℕ) → is_delivered r a b n ≡ true → n < length (out script r.journal a b)) → is_delivered r a b (least_missing (length (out script r.journal a b)) (is_delivered r a b)) ≡ false
+  least-not r a b room =
       let count = length (out script r.journal a b) in
-      let q = is_delivered (with_handed script rules r a b (Data p)) a b in
+      let q = is_delivered r a b in
       elim (cases_lt (least_missing count q) count) [
         | inl l ↦ least_missing-not count q l
-        | inr l ↦ false_from_ne_true (q (least_missing count q)) (λ h. let l' = delivered-below r a b p (least_missing count q) s f h in omega arith)
+        | inr l ↦ false_from_ne_true (q (least_missing count q)) (λ h. let l' = room (least_missing count q) h in omega arith)
       ]
 
-  ack-told : (r : Run) (a b : ℕ) (p : DataPacket) → a < script.tasks → b < script.tasks → SoundRun script rules r → Fits script rules r.journal r.handed a b (Data p) → IsTold b a (ack script rules (with_handed script rules r a b (Data p)) a b)
-  unfolding ack window_of
-  ack-told r a b p la lb s f =
+  ack-told : (r : Run) (a b : ℕ) → a < script.tasks → b < script.tasks → Atomic script rules r.journal → ((n : ℕ) → is_delivered r a b n ≡ true → n < length (out script r.journal a b)) → IsTold b a (ack script rules r a b)
+  unfolding ack
+  ack-told r a b la lb atomic room =
       let count = length (out script r.journal a b) in
-      let q = is_delivered (with_handed script rules r a b (Data p)) a b in
+      let q = is_delivered r a b in
       let least = least_missing count q in
-      let few = numbers-few script rules valid r.journal a b s.atomic (λ m d. copied-few script rules r.journal m s.atomic d) in
+      let few = numbers-few script rules valid r.journal a b atomic (λ m d. copied-few script rules r.journal m atomic d) in
       let below = least_missing-le count q in
       let first : least + 0 ≡ least = omega arith in
-      (refl, refl, lb, la, omega arith, bits-small 32 (λ i. q (least + i)), bits-even 32 (λ i. q (least + i)) (ap q first ∙ least-not r a b p s f))
+      (refl, refl, lb, la, omega arith, bits-small (window_of script) (λ i. q (least + i)), bits-even (window_of script) (λ i. q (least + i)) (ap q first ∙ least-not r a b room))
 
   abbrev pub ToldRun : Run → Type 0
   ToldRun r = (a b : ℕ) → AllByRecursion (IsTold a b) (r.wire a b)
+
+  -- what is owed is told too
+  owed-told : (r : Run) (a b : ℕ) → SoundRun script rules r → OwedAreHeldBack script rules r → AllByRecursion (IsTold b a) (owed_ack script rules r a b)
+  unfolding owed_ack
+  owed-told r a b s o =
+      cond_both (r.owed a b) (ack script rules r a b ∷ []) [] (AllByRecursion (IsTold b a))
+      (λ e. let held = o a b e in (ack-told r a b held.1 held.2 s.atomic (λ n h. let x = known script rules r.journal r.wire r.handed s a b n h in slice_get_within (out script r.journal a b) n x.0 x.1), tt))
+      (λ _. tt)
 
   -- what a Poll or a Tick adds are data
   packets-told : (J : List Event) (a b x y : ℕ) (numbers : List ℕ) → AllByRecursion (IsTold x y) (packets script rules J a b numbers)
@@ -104,50 +115,62 @@ module _ (script : Script) (rules : Rules) (valid : ValidScript script) where
   more-told : (wire : Lists) (t : ℕ) (J : List Event) (numbers : (a b : ℕ) → List ℕ) → ((a b : ℕ) → AllByRecursion (IsTold a b) (wire a b)) → (a b : ℕ) → AllByRecursion (IsTold a b) (cond (a == t) (wire a b ++ packets script rules J a b (numbers a b)) (wire a b))
   more-told wire t J numbers h a b = cond_both (a == t) (wire a b ++ packets script rules J a b (numbers a b)) (wire a b) (AllByRecursion (IsTold a b)) (λ _. all-append (IsTold a b) (wire a b) (packets script rules J a b (numbers a b)) (h a b) (packets-told J a b a b (numbers a b))) (λ _. h a b)
 
+  poll-told : (r : Run) (t : ℕ) → SoundRun script rules r → OwedAreHeldBack script rules r → ToldRun r → ToldRun (poll script rules r t)
+  unfolding poll
+  poll-told r t s o h a b =
+      let J = copy_each r.journal (ready script r.journal t) in
+      let numbers = fresh script rules r J a b in
+      cond_both (a == t) (r.wire a b ++ sends script rules r J a b) (r.wire a b) (AllByRecursion (IsTold a b))
+      (λ _. all-append (IsTold a b) (r.wire a b) (sends script rules r J a b) (h a b) (all-append (IsTold a b) (packets script rules J a b numbers) (owed_ack script rules r b a) (packets-told J a b a b numbers) (owed-told r b a s o)))
+      (λ _. h a b)
+
   hand_over-told : (r : Run) (a b : ℕ) (p : Packet) → a < script.tasks → b < script.tasks → SoundRun script rules r → Fits script rules r.journal r.handed a b p → ToldRun r → ToldRun (hand_over script rules r a b p)
-  unfolding hand_over
-  hand_over-told r a b (Ack from to base bits) la lb s f h x y = h x y
+  unfolding hand_over at_once
+  hand_over-told r a b (Ack from to least bits) la lb s f h x y = h x y
   hand_over-told r a b (Data p) la lb s f h x y =
-      let new = ack script rules (with_handed script rules r a b (Data p)) a b in
-      cond_both (x == b && y == a) (r.wire x y ++ new ∷ []) (r.wire x y) (AllByRecursion (IsTold x y))
+      let now = with_handed script rules r a b (Data p) in
+      let new = ack script rules now a b in
+      let once = cond (holds_back script) [] (new ∷ []) in
+      cond_both (x == b && y == a) (r.wire x y ++ once) (r.wire x y) (AllByRecursion (IsTold x y))
       (λ e.
       let ends = and_parts _ _ e in
-      let told : IsTold x y new = subst (λ v. IsTold x v new) (sym (eqb-true y a ends.1)) (subst (λ u. IsTold u a new) (sym (eqb-true x b ends.0)) (ack-told r a b p la lb s f)) in
-      all-append (IsTold x y) (r.wire x y) (new ∷ []) (h x y) (told, tt))
+      let told : IsTold x y new = subst (λ v. IsTold x v new) (sym (eqb-true y a ends.1)) (subst (λ u. IsTold u a new) (sym (eqb-true x b ends.0)) (ack-told now a b la lb s.atomic (λ n. delivered-below r a b p n s f))) in
+      all-append (IsTold x y) (r.wire x y) once (h x y) (cond_both (holds_back script) [] (new ∷ []) (AllByRecursion (IsTold x y)) (λ _. tt) (λ _. (told, tt))))
       (λ _. h x y)
 
   module _ (spells : List ℕ → Bool) (size : Packet → ℕ) (refusal : List ℕ → Bad) where
-    perform-told : (r : Run) (act : Act) → ValidAct script spells act → SoundRun script rules r → ToldRun r → ToldRun (perform script rules size refusal r act)
-    unfolding perform step poll tick deliver begin end
-    perform-told r (Step a) v s h =
+    perform-told : (r : Run) (act : Act) → ValidAct script spells act → SoundRun script rules r → OwedAreHeldBack script rules r → ToldRun r → ToldRun (perform script rules size refusal r act)
+    unfolding perform step tick deliver begin end
+    perform-told r (Step a) v s o h =
         let i = next r.journal a in
         cond_both (nat_lt i (length (statements script a))) (add_event script rules r (unless_refused script rules r a i (why script rules r.journal a i))) (reply_with script rules r Idle) ToldRun
-        (λ _. elim (unless_refused script rules r a i (why script rules r.journal a i)) as (λ o. ToldRun (add_event script rules r o)) [ None ↦ h | Some e ↦ h ])
+        (λ _. elim (unless_refused script rules r a i (why script rules r.journal a i)) as (λ x. ToldRun (add_event script rules r x)) [ None ↦ h | Some e ↦ h ])
         (λ _. h)
-    perform-told r (Poll t) v s h = let J = copy_each r.journal (ready script r.journal t) in more-told r.wire t J (λ a b. fresh script rules r J a b) h
-    perform-told r (Tick t) v s h = more-told r.wire t r.journal (λ a b. stale script rules r a b) h
-    perform-told r (Deliver a b k) v s h =
-        elim (slice_get (r.wire a b) k) as (λ o. slice_get (r.wire a b) k ≡ o → ToldRun (deliver_entry script rules r a b o)) [
+    perform-told r (Poll t) v s o h = poll-told r t s o h
+    perform-told r (Tick t) v s o h = more-told r.wire t r.journal (λ a b. stale script rules r a b) h
+    perform-told r (Deliver a b k) v s o h =
+        elim (slice_get (r.wire a b) k) as (λ x. slice_get (r.wire a b) k ≡ x → ToldRun (deliver_entry script rules r a b x)) [
           | None ↦ λ e. h
           | Some p ↦ λ e. hand_over-told r a b p v.0 v.1 s (all-get (Fits script rules r.journal r.handed a b) (r.wire a b) k p (s.wires a b) e) h
         ] refl
-    perform-told r (Cut a b k n) v s h = elim (slice_get (r.wire a b) k) as (λ o. ToldRun (cut_entry script rules size r n o)) [ Some p ↦ h | None ↦ h ]
-    perform-told r (Inject a b bytes) v s h = h
-    perform-told r (Act.Begin t w) v s h =
-        elim (runs r.journal t w) as (λ o. ToldRun (begin_at script rules r t w o)) [
+    perform-told r (Cut a b k n) v s o h = elim (slice_get (r.wire a b) k) as (λ x. ToldRun (cut_entry script rules size r n x)) [ Some p ↦ h | None ↦ h ]
+    perform-told r (Inject a b bytes) v s o h = h
+    perform-told r (Act.Begin t w) v s o h =
+        elim (runs r.journal t w) as (λ x. ToldRun (begin_at script rules r t w x)) [
           | Some m ↦ h
           | None ↦ elim (queue script rules r.journal t) as (λ ms. ToldRun (begin_first script rules r t w ms)) [ [] ↦ h | m ∷ ms ↦ h ]
         ]
-    perform-told r (Act.End t w) v s h = elim (runs r.journal t w) as (λ o. ToldRun (end_at script rules r t w o)) [ None ↦ h | Some m ↦ h ]
+    perform-told r (Act.End t w) v s o h = elim (runs r.journal t w) as (λ x. ToldRun (end_at script rules r t w x)) [ None ↦ h | Some m ↦ h ]
 
-    after-told : (acts : List Act) (r : Run) → AllByRecursion (ValidAct script spells) acts → SoundRun script rules r → ToldRun r → ToldRun (after script rules size refusal r acts)
+    after-told : (acts : List Act) (r : Run) → AllByRecursion (ValidAct script spells) acts → SoundRun script rules r → OwedAreHeldBack script rules r → ToldRun r → ToldRun (after script rules size refusal r acts)
     unfolding after
-    after-told [] r v s h = h
-    after-told (act ∷ acts) r v s h = after-told acts (perform script rules size refusal r act) v.1 (perform-sound script rules spells size refusal r act v.0 s) (perform-told r act v.0 s h)
+    after-told [] r v s o h = h
+    after-told (act ∷ acts) r v s o h =
+        after-told acts (perform script rules size refusal r act) v.1 (perform-sound script rules spells size refusal r act v.0 s) (perform-owed script rules spells size refusal r act v.0 o) (perform-told r act v.0 s o h)
 
     run-told : (acts : List Act) → AllByRecursion (ValidAct script spells) acts → ToldRun (run_of script rules size refusal acts)
     unfolding run_of
-    run-told acts v = after-told acts start v (start-sound script rules) (λ a b. tt)
+    run-told acts v = after-told acts start v (start-sound script rules) (λ a b e. absurd (false≢true e)) (λ a b. tt)
 
 -- so it is with every record
 pub record-told : HoldsOfRecords (λ script rules r. (valid : ValidScript script) → ToldRun script rules valid r)

@@ -8,7 +8,7 @@ use Rattle.lapi_base.specs.declared.statement.Statement.{Statement}
 use Rattle.lapi_base.specs.declared.statement.Statement.TheVariants.{Put, Get, Putv, Getv, Rmw, Am, Gfence}
 use Rattle.lapi_base.specs.declared.rule.Rules.{Rules}
 use Rattle.lapi_base.specs.declared.message.Leg.{Leg}
-use Rattle.lapi_base.specs.declared.message.Leg.TheVariants.{Go, Back, Note, Join}
+use Rattle.lapi_base.specs.declared.message.Leg.TheVariants.{Go, Back, Note, Echo, Join}
 use Rattle.lapi_base.specs.declared.message.MsgName.{MsgName}
 use Rattle.lapi_base.specs.declared.event.Event.{Event}
 use Rattle.lapi_base.specs.declared.event.Event.TheVariants.{Head, Land}
@@ -20,7 +20,7 @@ use Rattle.lapi_base.specs.Layout.{window_of}
 use Rattle.lapi_base.specs.Below.{bits_of}
 use Rattle.lapi_base.specs.Names.{message, leg_eq, Copied}
 use Rattle.lapi_base.specs.Operations.{statement, is_am, has_back, has_leg, cmpl_counter, message_length, fragment_count}
-use Rattle.lapi_base.specs.Handlers.{completion, has_completion}
+use Rattle.lapi_base.specs.Handlers.{completion, has_completion, answers}
 use Rattle.lapi_base.specs.Packets.{head_by, data_packet}
 use Rattle.lapi_base.specs.Record.{Run, out, is_number, has_number, after_land, ack, with_handed}
 use Rattle.lapi_base.specs.Seen.{HoldsOfRecords}
@@ -36,6 +36,10 @@ use Rattle.lapi_parts.proofs.Records.{record-sound}
 use Rattle.lapi_parts.proofs.ExactBytes.{Exact, record-exact}
 use Rattle.lapi_parts.proofs.HandedPackets.{least-local, ack-local, arrival-local}
 
+and-none : (x : Bool) → (x && false) ≡ false
+and-none true = refl
+and-none false = refl
+
 head_of : Packet → PacketHead
 head_of (Data p) = p.head
 head_of (Ack from to base bits) = PacketHead.Gfence 0
@@ -46,22 +50,23 @@ length_of (Ack from to base bits) = 0
 
 module _ (script : Script) (rules : Rules) where
   -- What the head of a message tells of its statement: whether it is an active message,
-  active-is : (m : MsgName) (leg : Leg) (s : Statement) → has_leg script m.origin leg s ≡ true → (is_am s && leg_eq leg Go) ≡ is_active (head_by script m leg s)
-  active-is m Go (Put target to from len tgt org cmpl) h = refl
-  active-is m Go (Get target from to len tgt org) h = refl
-  active-is m Go (Putv target to from tgt org cmpl) h = refl
-  active-is m Go (Getv target from to tgt org) h = refl
-  active-is m Go (Rmw target op at in1 in2 prev org) h = refl
-  active-is m Go (Am target handler header from len tgt org cmpl) h = refl
-  active-is m Back (Get target from to len tgt org) h = refl
-  active-is m Back (Getv target from to tgt org) h = refl
-  active-is m Back (Rmw target op at in1 in2 prev org) h = refl
-  active-is m Note (Put target to from len tgt org cmpl) h = refl
-  active-is m Note (Putv target to from tgt org cmpl) h = refl
-  active-is m Note (Am target handler header from len tgt org cmpl) h = refl
-  active-is m (Join d) Gfence h = refl
-  active-is m (Join d) (Statement.Addr at) h = refl
-  active-is m _ s h = absurd (false≢true h)
+  active-is : (answers : Bool) (m : MsgName) (leg : Leg) (s : Statement) → has_leg script answers m.origin leg s ≡ true → (is_am s && leg_eq leg Go) ≡ is_active (head_by script m leg s)
+  active-is ans m Go (Put target to from len tgt org cmpl) h = refl
+  active-is ans m Go (Get target from to len tgt org) h = refl
+  active-is ans m Go (Putv target to from tgt org cmpl) h = refl
+  active-is ans m Go (Getv target from to tgt org) h = refl
+  active-is ans m Go (Rmw target op at in1 in2 prev org) h = refl
+  active-is ans m Go (Am target handler header from len tgt org cmpl) h = refl
+  active-is ans m Back (Get target from to len tgt org) h = refl
+  active-is ans m Back (Getv target from to tgt org) h = refl
+  active-is ans m Back (Rmw target op at in1 in2 prev org) h = refl
+  active-is ans m Note (Put target to from len tgt org cmpl) h = refl
+  active-is ans m Note (Putv target to from tgt org cmpl) h = refl
+  active-is ans m Note (Am target handler header from len tgt org cmpl) h = refl
+  active-is ans m Echo s h = ap (λ b. b) (and-none (is_am s))
+  active-is ans m (Join d) Gfence h = refl
+  active-is ans m (Join d) (Statement.Addr at) h = refl
+  active-is ans m _ s h = absurd (false≢true h)
 
   -- and what follows its landing.
   after : MsgName → Bool → Leg → Statement → List Event
@@ -70,44 +75,45 @@ module _ (script : Script) (rules : Rules) where
   none-follows : (m : MsgName) (completion : Bool) (cmpl : Option ℕ) → completion ≡ false → cond completion [] (noted m cmpl) ≡ noted m cmpl
   none-follows m completion cmpl e = ap (λ b. cond b [] (noted m cmpl)) e
 
-  follows-is : (m : MsgName) (completion : Bool) (leg : Leg) (s : Statement) → has_leg script m.origin leg s ≡ true → (is_am s ≡ false → completion ≡ false) → after m completion leg s ≡ follows (head_by script m leg s) completion m
+  follows-is : (answers : Bool) (m : MsgName) (completion : Bool) (leg : Leg) (s : Statement) → has_leg script answers m.origin leg s ≡ true → (is_am s ≡ false → completion ≡ false) → after m completion leg s ≡ follows (head_by script m leg s) completion m
   unfolding after follows
-  follows-is m c Go (Put target to from len tgt org cmpl) h n = none-follows m c cmpl (n refl)
-  follows-is m c Go (Get target from to len tgt org) h n = refl
-  follows-is m c Go (Putv target to from tgt org cmpl) h n = none-follows m c cmpl (n refl)
-  follows-is m c Go (Getv target from to tgt org) h n = refl
-  follows-is m c Go (Rmw target op at in1 in2 prev org) h n = refl
-  follows-is m c Go (Am target handler header from len tgt org cmpl) h n = refl
-  follows-is m c Back (Get target from to len tgt org) h n = refl
-  follows-is m c Back (Getv target from to tgt org) h n = refl
-  follows-is m c Back (Rmw target op at in1 in2 prev org) h n = refl
-  follows-is m c Note (Put target to from len tgt org cmpl) h n = refl
-  follows-is m c Note (Putv target to from tgt org cmpl) h n = refl
-  follows-is m c Note (Am target handler header from len tgt org cmpl) h n = refl
-  follows-is m c (Join d) Gfence h n = refl
-  follows-is m c (Join d) (Statement.Addr at) h n = refl
-  follows-is m c _ s h n = absurd (false≢true h)
+  follows-is ans m c Go (Put target to from len tgt org cmpl) h n = none-follows m c cmpl (n refl)
+  follows-is ans m c Go (Get target from to len tgt org) h n = refl
+  follows-is ans m c Go (Putv target to from tgt org cmpl) h n = none-follows m c cmpl (n refl)
+  follows-is ans m c Go (Getv target from to tgt org) h n = refl
+  follows-is ans m c Go (Rmw target op at in1 in2 prev org) h n = refl
+  follows-is ans m c Go (Am target handler header from len tgt org cmpl) h n = refl
+  follows-is ans m c Back (Get target from to len tgt org) h n = refl
+  follows-is ans m c Back (Getv target from to tgt org) h n = refl
+  follows-is ans m c Back (Rmw target op at in1 in2 prev org) h n = refl
+  follows-is ans m c Note (Put target to from len tgt org cmpl) h n = refl
+  follows-is ans m c Note (Putv target to from tgt org cmpl) h n = refl
+  follows-is ans m c Note (Am target handler header from len tgt org cmpl) h n = refl
+  follows-is ans m c Echo s h n = refl
+  follows-is ans m c (Join d) Gfence h n = refl
+  follows-is ans m c (Join d) (Statement.Addr at) h n = refl
+  follows-is ans m c _ s h n = absurd (false≢true h)
 
   pub no-completion : (a i : ℕ) → is_am (statement script a i) ≡ false → has_completion script rules a i ≡ false
   unfolding has_completion
   no-completion a i h = ap (λ b. b && is_some (completion script rules (message a i Go))) h
 
-  pub after-is : (m : MsgName) → has_leg script m.origin m.leg (statement script m.origin m.statement) ≡ true → after_land script rules m ≡ follows (head_by script m m.leg (statement script m.origin m.statement)) (has_completion script rules m.origin m.statement) m
+  pub after-is : (m : MsgName) → has_leg script (answers script rules m.origin m.statement) m.origin m.leg (statement script m.origin m.statement) ≡ true → after_land script rules m ≡ follows (head_by script m m.leg (statement script m.origin m.statement)) (has_completion script rules m.origin m.statement) m
   unfolding after
-  after-is m h = follows-is m (has_completion script rules m.origin m.statement) m.leg (statement script m.origin m.statement) h (no-completion m.origin m.statement)
+  after-is m h = follows-is _ m (has_completion script rules m.origin m.statement) m.leg (statement script m.origin m.statement) h (no-completion m.origin m.statement)
 
   pub counts-is : (m : MsgName) → fragment_count script m ≡ count_of script (message_length script m)
   unfolding fragment_count count_of
   counts-is m = refl
 
   -- The events by what was handed over are those by the packet itself.
-  comes-is : (ps : List Packet) (p : DataPacket) → has_leg script p.name.origin p.name.leg (statement script p.name.origin p.name.statement) ≡ true → p.head ≡ head_by script p.name p.name.leg (statement script p.name.origin p.name.statement) → p.length ≡ message_length script p.name → arrival_of script rules ps (Data p) p.name ≡ comes script rules ps p
+  comes-is : (ps : List Packet) (p : DataPacket) → has_leg script (answers script rules p.name.origin p.name.statement) p.name.origin p.name.leg (statement script p.name.origin p.name.statement) ≡ true → p.head ≡ head_by script p.name p.name.leg (statement script p.name.origin p.name.statement) → p.length ≡ message_length script p.name → arrival_of script rules ps (Data p) p.name ≡ comes script rules ps p
   unfolding arrival_of comes is_whole
   comes-is ps p h head length =
       let m = p.name in
       let s = statement script m.origin m.statement in
       let c = has_completion script rules m.origin m.statement in
-      ap (λ x. cond (x && not (has_some ps m)) (Head m ∷ []) [] ++ cond (whole_by (fragment_count script m) (Data p ∷ ps) m) (Land m ∷ after_land script rules m) []) (active-is m m.leg s h ∙ ap is_active (sym head))
+      ap (λ x. cond (x && not (has_some ps m)) (Head m ∷ []) [] ++ cond (whole_by (fragment_count script m) (Data p ∷ ps) m) (Land m ∷ after_land script rules m) []) (active-is _ m m.leg s h ∙ ap is_active (sym head))
       ∙ ap (λ n. cond (is_active p.head && not (has_some ps m)) (Head m ∷ []) [] ++ cond (whole_by n (Data p ∷ ps) m) (Land m ∷ after_land script rules m) []) (counts-is m ∙ ap (count_of script) (sym length))
       ∙ ap (λ es. cond (is_active p.head && not (has_some ps m)) (Head m ∷ []) [] ++ cond (whole_by (count_of script p.length) (Data p ∷ ps) m) (Land m ∷ es) []) (after-is m h ∙ ap (λ k. follows k c m) (sym head))
 

@@ -12,16 +12,18 @@ use Rattle.lapi_base.specs.declared.statement.Statement.{Statement}
 use Rattle.lapi_base.specs.declared.statement.Statement.TheVariants.{Put, Get, Putv, Getv, Rmw, Am}
 use Rattle.lapi_base.specs.declared.rule.Rules.{Rules}
 use Rattle.lapi_base.specs.declared.message.Leg.{Leg}
-use Rattle.lapi_base.specs.declared.message.Leg.TheVariants.{Go, Back, Note, Join}
+use Rattle.lapi_base.specs.declared.message.Leg.TheVariants.{Go, Back, Note, Echo, Join}
 use Rattle.lapi_base.specs.declared.message.MsgName.{MsgName}
 use Rattle.lapi_base.specs.declared.event.Event.{Event}
 use Rattle.lapi_base.specs.declared.event.Event.TheVariants.{Issue, Refuse, Enter, Pass, Copy, Head, Land, Begin, End}
 use Rattle.lapi_base.specs.Names.{message, name_eq, Copied, Landed, deed, done, Begun, Ended}
 use Rattle.lapi_base.specs.Operations.{upto, statement, target, one_piece, spans, target_pieces, origin_pieces, pieces_of, total, is_data, is_rmw, has_back, has_leg, length_by, message_length}
-use Rattle.lapi_base.specs.Handlers.{has_completion}
+use Rattle.lapi_base.specs.Handlers.{has_completion, word_bytes, answers, answer_of, sent_back, completion_answer, rule_named, is_answer, user}
 use Rattle.lapi_base.specs.Values.{Memories, Values, values, gathered, at_target, with_bytes, land_bytes, source_by}
 use Rattle.lapi_base.specs.Atomic.{Atomic, copy_needs, only_if, to_land, needs}
 use Rattle.lapi_base.specs.Entries.{carried}
+use Rattle.lapi_base.specs.declared.rule.CompletionRule.{CompletionRule}
+use Rattle.lapi_base.specs.declared.rule.CompletionRule.TheVariants.{Answer}
 use Rattle.lapi_laws.proofs.NumberLaws.{list_all-each}
 use Rattle.lapi_laws.proofs.Deeds.{name_eq-true, name_eq-refl, done-nil, done-cases}
 use Rattle.lapi_laws.proofs.Backward.{Atomic-head, Atomic-tail}
@@ -95,6 +97,7 @@ module _ (script : Script) (rules : Rules) where
       ] refl
   land-word v b j Back a i r old = old (and-no (a == b && i == j))
   land-word v b j Note a i r old = old (and-no (a == b && i == j))
+  land-word v b j Echo a i r old = old (and-no (a == b && i == j))
   land-word v b j (Join x) a i r old = old (and-no (a == b && i == j))
 
   -- so the word that was read stands from then on
@@ -119,8 +122,18 @@ module _ (script : Script) (rules : Rules) where
   word-stays (Begin n t w ∷ J) a i r d = word-stays J a i r d
   word-stays (End n t w ∷ J) a i r d = word-stays J a i r d
 
+  -- an answer is a word
+  word-sent : (rule : CompletionRule) (at : ℕ) (bytes : List ℕ) → is_answer rule ≡ true → length (sent_back (completion_answer rule at bytes)) ≡ 4
+  unfolding word_bytes
+  word-sent Answer at bytes h = refl
+  word-sent _ at bytes h = absurd (false≢true h)
+
+  answer-length : (a i : ℕ) (bytes : List ℕ) → answers script rules a i ≡ true → length (answer_of script rules (message a i Go) bytes) ≡ 4
+  unfolding answers answer_of
+  answer-length a i bytes h = word-sent (rule_named script rules (message a i Go)) (user script (message a i Go)) bytes (and_parts _ _ (and_parts _ _ h).0).1
+
   -- what is copied has its length
-  source-length : (J : List Event) (a i : ℕ) (leg : Leg) → has_leg script a leg (statement script a i) ≡ true → AllByRecursion (λ d. done d J ≡ true) (copy_needs script rules a i leg) → length (source_by script rules (values script rules J) (message a i leg) leg (statement script a i)) ≡ length_by leg (statement script a i)
+  source-length : (J : List Event) (a i : ℕ) (leg : Leg) → has_leg script (answers script rules a i) a leg (statement script a i) ≡ true → AllByRecursion (λ d. done d J ≡ true) (copy_needs script rules a i leg) → length (source_by script rules (values script rules J) (message a i leg) leg (statement script a i)) ≡ length_by leg (statement script a i)
   source-length J a i Go h n = go-length script (values script rules J).memory a (target script a i) (statement script a i) h
   source-length J a i Back h n =
       let d = target script a i in
@@ -130,6 +143,7 @@ module _ (script : Script) (rules : Rules) where
       (λ r. word-stays J a i r landed ∙ sym (rmw-back s r).1)
       (λ _. back-length script (values script rules J).memory d d s h)
   source-length J a i Note h n = refl
+  source-length J a i Echo h n = answer-length a i ((values script rules J).held (message a i Go)) h
   source-length J a i (Join x) h n = refl
 
   copy-length : (m : MsgName) (J : List Event) → Atomic script rules (Copy m ∷ J) → length (carried script rules (Copy m ∷ J) m) ≡ message_length script m

@@ -8,7 +8,7 @@ use Rattle.lapi_base.specs.declared.statement.Statement.{Statement}
 use Rattle.lapi_base.specs.declared.statement.Statement.TheVariants.{Put, Get, Putv, Getv, Rmw, Am, Gfence}
 use Rattle.lapi_base.specs.declared.rule.Rules.{Rules}
 use Rattle.lapi_base.specs.declared.message.Leg.{Leg}
-use Rattle.lapi_base.specs.declared.message.Leg.TheVariants.{Go, Back, Note, Join}
+use Rattle.lapi_base.specs.declared.message.Leg.TheVariants.{Go, Back, Note, Echo, Join}
 use Rattle.lapi_base.specs.declared.message.MsgName.{MsgName}
 use Rattle.lapi_base.specs.declared.event.Event.{Event}
 use Rattle.lapi_base.specs.declared.event.Event.TheVariants.{Copy, Head, Land}
@@ -18,7 +18,7 @@ use Rattle.lapi_base.specs.declared.packet.Packet.TheVariants.{Data}
 use Rattle.lapi_base.specs.declared.packet.DataPacket.{DataPacket}
 use Rattle.lapi_base.specs.Names.{message, leg_eq, Copied, done}
 use Rattle.lapi_base.specs.Operations.{statement, target, target_pieces, origin_pieces, spans, is_rmw, address, to_by, receiver, is_am, has_back, has_leg, tgt_counter, cmpl_counter, length_by, message_length}
-use Rattle.lapi_base.specs.Handlers.{number_of, word_bytes, buffer, has_completion}
+use Rattle.lapi_base.specs.Handlers.{number_of, word_bytes, buffer, has_completion, answers, answer_pieces}
 use Rattle.lapi_base.specs.Values.{Values, values, Write, gathered, scattered, new_word, byte_after, land_writes}
 use Rattle.lapi_base.specs.Counters.{is_counter, land_tells, tells, count}
 use Rattle.lapi_base.specs.Refusals.{option_any}
@@ -50,6 +50,7 @@ module _ (script : Script) (rules : Rules) where
       cond (is_am s) (scattered (buffer script rules m) (v.bytes m)) (cond (is_rmw s) (scattered at (word_bytes (new_word s (number_of (gathered v.memory d at))))) (cond (has_back s) [] (scattered at (v.bytes m))))
   by-statement v m Back s = scattered (spans script (target script m.origin m.statement) (origin_pieces s)) (v.bytes m)
   by-statement v m Note s = []
+  by-statement v m Echo s = scattered (answer_pieces script m) (v.bytes m)
   by-statement v m (Join d) s = []
 
   land-by-statement : (v : Values) (m : MsgName) (leg : Leg) → land_writes script rules v m leg (statement script m.origin m.statement) ≡ by-statement v m leg (statement script m.origin m.statement)
@@ -57,28 +58,30 @@ module _ (script : Script) (rules : Rules) where
   land-by-statement v m Go = refl
   land-by-statement v m Back = refl
   land-by-statement v m Note = refl
+  land-by-statement v m Echo = refl
   land-by-statement v m (Join d) = refl
 
   -- they are told by the head
-  by-head : (v : Values) (m : MsgName) (leg : Leg) (s : Statement) → has_leg script m.origin leg s ≡ true → by-statement v m leg s ≡ lands script rules v.memory (to_by m.origin (target script m.origin m.statement) leg) m (head_by script m leg s) (length_by leg s) (v.bytes m)
+  by-head : (answers : Bool) (v : Values) (m : MsgName) (leg : Leg) (s : Statement) → has_leg script answers m.origin leg s ≡ true → by-statement v m leg s ≡ lands script rules v.memory (to_by m.origin (target script m.origin m.statement) leg) m (head_by script m leg s) (length_by leg s) (v.bytes m)
   unfolding by-statement address scattered
-  by-head v m Go (Put task to from len tgt org cmpl) h = refl
-  by-head v m Go (Get task from to len tgt org) h = refl
-  by-head v m Go (Putv task to from tgt org cmpl) h = refl
-  by-head v m Go (Getv task from to tgt org) h = refl
-  by-head v m Go (Rmw task op at in1 in2 prev org) h = refl
-  by-head v m Go (Am task handler header from len tgt org cmpl) h = refl
-  by-head v m Back (Get task from to len tgt org) h = refl
-  by-head v m Back (Getv task from to tgt org) h = refl
-  by-head v m Back (Rmw task op at in1 in2 prev org) h = refl
-  by-head v m Note s h = refl
-  by-head v m (Join d) Gfence h = refl
-  by-head v m (Join d) (Statement.Addr at) h = refl
-  by-head v m _ s h = absurd (false≢true h)
+  by-head ans v m Go (Put task to from len tgt org cmpl) h = refl
+  by-head ans v m Go (Get task from to len tgt org) h = refl
+  by-head ans v m Go (Putv task to from tgt org cmpl) h = refl
+  by-head ans v m Go (Getv task from to tgt org) h = refl
+  by-head ans v m Go (Rmw task op at in1 in2 prev org) h = refl
+  by-head ans v m Go (Am task handler header from len tgt org cmpl) h = refl
+  by-head ans v m Back (Get task from to len tgt org) h = refl
+  by-head ans v m Back (Getv task from to tgt org) h = refl
+  by-head ans v m Back (Rmw task op at in1 in2 prev org) h = refl
+  by-head ans v m Note s h = refl
+  by-head ans v m Echo s h = refl
+  by-head ans v m (Join d) Gfence h = refl
+  by-head ans v m (Join d) (Statement.Addr at) h = refl
+  by-head ans v m _ s h = absurd (false≢true h)
 
-  lands-is : (v : Values) (m : MsgName) → has_leg script m.origin m.leg (statement script m.origin m.statement) ≡ true → land_writes script rules v m m.leg (statement script m.origin m.statement) ≡ lands script rules v.memory (receiver script m) m (head_by script m m.leg (statement script m.origin m.statement)) (message_length script m) (v.bytes m)
+  lands-is : (v : Values) (m : MsgName) → has_leg script (answers script rules m.origin m.statement) m.origin m.leg (statement script m.origin m.statement) ≡ true → land_writes script rules v m m.leg (statement script m.origin m.statement) ≡ lands script rules v.memory (receiver script m) m (head_by script m m.leg (statement script m.origin m.statement)) (message_length script m) (v.bytes m)
   unfolding message_length
-  lands-is v m h = land-by-statement v m m.leg ∙ by-head v m m.leg (statement script m.origin m.statement) h
+  lands-is v m h = land-by-statement v m m.leg ∙ by-head _ v m m.leg (statement script m.origin m.statement) h
 
   -- a counter of the task where the message comes
   counter-here : (o : Option ℕ) (a c : ℕ) → is_counter o a a c ≡ option_any (λ d. d == c) o
@@ -109,23 +112,24 @@ module _ (script : Script) (rules : Rules) where
   unfolding named
   get-told tgt d c = let n = cond (is_counter tgt d d c) 1 0 in let e : 0 + n ≡ n = omega arith in e ∙ ap (λ b. cond b 1 0) (counter-here tgt d c)
 
-  told-is : (m : MsgName) (leg : Leg) (s : Statement) (c : ℕ) → has_leg script m.origin leg s ≡ true → (is_am s ≡ false → has_completion script rules m.origin m.statement ≡ false) → told m leg s (to_by m.origin (target script m.origin m.statement) leg) c ≡ named (announces (head_by script m leg s) (has_completion script rules m.origin m.statement)) c
+  told-is : (answers : Bool) (m : MsgName) (leg : Leg) (s : Statement) (c : ℕ) → has_leg script answers m.origin leg s ≡ true → (is_am s ≡ false → has_completion script rules m.origin m.statement ≡ false) → told m leg s (to_by m.origin (target script m.origin m.statement) leg) c ≡ named (announces (head_by script m leg s) (has_completion script rules m.origin m.statement)) c
   unfolding named
-  told-is m Go (Put task to from len tgt org cmpl) c h n = put-told tgt (has_completion script rules m.origin m.statement) (target script m.origin m.statement) c (n refl)
-  told-is m Go (Get task from to len tgt org) c h n = get-told tgt (target script m.origin m.statement) c
-  told-is m Go (Putv task to from tgt org cmpl) c h n = put-told tgt (has_completion script rules m.origin m.statement) (target script m.origin m.statement) c (n refl)
-  told-is m Go (Getv task from to tgt org) c h n = get-told tgt (target script m.origin m.statement) c
-  told-is m Go (Rmw task op at in1 in2 prev org) c h n = refl
-  told-is m Go (Am task handler header from len tgt org cmpl) c h n = am-told tgt (has_completion script rules m.origin m.statement) (target script m.origin m.statement) c
-  told-is m Back (Get task from to len tgt org) c h n = back-told org m.origin c
-  told-is m Back (Getv task from to tgt org) c h n = back-told org m.origin c
-  told-is m Back (Rmw task op at in1 in2 prev org) c h n = back-told org m.origin c
-  told-is m Note (Put task to from len tgt org (Some k)) c h n = back-told (Some k) m.origin c
-  told-is m Note (Putv task to from tgt org (Some k)) c h n = back-told (Some k) m.origin c
-  told-is m Note (Am task handler header from len tgt org (Some k)) c h n = back-told (Some k) m.origin c
-  told-is m (Join d) Gfence c h n = refl
-  told-is m (Join d) (Statement.Addr at) c h n = refl
-  told-is m _ s c h n = absurd (false≢true h)
+  told-is ans m Go (Put task to from len tgt org cmpl) c h n = put-told tgt (has_completion script rules m.origin m.statement) (target script m.origin m.statement) c (n refl)
+  told-is ans m Go (Get task from to len tgt org) c h n = get-told tgt (target script m.origin m.statement) c
+  told-is ans m Go (Putv task to from tgt org cmpl) c h n = put-told tgt (has_completion script rules m.origin m.statement) (target script m.origin m.statement) c (n refl)
+  told-is ans m Go (Getv task from to tgt org) c h n = get-told tgt (target script m.origin m.statement) c
+  told-is ans m Go (Rmw task op at in1 in2 prev org) c h n = refl
+  told-is ans m Go (Am task handler header from len tgt org cmpl) c h n = am-told tgt (has_completion script rules m.origin m.statement) (target script m.origin m.statement) c
+  told-is ans m Back (Get task from to len tgt org) c h n = back-told org m.origin c
+  told-is ans m Back (Getv task from to tgt org) c h n = back-told org m.origin c
+  told-is ans m Back (Rmw task op at in1 in2 prev org) c h n = back-told org m.origin c
+  told-is ans m Note (Put task to from len tgt org (Some k)) c h n = back-told (Some k) m.origin c
+  told-is ans m Note (Putv task to from tgt org (Some k)) c h n = back-told (Some k) m.origin c
+  told-is ans m Note (Am task handler header from len tgt org (Some k)) c h n = back-told (Some k) m.origin c
+  told-is ans m Echo s c h n = back-told (cmpl_counter s) m.origin c
+  told-is ans m (Join d) Gfence c h n = refl
+  told-is ans m (Join d) (Statement.Addr at) c h n = refl
+  told-is ans m _ s c h n = absurd (false≢true h)
 
   -- ---- memory
 
@@ -252,7 +256,7 @@ module _ (script : Script) (rules : Rules) where
   pub record Facts (r : Run) (a b : ℕ) (p : DataPacket) : Type 0 where
     pub atomic : Atomic script rules r.journal
     pub copied : done (Copied p.name) r.journal ≡ true
-    pub leg : has_leg script p.name.origin p.name.leg (statement script p.name.origin p.name.statement) ≡ true
+    pub leg : has_leg script (answers script rules p.name.origin p.name.statement) p.name.origin p.name.leg (statement script p.name.origin p.name.statement) ≡ true
     pub place : receiver script p.name ≡ b
     pub head : p.head ≡ head_by script p.name p.name.leg (statement script p.name.origin p.name.statement)
     pub size : p.length ≡ message_length script p.name
@@ -299,7 +303,7 @@ module _ (script : Script) (rules : Rules) where
       let hc = has_completion script rules m.origin m.statement in
       let whole = whole_by (count_of script p.length) (Data p ∷ r.handed a b) m in
       let n = count script rules r.journal b c in
-      let is : told m m.leg s b c ≡ named (announces p.head hc) c = sym (ap (λ (t : ℕ). told m m.leg s t c) f.place) ∙ told-is m m.leg s c f.leg (no-completion script rules m.origin m.statement) ∙ ap (λ h. named (announces h hc) c) (sym f.head) in
+      let is : told m m.leg s b c ≡ named (announces p.head hc) c = sym (ap (λ (t : ℕ). told m m.leg s t c) f.place) ∙ told-is _ m m.leg s c f.leg (no-completion script rules m.origin m.statement) ∙ ap (λ h. named (announces h hc) c) (sym f.head) in
       ap (λ es. count script rules (followed r.journal es) b c) f.events
       ∙ arrive-count r.journal (is_active p.head && not (has_some (r.handed a b) m)) whole m b c
       ∙ ap (λ k. n + cond whole k 0) is

@@ -6,7 +6,7 @@ use Rattle.std.proofs.lemmas.Bool.{both_ways, cond_both, cond-false, false_from_
 use Rattle.lapi_base.specs.declared.script.Script.{Script}
 use Rattle.lapi_base.specs.declared.rule.Rules.{Rules}
 use Rattle.lapi_base.specs.declared.message.Leg.{Leg}
-use Rattle.lapi_base.specs.declared.message.Leg.TheVariants.{Go, Back, Note, Join}
+use Rattle.lapi_base.specs.declared.message.Leg.TheVariants.{Go, Back, Note, Echo, Join}
 use Rattle.lapi_base.specs.declared.message.MsgName.{MsgName}
 use Rattle.lapi_base.specs.declared.event.Event.{Event}
 use Rattle.lapi_base.specs.declared.event.Event.TheVariants.{Issue, Refuse, Enter, Pass, Copy, Head, Land, Begin, End}
@@ -23,7 +23,8 @@ use Rattle.lapi_base.specs.Values.{Values, values, land_bytes}
 use Rattle.lapi_base.specs.Refusals.{next, why}
 use Rattle.lapi_base.specs.Jobs.{queue, runs}
 use Rattle.lapi_base.specs.Packets.{data_packet}
-use Rattle.lapi_base.specs.Record.{Run, start, out, has_number, packet_of, packets, ready, fresh, stale, copy_each, followed, arrival, ack, with_handed, hand_over, deliver_entry, deliver, reply_with, unless_refused, add_event, step, poll, tick, begin_first, begin_at, begin, end_at, end, note_of, cut_entry, perform, after, run_of}
+use Rattle.lapi_base.specs.Layout.{holds_back}
+use Rattle.lapi_base.specs.Record.{Run, start, out, has_number, packet_of, packets, ready, fresh, stale, copy_each, followed, arrival, ack, owed_ack, sends, at_once, with_handed, hand_over, deliver_entry, deliver, reply_with, unless_refused, add_event, step, poll, tick, begin_first, begin_at, begin, end_at, end, after_end, cut_entry, perform, after, run_of}
 use Rattle.lapi_base.specs.Atomic.{Atomic}
 use Rattle.lapi_base.specs.Valid.{ValidAct}
 use Rattle.lapi_base.specs.Headline.{HoldsOfAtomic}
@@ -49,6 +50,7 @@ module _ (script : Script) (rules : Rules) where
       (λ _. refl)
   land-stays v a i Back J m h d = refl
   land-stays v a i Note J m h d = refl
+  land-stays v a i Echo J m h d = refl
   land-stays v a i (Join x) J m h d = refl
 
   -- What a message carries is fixed once it was copied.
@@ -118,7 +120,7 @@ module _ (script : Script) (rules : Rules) where
     pub hands : (a b : ℕ) → AllByRecursion (Exact r.journal) (r.handed a b)
 
   -- a line that adds events alone
-  adds-exact : (r : Run) (K : List Event) → Grown r.journal K → Atomic script rules K → SoundRun script rules r → ExactRun r → (replies : List Reply) → ExactRun (record { replies = replies; wire = r.wire; handed = r.handed; journal = K })
+  adds-exact : (r : Run) (K : List Event) → Grown r.journal K → Atomic script rules K → SoundRun script rules r → ExactRun r → (replies : List Reply) → ExactRun (record r { replies = replies; journal = K })
   adds-exact r K g h s x replies = record {
     wires = λ a b. all-exact r.journal K r.handed a b (r.wire a b) g h (s.wires a b) (x.wires a b);
     hands = λ a b. all-exact r.journal K r.handed a b (r.handed a b) g h (s.hands a b) (x.hands a b);
@@ -127,7 +129,7 @@ module _ (script : Script) (rules : Rules) where
   same-exact : (r : Run) (replies : List Reply) → ExactRun r → ExactRun (record r { replies = replies })
   same-exact r replies x = record { wires = x.wires; hands = x.hands }
 
-  events-exact : (r : Run) (es : List Event) (replies : List Reply) → SoundRun script rules r → Atomic script rules (followed r.journal es) → ExactRun r → ExactRun (record { replies = replies; wire = r.wire; handed = r.handed; journal = followed r.journal es })
+  events-exact : (r : Run) (es : List Event) (replies : List Reply) → SoundRun script rules r → Atomic script rules (followed r.journal es) → ExactRun r → ExactRun (record r { replies = replies; journal = followed r.journal es })
   events-exact r es replies s h x = adds-exact r (followed r.journal es) (grown-followed es r.journal) h s x replies
 
   step-exact : (r : Run) (t : ℕ) → SoundRun script rules r → SoundRun script rules (step script rules r t) → ExactRun r → ExactRun (step script rules r t)
@@ -150,7 +152,21 @@ module _ (script : Script) (rules : Rules) where
   end-exact : (r : Run) (t w : ℕ) → SoundRun script rules r → SoundRun script rules (end script rules r t w) → ExactRun r → ExactRun (end script rules r t w)
   unfolding end
   end-exact r t w s s' x =
-      elim (runs r.journal t w) as (λ o. SoundRun script rules (end_at script rules r t w o) → ExactRun (end_at script rules r t w o)) [ None ↦ λ _. same-exact r _ x | Some m ↦ λ q. events-exact r (End m t w ∷ note_of script rules m) _ s q.atomic x ] s'
+      elim (runs r.journal t w) as (λ o. SoundRun script rules (end_at script rules r t w o) → ExactRun (end_at script rules r t w o)) [ None ↦ λ _. same-exact r _ x | Some m ↦ λ q. events-exact r (End m t w ∷ after_end script rules m) _ s q.atomic x ] s'
+
+  ack-exact : (r : Run) (J : List Event) (a b : ℕ) → Exact J (ack script rules r a b)
+  unfolding ack
+  ack-exact r J a b = tt
+
+  once-exact : (J : List Event) (r : Run) (a b : ℕ) → AllByRecursion (Exact J) (at_once script rules (ack script rules r a b))
+  unfolding at_once
+  once-exact J r a b = cond_both (holds_back script) [] (ack script rules r a b ∷ []) (AllByRecursion (Exact J)) (λ _. tt) (λ _. (ack-exact r J a b, tt))
+
+  sends-exact : (r : Run) (J : List Event) (a b : ℕ) → AllByRecursion (Exact J) (sends script rules r J a b)
+  unfolding owed_ack
+  sends-exact r J a b =
+      all-append (Exact J) (packets script rules J a b (fresh script rules r J a b)) (owed_ack script rules r b a) (packets-exact J a b (fresh script rules r J a b))
+      (cond_both (r.owed b a) (ack script rules r b a ∷ []) [] (AllByRecursion (Exact J)) (λ _. (ack-exact r J b a, tt)) (λ _. tt))
 
   pub poll-exact : (r : Run) (t : ℕ) → SoundRun script rules r → SoundRun script rules (poll script rules r t) → ExactRun r → ExactRun (poll script rules r t)
   unfolding poll
@@ -158,8 +174,8 @@ module _ (script : Script) (rules : Rules) where
       let J = copy_each r.journal (ready script r.journal t) in
       let g = grown-copied (ready script r.journal t) r.journal in
       record {
-        wires = λ a b. cond_both (a == t) (r.wire a b ++ packets script rules J a b (fresh script rules r J a b)) (r.wire a b) (AllByRecursion (Exact J))
-            (λ _. all-append (Exact J) (r.wire a b) (packets script rules J a b (fresh script rules r J a b)) (all-exact r.journal J r.handed a b (r.wire a b) g s'.atomic (s.wires a b) (x.wires a b)) (packets-exact J a b (fresh script rules r J a b)))
+        wires = λ a b. cond_both (a == t) (r.wire a b ++ sends script rules r J a b) (r.wire a b) (AllByRecursion (Exact J))
+            (λ _. all-append (Exact J) (r.wire a b) (sends script rules r J a b) (all-exact r.journal J r.handed a b (r.wire a b) g s'.atomic (s.wires a b) (x.wires a b)) (sends-exact r J a b))
             (λ _. all-exact r.journal J r.handed a b (r.wire a b) g s'.atomic (s.wires a b) (x.wires a b));
         hands = λ a b. all-exact r.journal J r.handed a b (r.handed a b) g s'.atomic (s.hands a b) (x.hands a b);
       }
@@ -173,10 +189,6 @@ module _ (script : Script) (rules : Rules) where
     hands = x.hands;
   }
 
-  ack-exact : (r : Run) (J : List Event) (a b : ℕ) → Exact J (ack script rules r a b)
-  unfolding ack
-  ack-exact r J a b = tt
-
   hands-exact : (J : List Event) (handed : Lists) (a b : ℕ) (p : Packet) → Exact J p → ((x y : ℕ) → AllByRecursion (Exact J) (handed x y)) → (x y : ℕ) → AllByRecursion (Exact J) (cond (x == a && y == b) (p ∷ handed x y) (handed x y))
   hands-exact J handed a b p e all x y = cond_both (x == a && y == b) (p ∷ handed x y) (handed x y) (AllByRecursion (Exact J)) (λ _. (e, all x y)) (λ _. all x y)
 
@@ -188,8 +200,8 @@ module _ (script : Script) (rules : Rules) where
       let K = followed r.journal es in
       let g = grown-followed es r.journal in
       record {
-        wires = λ u v. cond_both (u == b && v == a) (r.wire u v ++ ack script rules (with_handed script rules r a b (Data p)) a b ∷ []) (r.wire u v) (AllByRecursion (Exact K))
-            (λ _. all-append (Exact K) (r.wire u v) (ack script rules (with_handed script rules r a b (Data p)) a b ∷ []) (all-exact r.journal K r.handed u v (r.wire u v) g h (s.wires u v) (x.wires u v)) (ack-exact (with_handed script rules r a b (Data p)) K a b, tt))
+        wires = λ u v. cond_both (u == b && v == a) (r.wire u v ++ at_once script rules (ack script rules (with_handed script rules r a b (Data p)) a b)) (r.wire u v) (AllByRecursion (Exact K))
+            (λ _. all-append (Exact K) (r.wire u v) (at_once script rules (ack script rules (with_handed script rules r a b (Data p)) a b)) (all-exact r.journal K r.handed u v (r.wire u v) g h (s.wires u v) (x.wires u v)) (once-exact K (with_handed script rules r a b (Data p)) a b))
             (λ _. all-exact r.journal K r.handed u v (r.wire u v) g h (s.wires u v) (x.wires u v));
         hands = hands-exact K r.handed a b (Data p) (exact-grown r.journal K r.handed a b (Data p) g h f e) (λ u v. all-exact r.journal K r.handed u v (r.handed u v) g h (s.hands u v) (x.hands u v));
       }

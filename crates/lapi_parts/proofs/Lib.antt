@@ -8,6 +8,7 @@ pub mod SpelledParts
 pub mod SpelledHeads
 pub mod MessageHeads
 pub mod Acknowledgements
+pub mod FirstLayout
 pub mod SpelledPackets
 pub mod LocalEvents
 pub mod LocalQuestions

@@ -5,7 +5,7 @@ use Rattle.std.specs.List.{AllByRecursion}
 use Rattle.std.proofs.lemmas.Bool.{and_parts, cond_both, cond-false, eqb-true}
 use Rattle.lapi_base.specs.declared.script.Script.{Script}
 use Rattle.lapi_base.specs.declared.rule.Rules.{Rules}
-use Rattle.lapi_base.specs.declared.message.Leg.TheVariants.{Go, Back, Note, Join}
+use Rattle.lapi_base.specs.declared.message.Leg.TheVariants.{Go, Back, Note, Echo, Join}
 use Rattle.lapi_base.specs.declared.message.MsgName.{MsgName}
 use Rattle.lapi_base.specs.declared.refusal.Refusal.{Refusal}
 use Rattle.lapi_base.specs.declared.event.Event.{Event}
@@ -19,12 +19,13 @@ use Rattle.lapi_base.specs.declared.statement.Statement.{Statement}
 use Rattle.lapi_base.specs.declared.statement.Statement.TheVariants.{Wait, Fence, Gfence}
 use Rattle.lapi_base.specs.declared.packet.Packet.{Packet}
 use Rattle.lapi_base.specs.declared.packet.Packet.TheVariants.{Data, Ack}
+use Rattle.lapi_base.specs.Layout.{holds_back}
 use Rattle.lapi_base.specs.Names.{leg_eq, Issued, Entered, Copied, done, message}
 use Rattle.lapi_base.specs.Operations.{upto, statements, statement, target, sender, receiver, to_by, has_back, has_join, is_data, is_am, cmpl_counter}
-use Rattle.lapi_base.specs.Handlers.{has_completion}
+use Rattle.lapi_base.specs.Handlers.{has_completion, answers}
 use Rattle.lapi_base.specs.Refusals.{next, why, joined}
 use Rattle.lapi_base.specs.Jobs.{queue, runs}
-use Rattle.lapi_base.specs.Record.{Run, joins, to_copy_of, ready, copy_each, followed, note_of, after_land, arrival, some_number, all_numbers, out, is_delivered, hand_over, deliver_entry, deliver, reply_with, event_if, proposed, unless_refused, add_event, step, poll, tick, begin_first, begin_at, begin, end_at, end, cut_entry, perform, data_clear}
+use Rattle.lapi_base.specs.Record.{Run, joins, to_copy_of, ready, copy_each, followed, note_of, after_land, after_end, arrival, some_number, all_numbers, out, is_delivered, hand_over, deliver_entry, deliver, reply_with, event_if, proposed, unless_refused, add_event, step, poll, tick, begin_first, begin_at, begin, end_at, end, cut_entry, perform, data_clear}
 use Rattle.lapi_base.specs.TaskPart.{place_of, events_at, actor}
 use Rattle.lapi_laws.proofs.NumberLaws.{all-append}
 use Rattle.lapi_laws.proofs.Deeds.{eqb-refl, leg_eq-true}
@@ -45,6 +46,7 @@ module _ (script : Script) where
     pub here : AllByRecursion (At t) added
     pub wires : (a b : ℕ) → (a == t) ≡ false → s.wire a b ≡ r.wire a b
     pub hands : (a b : ℕ) → (b == t) ≡ false → s.handed a b ≡ r.handed a b
+    pub owed : (a b : ℕ) → (b == t) ≡ false → s.owed a b ≡ r.owed a b
 
   -- Of the tasks' parts, the one at t gets what was added, and the others stay.
   pub events-own : (t : ℕ) (added J : List Event) → AllByRecursion (At t) added → events_at script t (added ++ J) ≡ added ++ events_at script t J
@@ -93,10 +95,10 @@ module _ (script : Script) where
   module _ (rules : Rules) where
     -- a line that adds events alone
     adds : (t : ℕ) (r : Run) (es : List Event) (replies : List Reply) → AllByRecursion (At t) es → Frame t r (record r { replies = replies; journal = followed r.journal es })
-    adds t r es replies h = let m = more-followed t es r.journal h in record { added = m.0; journal = m.1; here = m.2; wires = λ a b _. refl; hands = λ a b _. refl }
+    adds t r es replies h = let m = more-followed t es r.journal h in record { added = m.0; journal = m.1; here = m.2; wires = λ a b _. refl; hands = λ a b _. refl; owed = λ a b _. refl }
 
     nothing : (t : ℕ) (r : Run) (replies : List Reply) → Frame t r (record r { replies = replies })
-    nothing t r replies = record { added = []; journal = refl; here = tt; wires = λ a b _. refl; hands = λ a b _. refl }
+    nothing t r replies = record { added = []; journal = refl; here = tt; wires = λ a b _. refl; hands = λ a b _. refl; owed = λ a b _. refl }
 
     abbrev AtOption : ℕ → Option Event → Type 0
     AtOption t None = Unit {0}
@@ -133,17 +135,20 @@ module _ (script : Script) where
     unfolding poll
     poll-frame r t =
         let m = more-copied t (ready script r.journal t) r.journal (ready-own r.journal t) in
-        record { added = m.0; journal = m.1; here = m.2; wires = λ a b x. cond-false (a == t) _ (r.wire a b) x; hands = λ a b _. refl }
+        record { added = m.0; journal = m.1; here = m.2; wires = λ a b x. cond-false (a == t) _ (r.wire a b) x; hands = λ a b _. refl; owed = λ a b x. ap (λ c. not c && r.owed a b) x }
 
     tick-frame : (r : Run) (t : ℕ) → Frame t r (tick script rules r t)
     unfolding tick
-    tick-frame r t = record { added = []; journal = refl; here = tt; wires = λ a b x. cond-false (a == t) _ (r.wire a b) x; hands = λ a b _. refl }
+    tick-frame r t = record { added = []; journal = refl; here = tt; wires = λ a b x. cond-false (a == t) _ (r.wire a b) x; hands = λ a b _. refl; owed = λ a b _. refl }
 
     go-receiver : (m : MsgName) → leg_eq m.leg Go ≡ true → receiver script m ≡ target script m.origin m.statement
     go-receiver m h = ap (to_by m.origin (target script m.origin m.statement)) (leg_eq-true m.leg Go h)
 
     note-own : (t : ℕ) (m : MsgName) → target script m.origin m.statement ≡ t → AllByRecursion (At t) (note_of script rules m)
     note-own t m h = cond_both (is_some (cmpl_counter (statement script m.origin m.statement))) (Copy (message m.origin m.statement Note) ∷ []) [] (AllByRecursion (At t)) (λ _. (h, tt)) (λ _. tt)
+
+    end-own : (t : ℕ) (m : MsgName) → target script m.origin m.statement ≡ t → AllByRecursion (At t) (after_end script rules m)
+    end-own t m h = cond_both (answers script rules m.origin m.statement) (Copy (message m.origin m.statement Echo) ∷ []) (note_of script rules m) (AllByRecursion (At t)) (λ _. (h, tt)) (λ _. note-own t m h)
 
     after-own : (t : ℕ) (m : MsgName) → receiver script m ≡ t → AllByRecursion (At t) (after_land script rules m)
     after-own t m h =
@@ -164,14 +169,14 @@ module _ (script : Script) where
 
     hand-frame : (r : Run) (a b : ℕ) (p : Packet) → Fits script rules r.journal r.handed a b p → Frame b r (hand_over script rules r a b p)
     unfolding hand_over
-    hand-frame r a b (Ack from to least bits) f = record { added = []; journal = refl; here = tt; wires = λ x y _. refl; hands = λ x y h. apart-right y b (x == a) _ (r.handed x y) h }
+    hand-frame r a b (Ack from to least bits) f = record { added = []; journal = refl; here = tt; wires = λ x y _. refl; hands = λ x y h. apart-right y b (x == a) _ (r.handed x y) h; owed = λ x y _. refl }
     hand-frame r a b (Data p) f =
         let es = cond (is_delivered r a b p.seq) [] (arrival script rules r a b p.name p.seq) in
         let m = more-followed b es r.journal (cond_both (is_delivered r a b p.seq) [] (arrival script rules r a b p.name p.seq) (AllByRecursion (At b)) (λ _. tt) (λ _. arrival-own r a b p.name p.seq (out-copied script r.journal a b p.seq (p.name, p.fragment) f).2)) in
-        record { added = m.0; journal = m.1; here = m.2; wires = λ x y h. apart-left x b (y == a) _ (r.wire x y) h; hands = λ x y h. apart-right y b (x == a) _ (r.handed x y) h }
+        record { added = m.0; journal = m.1; here = m.2; wires = λ x y h. apart-left x b (y == a) _ (r.wire x y) h; hands = λ x y h. apart-right y b (x == a) _ (r.handed x y) h; owed = λ x y h. ap (λ c. (holds_back script && (x == a && c)) || r.owed x y) h ∙ ap (λ c. (holds_back script && c) || r.owed x y) (and-false (x == a)) ∙ ap (λ c. c || r.owed x y) (and-false (holds_back script)) }
 
     replied : (t : ℕ) (r s : Run) (replies : List Reply) → Frame t r s → Frame t r (record s { replies = replies })
-    replied t r s replies f = record { added = f.added; journal = f.journal; here = f.here; wires = f.wires; hands = f.hands }
+    replied t r s replies f = record { added = f.added; journal = f.journal; here = f.here; wires = f.wires; hands = f.hands; owed = f.owed }
 
     deliver-frame : (r : Run) (a b k : ℕ) → SoundRun script rules r → Frame b r (deliver script rules r a b k)
     unfolding deliver
@@ -198,7 +203,7 @@ module _ (script : Script) where
               let job = and_parts _ _ (begun script rules r.journal t w m s.atomic at).1 in
               let go = (and_parts _ _ (and_parts _ _ job.0).1).0 in
               let here : target script m.origin m.statement ≡ t = sym (go-receiver m go) ∙ eqb-true _ t (and_parts _ _ job.1).0 in
-              adds t r (End m t w ∷ note_of script rules m) _ (refl, note-own t m here)
+              adds t r (End m t w ∷ after_end script rules m) _ (refl, end-own t m here)
         ] refl
 
     module _ (size : Packet → ℕ) (refusal : List ℕ → Bad) where

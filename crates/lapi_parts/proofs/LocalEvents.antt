@@ -7,7 +7,7 @@ use Rattle.lapi_base.specs.declared.statement.Statement.{Statement}
 use Rattle.lapi_base.specs.declared.statement.Statement.TheVariants.{Wait, Set, Read}
 use Rattle.lapi_base.specs.declared.rule.Rules.{Rules}
 use Rattle.lapi_base.specs.declared.message.Leg.{Leg}
-use Rattle.lapi_base.specs.declared.message.Leg.TheVariants.{Go, Back, Note, Join}
+use Rattle.lapi_base.specs.declared.message.Leg.TheVariants.{Go, Back, Note, Echo, Join}
 use Rattle.lapi_base.specs.declared.message.MsgName.{MsgName}
 use Rattle.lapi_base.specs.declared.event.Event.{Event}
 use Rattle.lapi_base.specs.declared.event.Event.TheVariants.{Issue, Refuse, Enter, Pass, Copy, Head, Land, Begin, End}
@@ -169,6 +169,7 @@ module _ (script : Script) (t : ℕ) where
     copy-quiet a i c Go h = and-no-right _ _ (no-counter _ a c h)
     copy-quiet a i c Back h = no-counter _ _ c h
     copy-quiet a i c Note h = refl
+    copy-quiet a i c Echo h = refl
     copy-quiet a i c (Join d) h = refl
 
     land-quiet : (a i c : ℕ) (leg : Leg) → (receiver script (message a i leg) == t) ≡ false → tells script rules (Land (message a i leg)) t c ≡ false
@@ -176,6 +177,7 @@ module _ (script : Script) (t : ℕ) where
     land-quiet a i c Go h = and-no-right _ _ (no-counter _ _ c h)
     land-quiet a i c Back h = no-counter _ a c h
     land-quiet a i c Note h = no-counter _ a c h
+    land-quiet a i c Echo h = no-counter _ a c h
     land-quiet a i c (Join d) h = refl
 
     issued-no : (s : Statement) (a c n : ℕ) → (a == t) ≡ false → issued_count script rules s a t c n ≡ n

@@ -1,8 +1,8 @@
 -- The head of every message that a valid script copies keeps its rules.
-use Rattle.std.proofs.Common.{◌≡◌, ℕ, zero, suc, ◌+◌, ◌<◌, ◌≤◌, min, Bool, true, List, [], ◌∷◌, ◌++◌, length, map, Option, Some, None, refl, sym, ap, ◌∙◌, arith, inl, inr}
+use Rattle.std.proofs.Common.{◌≡◌, ℕ, zero, suc, ◌+◌, ◌<◌, ◌≤◌, min, Bool, true, false, List, [], ◌∷◌, ◌++◌, length, map, Option, Some, None, refl, sym, ap, subst, ◌∙◌, arith, inl, inr}
 use Rattle.std.specs.Prelude.{nat_lt, is_some}
 use Rattle.std.specs.List.{AllByRecursion, filter, zip}
-use Rattle.std.proofs.lemmas.Bool.{false≢true, cond_both, or_parts, le-leb, ltb-false, cases_lt}
+use Rattle.std.proofs.lemmas.Bool.{false≢true, cond_both, or_parts, le-leb, ltb-false, cases_lt, and_left, both_ways, and_parts}
 use Rattle.std.proofs.lemmas.List.{length-map, length-append}
 use Rattle.std.proofs.lemmas.List.Elements.{filter-append}
 use Rattle.std.proofs.lemmas.List.Sums.{sum_by-cons}
@@ -15,10 +15,10 @@ use Rattle.lapi_base.specs.declared.statement.Statement.{Statement}
 use Rattle.lapi_base.specs.declared.statement.Statement.TheVariants.{Put, Get, Putv, Getv, Rmw, Am, Gfence}
 use Rattle.lapi_base.specs.declared.rule.Rules.{Rules}
 use Rattle.lapi_base.specs.declared.message.Leg.{Leg}
-use Rattle.lapi_base.specs.declared.message.Leg.TheVariants.{Go, Back, Note, Join}
+use Rattle.lapi_base.specs.declared.message.Leg.TheVariants.{Go, Back, Note, Echo, Join}
 use Rattle.lapi_base.specs.declared.message.MsgName.{MsgName}
 use Rattle.lapi_base.specs.Form.{IsSpelled}
-use Rattle.lapi_base.specs.Layout.{First, longest_of, longest_active_of}
+use Rattle.lapi_base.specs.Layout.{First, layout_of, has_echo, may_answer, longest_of, longest_active_of, longest as most, longest_active as most_active}
 use Rattle.lapi_base.specs.Heads.{is_operation, head_form, note_of}
 use Rattle.lapi_base.specs.Spelling.{is_length}
 use Rattle.lapi_base.specs.Written as written
@@ -28,6 +28,7 @@ use Rattle.lapi_base.specs.Refusals.{is_long, rounds_like, round_of, gfence_roun
 use Rattle.lapi_base.specs.Packets.{head_by}
 use Rattle.lapi_base.specs.Valid.{ValidVector, ValidStatement, ValidScript, ValidRules}
 use Rattle.lapi_base.specs.Receiving.{bytes_in, NamesCounter}
+use Rattle.lapi_base.specs.Handlers.{answers}
 use Rattle.lapi_laws.proofs.NumberLaws.{filter-push}
 use Rattle.lapi_laws.proofs.Places.{upto-length}
 use Rattle.lapi_parts.proofs.Accepted.{LiesWithin, Accepted}
@@ -112,6 +113,20 @@ module _ (script : Script) (rules : Rules) (valid : ValidScript script) (few : V
   abbrev Fine : Statement → Type 0
   Fine s = Accepted script rules (target script m.origin m.statement) s
 
+  -- in the first layout nothing answers
+  pub no-answers : answers script rules m.origin m.statement ≡ false
+  unfolding answers may_answer
+  no-answers = and_left _ _ (and_left _ _ (and_left _ _ (ap (λ l. has_echo (layout_of l)) valid.layout)))
+
+  -- the longest message
+  longest : (n : ℕ) → nat_lt (longest_of script) n ≡ false → n ≤ 16384
+  unfolding longest_of
+  longest n h = ltb-false 16384 n (subst (λ l. nat_lt (most (layout_of l)) n ≡ false) valid.layout h)
+
+  longest_am : (n : ℕ) → nat_lt (longest_active_of script) n ≡ false → n ≤ 16384
+  unfolding longest_active_of
+  longest_am n h = ltb-false 16384 n (subst (λ l. nat_lt (most_active (layout_of l)) n ≡ false) valid.layout h)
+
   -- the largest memory
   inside : (at count : ℕ) → at + count ≤ script.memory → at + count ≤ 65536
   inside at count h = let most : script.memory ≤ 65536 = valid.memory.1 in omega arith
@@ -123,10 +138,10 @@ module _ (script : Script) (rules : Rules) (valid : ValidScript script) (few : V
   note-kept (Am task handler header from len tgt org (Some c)) g h = note-spelled (note_of 6) c (numbered script valid (Some c) h.cmpl)
   note-kept _ g h = absurd (false≢true g)
 
-  pub head-spelled : (leg : Leg) (s : Statement) → has_leg script m.origin leg s ≡ true → Fine s → ValidStatement s → round_of script m.origin m.statement ≤ 511 → IsSpelled (head_form First leg (written.head_number (head_by script m leg s)) (length_by leg s)) (head_by script m leg s) (written.head (head_by script m leg s))
+  pub head-spelled : (leg : Leg) (s : Statement) → has_leg script (answers script rules m.origin m.statement) m.origin leg s ≡ true → Fine s → ValidStatement s → round_of script m.origin m.statement ≤ 511 → IsSpelled (head_form First leg (written.head_number (head_by script m leg s)) (length_by leg s)) (head_by script m leg s) (written.head (head_by script m leg s))
   unfolding head_form longest_of address
   head-spelled Go (Put task to from len tgt org cmpl) g h v r = put-spelled len (address script _ to) tgt cmpl (inside _ len h.to.0) (numbered script valid tgt h.tgt) (numbered script valid cmpl h.cmpl)
-  head-spelled Go (Get task from to len tgt org) g h v r = get_go-spelled len (address script _ from) to tgt org (ltb-false 16384 len h.short) (inside _ len h.to.0) (inside to len h.from.0) (numbered script valid tgt h.tgt) (numbered script valid org h.org)
+  head-spelled Go (Get task from to len tgt org) g h v r = get_go-spelled len (address script _ from) to tgt org (longest len h.short) (inside _ len h.to.0) (inside to len h.from.0) (numbered script valid tgt h.tgt) (numbered script valid org h.org)
   head-spelled Go (Putv task to from tgt org cmpl) g h v r =
       let d = target script m.origin m.statement in
       let count = pieces-few to v.1 in
@@ -139,7 +154,7 @@ module _ (script : Script) (rules : Rules) (valid : ValidScript script) (few : V
       let count = pieces-few from v.1 in
       let n = spans-length script d (pieces_of from) in
       let t = spans-total script d (pieces_of from) in
-      let l : total (pieces_of from) ≤ 16384 = ltb-false 16384 (total (pieces_of from)) (or_parts (is_long script (pieces_of from)) (is_long script (pieces_of to)) h.short).0 in
+      let l : total (pieces_of from) ≤ 16384 = longest (total (pieces_of from)) (or_parts (is_long script (pieces_of from)) (is_long script (pieces_of to)) h.short).0 in
       getv_go-spelled tgt org (spans script d (pieces_of from)) (spans script d (pieces_of to)) (numbered script valid tgt h.tgt) (numbered script valid org h.org) (omega (arith, n, count.0)) (omega (arith, n, count.1)) (spans-within script valid d (pieces_of from) h.to) (spans-within script valid d (pieces_of to) h.from) (omega arith)
       (spans-same script d (pieces_of from) (pieces_of to) (h.count refl) (h.lengths refl))
   head-spelled Go (Rmw task op at in1 in2 prev org) g h v r =
@@ -159,13 +174,14 @@ module _ (script : Script) (rules : Rules) (valid : ValidScript script) (few : V
       getv_back-spelled (total (pieces_of from)) org (spans script d (pieces_of to)) (numbered script valid org h.org) (omega (arith, n, count.0)) (omega (arith, n, count.1)) (spans-within script valid d (pieces_of to) h.from)
       (sym (same-total _ _ same) ∙ spans-total script d (pieces_of from))
   head-spelled Back (Rmw task op at in1 in2 prev org) g h v r = let w = h.words refl in rmw_back-spelled prev org (inside prev 4 h.from.0) w.1.0 (numbered script valid org h.org)
-  head-spelled Note s g h v r = note-kept s g h
+  head-spelled Note s g h v r = note-kept s (and_parts _ _ g).0 h
+  head-spelled Echo s g h v r = absurd (both_ways _ no-answers g)
   head-spelled (Join d) Gfence g h v r = gfence-spelled (round_of script m.origin m.statement) r
   head-spelled (Join d) (Statement.Addr at) g h v r = let within : at + 0 ≤ script.memory = h.from.0 in let most : script.memory ≤ 65536 = valid.memory.1 in addr-spelled (round_of script m.origin m.statement) at r (omega arith)
   head-spelled _ s g h v r = absurd (false≢true g)
 
   -- the operation goes with the leg
-  pub operation-kept : (leg : Leg) (s : Statement) → has_leg script m.origin leg s ≡ true → is_operation leg (written.head_number (head_by script m leg s)) ≡ true
+  pub operation-kept : (leg : Leg) (s : Statement) → has_leg script (answers script rules m.origin m.statement) m.origin leg s ≡ true → is_operation leg (written.head_number (head_by script m leg s)) ≡ true
   operation-kept Go (Put task to from len tgt org cmpl) g = refl
   operation-kept Go (Get task from to len tgt org) g = refl
   operation-kept Go (Putv task to from tgt org cmpl) g = refl
@@ -178,22 +194,24 @@ module _ (script : Script) (rules : Rules) (valid : ValidScript script) (few : V
   operation-kept Note (Put task to from len tgt org cmpl) g = refl
   operation-kept Note (Putv task to from tgt org cmpl) g = refl
   operation-kept Note (Am task handler header from len tgt org cmpl) g = refl
+  operation-kept Echo s g = refl
   operation-kept (Join d) Gfence g = refl
   operation-kept (Join d) (Statement.Addr at) g = refl
   operation-kept _ s g = absurd (false≢true g)
 
   -- and the length with both
-  pub length-kept : (leg : Leg) (s : Statement) → has_leg script m.origin leg s ≡ true → Fine s → is_length First leg (written.head_number (head_by script m leg s)) (length_by leg s) ≡ true
+  pub length-kept : (leg : Leg) (s : Statement) → has_leg script (answers script rules m.origin m.statement) m.origin leg s ≡ true → Fine s → is_length First leg (written.head_number (head_by script m leg s)) (length_by leg s) ≡ true
   unfolding longest_of longest_active_of
-  length-kept Go (Put task to from len tgt org cmpl) g h = le-leb len 16384 (ltb-false 16384 len h.short)
+  length-kept Go (Put task to from len tgt org cmpl) g h = le-leb len 16384 (longest len h.short)
   length-kept Go (Get task from to len tgt org) g h = refl
-  length-kept Go (Putv task to from tgt org cmpl) g h = le-leb (total (pieces_of from)) 16384 (ltb-false 16384 (total (pieces_of from)) (or_parts (is_long script (pieces_of to)) (is_long script (pieces_of from)) h.short).1)
+  length-kept Go (Putv task to from tgt org cmpl) g h = le-leb (total (pieces_of from)) 16384 (longest (total (pieces_of from)) (or_parts (is_long script (pieces_of to)) (is_long script (pieces_of from)) h.short).1)
   length-kept Go (Getv task from to tgt org) g h = refl
   length-kept Go (Rmw task op at in1 in2 prev org) g h = refl
-  length-kept Go (Am task handler header from len tgt org cmpl) g h = le-leb len 16384 (ltb-false 16384 len h.short)
-  length-kept Back (Get task from to len tgt org) g h = le-leb len 16384 (ltb-false 16384 len h.short)
-  length-kept Back (Getv task from to tgt org) g h = le-leb (total (pieces_of from)) 16384 (ltb-false 16384 (total (pieces_of from)) (or_parts (is_long script (pieces_of from)) (is_long script (pieces_of to)) h.short).0)
+  length-kept Go (Am task handler header from len tgt org cmpl) g h = le-leb len 16384 (longest_am len h.short)
+  length-kept Back (Get task from to len tgt org) g h = le-leb len 16384 (longest len h.short)
+  length-kept Back (Getv task from to tgt org) g h = le-leb (total (pieces_of from)) 16384 (longest (total (pieces_of from)) (or_parts (is_long script (pieces_of from)) (is_long script (pieces_of to)) h.short).0)
   length-kept Back (Rmw task op at in1 in2 prev org) g h = refl
   length-kept Note s g h = refl
+  length-kept Echo s g h = refl
   length-kept (Join d) s g h = refl
   length-kept _ s g h = absurd (false≢true g)

@@ -29,17 +29,18 @@ use Rattle.lapi_parts.proofs.LocalQuestions.{by_points}
 use Rattle.lapi_parts.proofs.LineFrames.{Frame, events-other, perform-frame}
 
 module _ (script : Script) (rules : Rules) where
-  parts-by : (events events' : List Event) (put put' handed handed' : ℕ → List Packet) → events ≡ events' → put ≡ put' → handed ≡ handed' → (let P : Part = record { events = events; put = put; handed = handed } in P) ≡ record { events = events'; put = put'; handed = handed' }
-  parts-by events events' put put' handed handed' e p h = λ i. record { events = e i; put = p i; handed = h i }
+  parts-by : (events events' : List Event) (put put' handed handed' : ℕ → List Packet) (owed owed' : ℕ → Bool) → events ≡ events' → put ≡ put' → handed ≡ handed' → owed ≡ owed' → (let P : Part = record { events = events; put = put; handed = handed; owed = owed } in P) ≡ record { events = events'; put = put'; handed = handed'; owed = owed' }
+  parts-by events events' put put' handed handed' owed owed' e p h o = λ i. record { events = e i; put = p i; handed = h i; owed = o i }
 
   -- A line changes the part of its own task alone.
   pub part-apart : (t u : ℕ) (r s : Run) → Frame script t r s → (t == u) ≡ false → part_at script u s ≡ part_at script u r
   unfolding part_at
   part-apart t u r s f apart =
-      parts-by (events_at script u s.journal) (events_at script u r.journal) (λ b. s.wire u b) (λ b. r.wire u b) (λ a. s.handed a u) (λ a. r.handed a u)
+      parts-by (events_at script u s.journal) (events_at script u r.journal) (λ b. s.wire u b) (λ b. r.wire u b) (λ a. s.handed a u) (λ a. r.handed a u) (λ a. s.owed a u) (λ a. r.owed a u)
       (ap (events_at script u) f.journal ∙ events-other script t u f.added r.journal apart f.here)
       (by_points _ _ (λ b. f.wires u b (same-sym t u apart)))
       (by_points _ _ (λ a. f.hands a u (same-sym t u apart)))
+      (by_points _ _ (λ a. f.owed a u (same-sym t u apart)))
 
   -- The queue of a task, by its own events.
   module _ (t : ℕ) where

@@ -1,8 +1,8 @@
 -- What comes in fits the script and what came before it.
-use Rattle.std.proofs.Common.{◌≡◌, ℕ, ◌+◌, ◌-◌, ◌*◌, ◌<◌, ◌≤◌, eqb, min, true, false, List, [], ◌∷◌, length, take, drop, Some, refl, sym, ap, ◌∙◌, subst, ⊎_elim, arith}
+use Rattle.std.proofs.Common.{◌≡◌, ℕ, ◌+◌, ◌-◌, ◌*◌, ◌<◌, ◌≤◌, eqb, min, true, false, List, [], ◌∷◌, length, take, drop, Some, refl, sym, ap, ◌∙◌, subst, ⊎_elim, arith, Bool}
 use Rattle.std.specs.Prelude.{slice_get, is_some, nat_lt}
 use Rattle.std.specs.List.{AllByRecursion, IsDistinct, list_any}
-use Rattle.std.proofs.lemmas.Bool.{false≢true, both_ways, and_parts, eqb-true, ltb-true, false_from_ne_true, cases_lt}
+use Rattle.std.proofs.lemmas.Bool.{false≢true, both_ways, and_parts, eqb-true, ltb-true, false_from_ne_true, cases_lt, leb-true}
 use Rattle.std.proofs.lemmas.List.{length-take, length-drop}
 use Rattle.std.proofs.lemmas.Option.{slice_get_within}
 use Rattle.std.proofs.lemmas.Map.Steps.{length-le_from_distinct_below}
@@ -12,7 +12,7 @@ use Rattle.lapi_base.specs.declared.statement.Statement.{Statement}
 use Rattle.lapi_base.specs.declared.statement.Statement.TheVariants.{Put, Get, Putv, Getv, Rmw, Am, Gfence}
 use Rattle.lapi_base.specs.declared.rule.Rules.{Rules}
 use Rattle.lapi_base.specs.declared.message.Leg.{Leg}
-use Rattle.lapi_base.specs.declared.message.Leg.TheVariants.{Go, Back, Note, Join}
+use Rattle.lapi_base.specs.declared.message.Leg.TheVariants.{Go, Back, Note, Echo, Join}
 use Rattle.lapi_base.specs.declared.message.MsgName.{MsgName}
 use Rattle.lapi_base.specs.declared.event.Event.{Event}
 use Rattle.lapi_base.specs.declared.packet.Packet.{Packet}
@@ -21,7 +21,7 @@ use Rattle.lapi_base.specs.declared.packet.DataPacket.{DataPacket}
 use Rattle.lapi_base.specs.Layout.{unit_of, window_of}
 use Rattle.lapi_base.specs.Below.{least_missing}
 use Rattle.lapi_base.specs.Names.{name_eq, Copied}
-use Rattle.lapi_base.specs.Operations.{statements, statement, target, address, spans, pieces_of, sender, receiver, has_leg, length_by, message_length, cmpl_counter}
+use Rattle.lapi_base.specs.Operations.{statements, statement, target, address, spans, pieces_of, sender, receiver, has_leg, length_by, message_length, cmpl_counter, is_am}
 use Rattle.lapi_base.specs.Refusals.{round_of}
 use Rattle.lapi_base.specs.Packets.{head_by, data_packet}
 use Rattle.lapi_base.specs.Record.{Run, out, covers, is_number, has_number, is_sent, is_delivered}
@@ -31,8 +31,9 @@ use Rattle.lapi_base.specs.Links.{IsPartlyDelivered, least_undelivered, StaysInW
 use Rattle.lapi_base.specs.Seen.{HoldsOfRecords}
 use Rattle.lapi_base.specs.Entries.{carried}
 use Rattle.lapi_base.specs.Arrived.{is_fragment, has_some, has_fragment, count_of}
-use Rattle.lapi_base.specs.Receiving.{IsThereInPart, SpansAreInMemory, HeadFits, AcksCoverSent, FitsScript, PacketsFitScript, HeadsAgree, NewAreOpen, NewHaveRoom}
+use Rattle.lapi_base.specs.Receiving.{IsWord, IsThereInPart, SpansAreInMemory, HeadFits, AcksCoverSent, FitsScript, PacketsFitScript, HeadsAgree, NewAreOpen, NewHaveRoom}
 use Rattle.lapi_base.specs.Sending.{SentAreNumbers, AckedAreSent}
+use Rattle.lapi_base.specs.Handlers.{answers, has_completion, user}
 use Rattle.lapi_laws.proofs.NumberLaws.{any-all, any-get, least_missing-below}
 use Rattle.lapi_laws.proofs.Deeds.{eqb-refl, name_eq-true}
 use Rattle.lapi_laws.proofs.Out.{all-get, out-copied}
@@ -64,31 +65,36 @@ module _ (script : Script) (rules : Rules) (m : MsgName) where
   note-fits (Am task handler header from len tgt org (Some c)) g h = h.cmpl
   note-fits _ g h = absurd (false≢true g)
 
+  echo-fits : (s : Statement) → (is_am s ≡ true) × IsWord script (user script m) → Accepted script rules (target script m.origin m.statement) s → HeadFits script rules 4 (head_by script m Echo s)
+  echo-fits (Am task handler header from len tgt org cmpl) w h = (w.1, h.cmpl)
+  echo-fits _ w h = absurd (false≢true w.0)
+
   -- the head of each message that a script has keeps to it
-  head-fits : (leg : Leg) (s : Statement) → has_leg script m.origin leg s ≡ true → Accepted script rules (target script m.origin m.statement) s → round_of script m.origin m.statement ≤ 511 → HeadFits script rules (length_by leg s) (head_by script m leg s)
+  head-fits : (answers : Bool) (leg : Leg) (s : Statement) → (answers ≡ true → (is_am s ≡ true) × IsWord script (user script m)) → has_leg script answers m.origin leg s ≡ true → Accepted script rules (target script m.origin m.statement) s → round_of script m.origin m.statement ≤ 511 → HeadFits script rules (length_by leg s) (head_by script m leg s)
   unfolding address
-  head-fits Go (Put task to from len tgt org cmpl) g h r = (h.to.0, h.tgt, h.cmpl)
-  head-fits Go (Get task from to len tgt org) g h r = (h.to.0, h.from.0, h.tgt, h.org)
-  head-fits Go (Putv task to from tgt org cmpl) g h r =
+  head-fits ans Go (Put task to from len tgt org cmpl) w g h r = (h.to.0, h.tgt, h.cmpl)
+  head-fits ans Go (Get task from to len tgt org) w g h r = (h.to.0, h.from.0, h.tgt, h.org)
+  head-fits ans Go (Putv task to from tgt org cmpl) w g h r =
       let d = target script m.origin m.statement in
       let same = spans-same script d (pieces_of to) (pieces_of from) (h.count refl) (h.lengths refl) in
       (spans-inside script d (pieces_of to) h.to, same-total _ _ same ∙ spans-total script d (pieces_of from), h.tgt, h.cmpl)
-  head-fits Go (Getv task from to tgt org) g h r =
+  head-fits ans Go (Getv task from to tgt org) w g h r =
       let d = target script m.origin m.statement in
       let same = spans-same script d (pieces_of from) (pieces_of to) (h.count refl) (h.lengths refl) in
       (spans-inside script d (pieces_of from) h.to, spans-inside script d (pieces_of to) h.from, same-total _ _ same, h.tgt, h.org)
-  head-fits Go (Rmw task op at in1 in2 prev org) g h r = let w = h.words refl in ((h.to.0, w.0.0), (h.from.0, w.1.0), h.org)
-  head-fits Go (Am task handler header from len tgt org cmpl) g h r = (h.handler refl, h.tgt, h.cmpl)
-  head-fits Back (Get task from to len tgt org) g h r = (h.from.0, h.org)
-  head-fits Back (Getv task from to tgt org) g h r =
+  head-fits ans Go (Rmw task op at in1 in2 prev org) w g h r = let w = h.words refl in ((h.to.0, w.0.0), (h.from.0, w.1.0), h.org)
+  head-fits ans Go (Am task handler header from len tgt org cmpl) w g h r = (h.handler refl, h.tgt, h.cmpl)
+  head-fits ans Back (Get task from to len tgt org) w g h r = (h.from.0, h.org)
+  head-fits ans Back (Getv task from to tgt org) w g h r =
       let d = target script m.origin m.statement in
       let same = spans-same script d (pieces_of from) (pieces_of to) (h.count refl) (h.lengths refl) in
       (spans-inside script d (pieces_of to) h.from, sym (same-total _ _ same) ∙ spans-total script d (pieces_of from), h.org)
-  head-fits Back (Rmw task op at in1 in2 prev org) g h r = let w = h.words refl in ((h.from.0, w.1.0), h.org)
-  head-fits Note s g h r = note-fits s g h
-  head-fits (Join d) Gfence g h r = r
-  head-fits (Join d) (Statement.Addr at) g h r = let within : at + 0 ≤ script.memory = h.from.0 in (r, omega arith)
-  head-fits _ s g h r = absurd (false≢true g)
+  head-fits ans Back (Rmw task op at in1 in2 prev org) w g h r = let w = h.words refl in ((h.from.0, w.1.0), h.org)
+  head-fits ans Note s w g h r = note-fits s (and_parts _ _ g).0 h
+  head-fits ans Echo s w g h r = echo-fits s (w g) h
+  head-fits ans (Join d) Gfence w g h r = r
+  head-fits ans (Join d) (Statement.Addr at) w g h r = let within : at + 0 ≤ script.memory = h.from.0 in (r, omega arith)
+  head-fits ans _ s w g h r = absurd (false≢true g)
 
 -- ---- packets
 
@@ -97,9 +103,17 @@ payload_in (Data p) = p.payload
 payload_in (Ack from to base bits) = []
 
 module _ (script : Script) (rules : Rules) where
-  head-keeps : (m : MsgName) → has_leg script m.origin m.leg (statement script m.origin m.statement) ≡ true → Accepted script rules (target script m.origin m.statement) (statement script m.origin m.statement) → round_of script m.origin m.statement ≤ 511 → HeadFits script rules (message_length script m) (head_by script m m.leg (statement script m.origin m.statement))
+  answer-word : (m : MsgName) → answers script rules m.origin m.statement ≡ true → (is_am (statement script m.origin m.statement) ≡ true) × IsWord script (user script m)
+  unfolding answers has_completion user
+  answer-word m h =
+      let both = and_parts _ _ h in
+      let rest = and_parts _ _ (and_parts _ _ both.0).0 in
+      let place = and_parts _ _ both.1 in
+      ((and_parts _ _ rest.1).0, (leb-true _ _ place.1, eqb-true _ 0 place.0))
+
+  head-keeps : (m : MsgName) → has_leg script (answers script rules m.origin m.statement) m.origin m.leg (statement script m.origin m.statement) ≡ true → Accepted script rules (target script m.origin m.statement) (statement script m.origin m.statement) → round_of script m.origin m.statement ≤ 511 → HeadFits script rules (message_length script m) (head_by script m m.leg (statement script m.origin m.statement))
   unfolding message_length
-  head-keeps m g h r = head-fits script rules m m.leg (statement script m.origin m.statement) g h r
+  head-keeps m g h r = head-fits script rules m (answers script rules m.origin m.statement) m.leg (statement script m.origin m.statement) (answer-word m) g h r
 
   payload-is : (J : List Event) (p : DataPacket) → Exact script rules J (Data p) → p.payload ≡ take (unit_of script) (drop (unit_of script * p.fragment) (carried script rules J p.name))
   unfolding data_packet payload_in

@@ -9,13 +9,13 @@ use Rattle.lapi_base.specs.declared.span.Span.{Span}
 use Rattle.lapi_base.specs.declared.statement.Statement.{Statement}
 use Rattle.lapi_base.specs.declared.rule.Rules.{Rules}
 use Rattle.lapi_base.specs.declared.message.Leg.{Leg}
-use Rattle.lapi_base.specs.declared.message.Leg.TheVariants.{Go, Back, Note, Join}
+use Rattle.lapi_base.specs.declared.message.Leg.TheVariants.{Go, Back, Note, Echo, Join}
 use Rattle.lapi_base.specs.declared.message.MsgName.{MsgName}
 use Rattle.lapi_base.specs.declared.event.Event.{Event}
 use Rattle.lapi_base.specs.declared.event.Event.TheVariants.{Issue, Refuse, Enter, Pass, Copy, Head, Land, Begin, End}
 use Rattle.lapi_base.specs.Names.{message, name_eq, Deed, Copied, Landed, done}
 use Rattle.lapi_base.specs.Operations.{upto, statement, target, from_by, to_by, sender, receiver, is_am, is_rmw, has_back, fragment_count}
-use Rattle.lapi_base.specs.Handlers.{number_of, word_bytes, buffer, effect_of}
+use Rattle.lapi_base.specs.Handlers.{number_of, word_bytes, buffer, effect_of, answer_of, answer_pieces}
 use Rattle.lapi_base.specs.Values.{Memories, Write, Values, gathered, scattered, byte_after, new_word, at_target, at_origin, land_writes, store_writes, writes, with_bytes, land_bytes, source_by, bytes_after, held_after, values}
 use Rattle.lapi_base.specs.Record.{Run, is_number, has_number}
 use Rattle.lapi_base.specs.Atomic.{Atomic}
@@ -112,6 +112,7 @@ module _ (script : Script) (rules : Rules) where
         (λ _. refl)
     land-apart w a i Back m at apart = refl
     land-apart w a i Note m at apart = refl
+    land-apart w a i Echo m at apart = refl
     land-apart w a i (Join d) m at apart = refl
 
     apart-bytes : (J : List Event) (e : Event) (m : MsgName) → sender script m ≡ t → is_at script t e ≡ false → (values script rules (e ∷ J)).bytes m ≡ (values script rules J).bytes m
@@ -166,6 +167,7 @@ module _ (script : Script) (rules : Rules) where
         ∙ ap (λ (bs : List ℕ). cond (is_am s) (scattered (buffer script rules m) (w.bytes m)) (cond (is_rmw s) (scattered at (word_bytes (new_word s (number_of bs)))) (cond (has_back s) [] (scattered at (w.bytes m))))) (gathered-same v.memory w.memory d d at (place-memory v w g d here))
     land_writes-same v w a i Back s g here bytes = ap (scattered (at_origin script rules a i)) bytes
     land_writes-same v w a i Note s g here bytes = refl
+    land_writes-same v w a i Echo s g here bytes = ap (scattered (answer_pieces script (message a i Echo))) bytes
     land_writes-same v w a i (Join d) s g here bytes = refl
 
     written-same : (ws us : List Write) (x before after : ℕ) → ws ≡ us → before ≡ after → byte_after ws x before ≡ byte_after us x after
@@ -210,6 +212,7 @@ module _ (script : Script) (rules : Rules) where
         ap (λ (bs : List ℕ). cond (is_rmw s) bs (gathered v.memory d at)) bytes
         ∙ ap (λ (bs : List ℕ). cond (is_rmw s) (w.bytes (message a i Back)) bs) (gathered-same v.memory w.memory d d at (place-memory v w g d here))
     source-same v w a i Note s g here bytes = refl
+    source-same v w a i Echo s g here bytes = ap (answer_of script rules (message a i Go)) (g.held (message a i Go) here)
     source-same v w a i (Join d) s g here bytes = refl
 
     with-same : (v w : Values) (n : MsgName) (old new : List ℕ) (m : MsgName) → old ≡ new → v.bytes m ≡ w.bytes m → with_bytes script rules v n old m ≡ with_bytes script rules w n new m
@@ -226,6 +229,7 @@ module _ (script : Script) (rules : Rules) where
         ]
     land_bytes-same v w a i Back m g here bytes = bytes
     land_bytes-same v w a i Note m g here bytes = bytes
+    land_bytes-same v w a i Echo m g here bytes = bytes
     land_bytes-same v w a i (Join d) m g here bytes = bytes
 
     own-bytes : (v : Values) (J : List Event) (e : Event) → is_at script t e ≡ true → Agrees v (values script rules J) → (m : MsgName) → sender script m ≡ t → (moved e v).bytes m ≡ (values script rules (e ∷ J)).bytes m

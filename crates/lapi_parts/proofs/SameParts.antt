@@ -1,5 +1,5 @@
 -- Two records with the same part at a task tell the same of it.
-use Rattle.std.proofs.Common.{◌≡◌, ℕ, ◌+◌, cond, ◌&&◌, ◌||◌, not, List, [], ◌∷◌, length, Option, Some, None, refl, sym, ap, ◌∙◌}
+use Rattle.std.proofs.Common.{◌≡◌, ℕ, ◌+◌, false, cond, ◌&&◌, ◌||◌, not, List, [], ◌∷◌, ◌++◌, length, Option, Some, None, refl, sym, ap, ◌∙◌}
 use Rattle.std.specs.Prelude.{slice_get, nat_lt}
 use Rattle.std.specs.List.{flat_map}
 use Rattle.lapi_base.specs.declared.script.Script.{Script}
@@ -17,10 +17,10 @@ use Rattle.lapi_base.specs.Counters.{count, reads}
 use Rattle.lapi_base.specs.Refusals.{next, joined, why}
 use Rattle.lapi_base.specs.Jobs.{queue, runs}
 use Rattle.lapi_base.specs.Packets.{data_packet}
-use Rattle.lapi_base.specs.Record.{Run, out, has_number, has_ack, all_numbers, base, data_done, data_clear, ready, copy_each, packet_of, packets, fresh, stale, poll}
+use Rattle.lapi_base.specs.Record.{Run, out, has_number, has_ack, all_numbers, base, data_done, data_clear, ready, copy_each, packet_of, packets, fresh, ack, owed_ack, stale, poll}
 use Rattle.lapi_base.specs.Atomic.{Atomic}
 use Rattle.lapi_base.specs.TaskPart.{events_at, Part, part_at}
-use Rattle.lapi_base.specs.Arrived.{assembled}
+use Rattle.lapi_base.specs.Arrived.{assembled, ack_of}
 use Rattle.lapi_base.specs.ByPart.{copied, polled, SameStatements, SameLinks, SameJobs, SameMemory, IsToldByPart}
 use Rattle.lapi_laws.proofs.Out.{out-copied}
 use Rattle.lapi_laws.proofs.Sound.{Sound, add_entries}
@@ -30,6 +30,7 @@ use Rattle.lapi_parts.proofs.ExactBytes.{ExactRun, poll-exact, record-exact}
 use Rattle.lapi_parts.proofs.LocalEvents.{next-local, out-local, LiesAt, done-local, count-local, reads-local, runs-local}
 use Rattle.lapi_parts.proofs.LocalQuestions.{by_points, joined-local, why-local, ready-local, copy_each-local, data_done-local}
 use Rattle.lapi_parts.proofs.LineFrames.{ready-own}
+use Rattle.lapi_parts.proofs.HandedPackets.{ack-local}
 use Rattle.lapi_parts.proofs.OtherTasks.{happened-local, queue-local}
 use Rattle.lapi_parts.proofs.Replay.{came, replayed, replay-agrees}
 
@@ -39,10 +40,11 @@ module _ (script : Script) (rules : Rules) (t : ℕ) where
     pub events : events_at script t r.journal ≡ events_at script t s.journal
     pub put : (b : ℕ) → r.wire t b ≡ s.wire t b
     pub handed : (a : ℕ) → r.handed a t ≡ s.handed a t
+    pub owed : (a : ℕ) → r.owed a t ≡ s.owed a t
 
   pub same-part : (r s : Run) → part_at script t r ≡ part_at script t s → SamePart r s
   unfolding part_at
-  same-part r s e = record { events = ap (λ (p : Part). p.events) e; put = λ b. ap (λ (p : Part). p.put b) e; handed = λ a. ap (λ (p : Part). p.handed a) e }
+  same-part r s e = record { events = ap (λ (p : Part). p.events) e; put = λ b. ap (λ (p : Part). p.put b) e; handed = λ a. ap (λ (p : Part). p.handed a) e; owed = λ a. ap (λ (p : Part). p.owed a) e }
 
   module _ (r s : Run) (same : SamePart r s) where
     -- what the task's own events answer
@@ -165,6 +167,13 @@ module _ (script : Script) (rules : Rules) (t : ℕ) where
       one n (Some pair) at = ap (λ (bs : List ℕ). data_packet script pair.0 n pair.1 bs ∷ []) (bytes pair.0 (out-copied script K t b n pair at).1)
 
   module _ (r s : Run) (same : SamePart r s) (sr : SoundRun script rules r) (xr : ExactRun script rules r) (ss : SoundRun script rules s) (xs : ExactRun script rules s) where
+    -- what the task owes is told by what was handed to it
+    owed-same : (a : ℕ) → owed_ack script rules r a t ≡ owed_ack script rules s a t
+    unfolding owed_ack
+    owed-same a =
+        let told = ack-local script rules r a t (sr.hands a t) ∙ ap (λ ps. ack_of script ps a t) (same.handed a) ∙ sym (ack-local script rules s a t (ss.hands a t)) in
+        ap (λ o. cond o (ack script rules r a t ∷ []) []) (same.owed a) ∙ ap (λ k. cond (s.owed a t) (k ∷ []) []) told
+
     -- the records after a Poll have the same events and the same packets handed over at the task
     polled-same : (b : ℕ) → polled script rules r t b ≡ polled script rules s t b
     unfolding poll
@@ -172,21 +181,21 @@ module _ (script : Script) (rules : Rules) (t : ℕ) where
         let J = copied script rules r t in
         let K = copied script rules s t in
         let events = copied-same r s same in
-        let u : Run = record { replies = []; wire = λ x y. []; handed = r.handed; journal = J } in
-        let v : Run = record { replies = []; wire = λ x y. []; handed = s.handed; journal = K } in
-        let alike : SamePart u v = record { events = events; put = λ c. refl; handed = same.handed } in
+        let u : Run = record { replies = []; wire = λ x y. []; handed = r.handed; owed = λ x y. false; journal = J } in
+        let v : Run = record { replies = []; wire = λ x y. []; handed = s.handed; owed = λ x y. false; journal = K } in
+        let alike : SamePart u v = record { events = events; put = λ c. refl; handed = same.handed; owed = λ a. refl } in
         let pr = poll-sound script rules r t sr in
         let ps = poll-sound script rules s t ss in
         let pairs = sym (out-local script t J b) ∙ ap (λ L. out script L t b) events ∙ out-local script t K b in
         let bytes = bytes-same u v alike (bare u.handed J pr) (plain u.handed J (poll-exact script rules r t sr pr xr)) (bare v.handed K ps) (plain v.handed K (poll-exact script rules s t ss ps xs)) in
-        packets-same J K b (fresh script rules r J t b) pairs bytes
-        ∙ ap (packets script rules K t b) (fresh-same r s same J K b pairs)
+        ap (λ ps. ps ++ owed_ack script rules r b t) (packets-same J K b (fresh script rules r J t b) pairs bytes ∙ ap (packets script rules K t b) (fresh-same r s same J K b pairs))
+        ∙ ap (λ ps. packets script rules K t b (fresh script rules s K t b) ++ ps) (owed-same b)
       where
         -- a run without its wires is sound and exact as well
         bare : (handed : ℕ → ℕ → List Packet) (L : List Event) {wire : ℕ → ℕ → List Packet} → Sound script rules L wire handed → Sound script rules L (λ x y. []) handed
         bare handed L {wire = wire} h = add_entries script rules L wire (λ x y. []) handed (λ x y. tt) h
 
-        plain : (handed : ℕ → ℕ → List Packet) (L : List Event) {q : Run} → ExactRun script rules q → ExactRun script rules (record { replies = []; wire = λ x y. []; handed = q.handed; journal = q.journal })
+        plain : (handed : ℕ → ℕ → List Packet) (L : List Event) {q : Run} → ExactRun script rules q → ExactRun script rules (record { replies = []; wire = λ x y. []; handed = q.handed; owed = λ x y. false; journal = q.journal })
         plain handed L x = record { wires = λ x y. tt; hands = x.hands }
 
     pub links-same : SameLinks script rules t r s

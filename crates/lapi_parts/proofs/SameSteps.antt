@@ -1,5 +1,5 @@
 -- Two records with the same part at a task go on alike there.
-use Rattle.std.proofs.Common.{◌≡◌, ℕ, ◌==◌, true, false, cond, ◌&&◌, List, [], ◌∷◌, ◌++◌, length, Option, Some, None, refl, sym, ap, ◌∙◌, subst}
+use Rattle.std.proofs.Common.{◌≡◌, ℕ, ◌==◌, true, false, cond, ◌&&◌, ◌||◌, not, List, [], ◌∷◌, ◌++◌, length, Option, Some, None, refl, sym, ap, ◌∙◌, subst}
 use Rattle.std.specs.Prelude.{slice_get, nat_lt, nat_le}
 use Rattle.lapi_base.specs.declared.script.Script.{Script}
 use Rattle.lapi_base.specs.declared.rule.Rules.{Rules}
@@ -16,13 +16,14 @@ use Rattle.lapi_base.specs.declared.reply.Reply.TheVariants.{Did, Blocked, Absen
 use Rattle.lapi_base.specs.declared.packet.Packet.{Packet}
 use Rattle.lapi_base.specs.declared.packet.Packet.TheVariants.{Data, Ack}
 use Rattle.lapi_base.specs.declared.packet.DataPacket.{DataPacket}
+use Rattle.lapi_base.specs.Layout.{holds_back}
 use Rattle.lapi_base.specs.Spelling.{refusal}
 use Rattle.lapi_base.specs.Written.{packet_size}
 use Rattle.lapi_base.specs.Names.{Entered, done}
 use Rattle.lapi_base.specs.Operations.{statements, statement}
 use Rattle.lapi_base.specs.Refusals.{next, joined, why}
 use Rattle.lapi_base.specs.Jobs.{queue, runs}
-use Rattle.lapi_base.specs.Record.{Run, followed, has_number, is_delivered, data_clear, arrival, ack, with_handed, with_events, hand_over, deliver_entry, deliver, reply_with, event_if, proposed, unless_refused, add_event, step, poll, tick, begin_first, begin_at, begin, end_at, end, note_of, cut_entry, perform}
+use Rattle.lapi_base.specs.Record.{Run, followed, has_number, is_delivered, data_clear, arrival, ack, at_once, with_handed, with_events, hand_over, deliver_entry, deliver, reply_with, event_if, proposed, unless_refused, add_event, step, poll, tick, begin_first, begin_at, begin, end_at, end, after_end, cut_entry, perform}
 use Rattle.lapi_base.specs.Seen.{IsRecord, performed}
 use Rattle.lapi_base.specs.TaskPart.{is_at, events_at, part_at, actor}
 use Rattle.lapi_base.specs.Arrived.{ack_of, comes}
@@ -41,7 +42,7 @@ module _ (script : Script) (rules : Rules) (t : ℕ) (r s : Run) where
   module _ (same : SamePart script rules t r s) where
     -- the same reply alone
     only-reply : (reply : Reply) → Alike (reply_with script rules r reply) (reply_with script rules s reply)
-    only-reply reply = record { reply = reply; first = refl; second = refl; part = record { events = same.events; put = same.put; handed = same.handed } }
+    only-reply reply = record { reply = reply; first = refl; second = refl; part = record { events = same.events; put = same.put; handed = same.handed; owed = same.owed } }
 
     -- the same events
     events-more : (es J K : List Event) → events_at script t J ≡ events_at script t K → events_at script t (followed J es) ≡ events_at script t (followed K es)
@@ -50,7 +51,7 @@ module _ (script : Script) (rules : Rules) (t : ℕ) (r s : Run) where
     events-more (e ∷ es) J K h = events-more es (e ∷ J) (e ∷ K) (ap (λ L. cond (is_at script t e) (e ∷ L) L) h)
 
     with-alike : (es : List Event) (reply : Reply) → Alike (reply_with script rules (with_events script rules r es) reply) (reply_with script rules (with_events script rules s es) reply)
-    with-alike es reply = record { reply = reply; first = refl; second = refl; part = record { events = events-more es r.journal s.journal same.events; put = same.put; handed = same.handed } }
+    with-alike es reply = record { reply = reply; first = refl; second = refl; part = record { events = events-more es r.journal s.journal same.events; put = same.put; handed = same.handed; owed = same.owed } }
 
     -- Step.
     proposed-same : SameStatements script rules t r s → (i : ℕ) (st : Statement) → proposed script rules r t i st ≡ proposed script rules s t i st
@@ -98,7 +99,7 @@ module _ (script : Script) (rules : Rules) (t : ℕ) (r s : Run) where
       reply = Did;
       first = refl;
       second = refl;
-      part = record { events = h.copied; put = λ b. put-alike b (polled script rules r t b) (polled script rules s t b) (h.polled b); handed = same.handed };
+      part = record { events = h.copied; put = λ b. put-alike b (polled script rules r t b) (polled script rules s t b) (h.polled b); handed = same.handed; owed = λ a. ap (λ o. not (t == t) && o) (same.owed a) };
     }
 
     tick-alike : SameLinks script rules t r s → Alike (tick script rules r t) (tick script rules s t)
@@ -107,7 +108,7 @@ module _ (script : Script) (rules : Rules) (t : ℕ) (r s : Run) where
       reply = Did;
       first = refl;
       second = refl;
-      part = record { events = same.events; put = λ b. put-alike b (ticked script rules r t b) (ticked script rules s t b) (h.ticked b); handed = same.handed };
+      part = record { events = same.events; put = λ b. put-alike b (ticked script rules r t b) (ticked script rules s t b) (h.ticked b); handed = same.handed; owed = same.owed };
     }
 
     -- Begin and End.
@@ -136,7 +137,7 @@ module _ (script : Script) (rules : Rules) (t : ℕ) (r s : Run) where
 
     ended : (w : ℕ) (o : Option MsgName) → Alike (end_at script rules r t w o) (end_at script rules s t w o)
     ended w None = only-reply Idle
-    ended w (Some m) = with-alike (Event.End m t w ∷ note_of script rules m) Did
+    ended w (Some m) = with-alike (Event.End m t w ∷ after_end script rules m) Did
 
     end-alike : SameJobs script rules t r s → (w : ℕ) → Alike (end script rules r t w) (end script rules s t w)
     unfolding end
@@ -164,14 +165,15 @@ module _ (script : Script) (rules : Rules) (t : ℕ) (r s : Run) where
           part = record {
             events = ap (λ es. events_at script t (followed r.journal es)) alike ∙ events-more (events s) r.journal s.journal same.events;
             put = λ y.
-                ap (λ (ps : List Packet). cond (t == t && y == a) (ps ++ new r ∷ []) ps) (same.put y) ∙ ap (λ (k : Packet). cond (t == t && y == a) (s.wire t y ++ k ∷ []) (s.wire t y)) told.ack;
+                ap (λ (ps : List Packet). cond (t == t && y == a) (ps ++ at_once script rules (new r)) ps) (same.put y) ∙ ap (λ (k : Packet). cond (t == t && y == a) (s.wire t y ++ at_once script rules k) (s.wire t y)) told.ack;
             handed = handed-alike a (Data p);
+            owed = λ x. ap (λ o. (holds_back script && (x == a && t == t)) || o) (same.owed x);
           };
         }
 
     ack-alike : (a from to base bits : ℕ) → Alike (reply_with script rules (hand_over script rules r a t (Ack from to base bits)) Did) (reply_with script rules (hand_over script rules s a t (Ack from to base bits)) Did)
     unfolding hand_over
-    ack-alike a from to base bits = record { reply = Did; first = refl; second = refl; part = record { events = same.events; put = same.put; handed = handed-alike a (Ack from to base bits) } }
+    ack-alike a from to base bits = record { reply = Did; first = refl; second = refl; part = record { events = same.events; put = same.put; handed = handed-alike a (Ack from to base bits); owed = same.owed } }
 
     entry-alike : (a : ℕ) (o : Option Packet) → ((p : DataPacket) → o ≡ Some (Data p) → ToldAlike a p) → Alike (deliver_entry script rules r a t o) (deliver_entry script rules s a t o)
     entry-alike a None told = only-reply Absent
@@ -207,7 +209,7 @@ module _ (script : Script) (rules : Rules) (t : ℕ) (r s : Run) where
 
 part-of : (script : Script) (rules : Rules) (t : ℕ) (q p : Run) → SamePart script rules t q p → part_at script t q ≡ part_at script t p
 unfolding part_at
-part-of script rules t q p h = λ i. record { events = h.events i; put = λ b. h.put b i; handed = λ a. h.handed a i }
+part-of script rules t q p h = λ i. record { events = h.events i; put = λ b. h.put b i; handed = λ a. h.handed a i; owed = λ a. h.owed a i }
 
 pub acts-alike : IsToldByPart ActsAlike
 unfolding performed

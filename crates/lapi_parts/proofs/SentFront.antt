@@ -1,5 +1,5 @@
 -- The numbers of a link go out in order: those that were sent are all below some bound.
-use Rattle.std.proofs.Common.{◌≡◌, ℕ, zero, suc, ◌+◌, ◌-◌, min, map, ◌<◌, ◌≤◌, ◌==◌, Bool, true, false, ◌&&◌, ◌||◌, not, List, [], ◌∷◌, ◌++◌, length, Option, Some, None, refl, sym, ap, ◌∙◌, subst, ⊎_elim, arith, inl, inr}
+use Rattle.std.proofs.Common.{◌≡◌, ℕ, zero, suc, ◌+◌, ◌-◌, min, map, ◌<◌, ◌≤◌, ◌==◌, Bool, true, false, cond, ◌&&◌, ◌||◌, not, List, [], ◌∷◌, ◌++◌, length, Option, Some, None, refl, sym, ap, ◌∙◌, subst, ⊎_elim, arith, inl, inr}
 use Rattle.std.specs.Prelude.{slice_get, nat_lt}
 use Rattle.std.specs.List.{AllByRecursion, list_any, flat_map}
 use Rattle.std.proofs.lemmas.Bool.{false≢true, and_parts, and_from, cond_both, eqb-true, eq-eqb, or_cases, or_left, or_right, lt-ltb, ltb-true, cases_lt, cases_Bool, cond-true, cond-false, le-ltb, ltb-false, both_ways, false_from_ne_true}
@@ -22,11 +22,12 @@ use Rattle.lapi_base.specs.Operations.{upto, statements}
 use Rattle.lapi_base.specs.Refusals.{next, why}
 use Rattle.lapi_base.specs.Jobs.{queue, runs}
 use Rattle.lapi_base.specs.Packets.{data_packet}
-use Rattle.lapi_base.specs.Record.{Run, start, out, is_number, has_number, is_sent, is_acked, base, packet_of, packets, ready, fresh, stale, copy_each, ack, with_handed, hand_over, deliver_entry, deliver, reply_with, unless_refused, add_event, step, poll, tick, begin_first, begin_at, begin, end_at, end, cut_entry, perform, after, run_of}
+use Rattle.lapi_base.specs.Record.{Run, start, out, is_number, has_number, is_sent, is_acked, base, packet_of, packets, ready, fresh, stale, copy_each, ack, sends, at_once, with_handed, hand_over, deliver_entry, deliver, reply_with, unless_refused, add_event, step, poll, tick, begin_first, begin_at, begin, end_at, end, cut_entry, perform, after, run_of}
 use Rattle.lapi_base.specs.Seen.{HoldsOfRecords}
 use Rattle.lapi_base.specs.Sending.{SentAreFront, SentHaveBound, PollsSendNext}
 use Rattle.lapi_laws.proofs.NumberLaws.{any-all, below-all, least_missing-below, least_missing-not}
 use Rattle.lapi_laws.proofs.Lines.{all-flat_map}
+use Rattle.lapi_laws.proofs.SentWindow.{sends-number, ack-entry}
 use Rattle.lapi_parts.proofs.Records.{of-runs}
 use Rattle.lapi_parts.proofs.Receivable.{sent-numbers}
 
@@ -146,23 +147,25 @@ module _ (script : Script) (rules : Rules) where
       front n k (and_parts (is_sent r a b n) (not (is_acked r a b n)) room.1).0 l)
       (or_cases (has_number old n) (has_number new n) (sym (number-append old new n) ∙ h)))
 
-  -- with an acknowledgement
-  ack-front : (r : Run) (x y a b : ℕ) → IsFront (r.wire x y) → IsFront (r.wire x y ++ ack script rules r a b ∷ [])
-  unfolding ack has_number
-  ack-front r x y a b front n k h l =
-      list_any-append (is_number k) (r.wire x y) (ack script rules r a b ∷ [])
-      ∙ or_left (has_number (r.wire x y) k) false
-      (⊎_elim
-      (λ (sent : has_number (r.wire x y) n ≡ true). front n k sent l)
-      (λ (none : false ≡ true). absurd (false≢true none))
-      (or_cases (has_number (r.wire x y) n) false (sym (list_any-append (is_number n) (r.wire x y) (ack script rules r a b ∷ [])) ∙ h)))
+  -- with packets that add no number
+  same-front : (old new : List Packet) → ((n : ℕ) → has_number new n ≡ has_number old n) → IsFront old → IsFront new
+  same-front old new same front n k h l = same k ∙ front n k (sym (same n) ∙ h) l
+
+  -- as what is owed is none
+  sends-front : (r : Run) (J : List Event) (a b : ℕ) → IsFront (r.wire a b) → IsFront (r.wire a b ++ sends script rules r J a b)
+  sends-front r J a b front =
+      let old = r.wire a b in
+      let new = packets script rules J a b (fresh script rules r J a b) in
+      same-front (old ++ new) (old ++ sends script rules r J a b)
+      (λ n. number-append old (sends script rules r J a b) n ∙ ap (λ x. has_number old n || x) (sends-number script rules r J a b n) ∙ sym (number-append old new n))
+      (poll-front r J a b front)
 
   hand_over-front : (r : Run) (a b : ℕ) (p : Packet) → FrontRun r → FrontRun (hand_over script rules r a b p)
   unfolding hand_over
   hand_over-front r a b (Ack from to least bits) h x y = h x y
   hand_over-front r a b (Data p) h x y =
       let q = with_handed script rules r a b (Data p) in
-      cond_both (x == b && y == a) (r.wire x y ++ ack script rules q a b ∷ []) (r.wire x y) IsFront (λ _. ack-front q x y a b (h x y)) (λ _. h x y)
+      same-front (r.wire x y) (cond (x == b && y == a) (r.wire x y ++ at_once script rules (ack script rules q a b)) (r.wire x y)) (ack-entry script rules r.wire q a b x y) (h x y)
 
   module _ (size : Packet → ℕ) (refusal : List ℕ → Bad) where
     perform-front : (r : Run) (act : Act) → FrontRun r → FrontRun (perform script rules size refusal r act)
@@ -174,7 +177,7 @@ module _ (script : Script) (rules : Rules) where
         (λ _. h)
     perform-front r (Poll t) h = λ a b.
         let J = copy_each r.journal (ready script r.journal t) in
-        cond_both (a == t) (r.wire a b ++ packets script rules J a b (fresh script rules r J a b)) (r.wire a b) IsFront (λ _. poll-front r J a b (h a b)) (λ _. h a b)
+        cond_both (a == t) (r.wire a b ++ sends script rules r J a b) (r.wire a b) IsFront (λ _. sends-front r J a b (h a b)) (λ _. h a b)
     perform-front r (Tick t) h = λ a b. cond_both (a == t) (r.wire a b ++ packets script rules r.journal a b (stale script rules r a b)) (r.wire a b) IsFront (λ _. tick-front r a b (h a b)) (λ _. h a b)
     perform-front r (Deliver a b k) h = elim (slice_get (r.wire a b) k) as (λ o. FrontRun (deliver_entry script rules r a b o)) [ None ↦ h | Some p ↦ hand_over-front r a b p h ]
     perform-front r (Cut a b k n) h = elim (slice_get (r.wire a b) k) as (λ o. FrontRun (cut_entry script rules size r n o)) [ Some p ↦ h | None ↦ h ]

@@ -10,17 +10,19 @@ use Rattle.lapi_base.specs.declared.statement.Statement.{Statement}
 use Rattle.lapi_base.specs.declared.statement.Statement.TheVariants.{Store}
 use Rattle.lapi_base.specs.declared.rule.Rules.{Rules}
 use Rattle.lapi_base.specs.declared.rule.CompletionRule.{CompletionRule}
-use Rattle.lapi_base.specs.declared.rule.CompletionRule.TheVariants.{Nothing, Sum, Same, Reversed}
+use Rattle.lapi_base.specs.declared.rule.CompletionRule.TheVariants.{Nothing, Sum, Same, Reversed, Answer}
+use Rattle.lapi_base.specs.declared.handler.Effect.TheVariants as effects
 use Rattle.lapi_base.specs.declared.message.Leg.{Leg}
-use Rattle.lapi_base.specs.declared.message.Leg.TheVariants.{Go, Back, Note, Join}
+use Rattle.lapi_base.specs.declared.message.Leg.TheVariants.{Go, Back, Note, Echo, Join}
 use Rattle.lapi_base.specs.declared.message.MsgName.{MsgName}
 use Rattle.lapi_base.specs.declared.event.Event.{Event}
 use Rattle.lapi_base.specs.declared.event.Event.TheVariants.{Issue, Refuse, Enter, Pass, Copy, Head, Land, Begin, End}
 use Rattle.lapi_base.specs.Names.{message, name_eq}
 use Rattle.lapi_base.specs.Operations.{upto, statement, statements, target, is_am, is_rmw, has_back}
-use Rattle.lapi_base.specs.Handlers.{number_of, word_bytes, buffer, effect, effect_of}
+use Rattle.lapi_base.specs.Handlers.{number_of, word_bytes, buffer, effect, effect_of, answer_of, answer_pieces, sent_back, completion_answer, rule_named, user}
 use Rattle.lapi_base.specs.Values.{Memories, Write, Values, gathered, scattered, byte_after, new_word, at_target, at_origin, land_writes, store_writes, writes, writer, with_bytes, land_bytes, source_by, values}
 use Rattle.lapi_base.specs.Valid.{IsByte, ValidStatement, ValidScript}
+use Rattle.lapi_base.specs.declared.handler.Effect.{Effect}
 use Rattle.lapi_laws.proofs.NumberLaws.{all-append, all-weaker, all-filter}
 use Rattle.lapi_laws.proofs.Lines.{all-flat_map, all-map, all-any}
 
@@ -74,6 +76,7 @@ effect-small Nothing at bytes h = tt
 effect-small Sum at bytes h = (word-small _, tt)
 effect-small Same at bytes h = (h, tt)
 effect-small Reversed at bytes h = (all-reverse IsByte bytes h, tt)
+effect-small Answer at bytes h = tt
 
 all-index : {X : Type 0} (P : X → Type 0) (xs : List X) (k : ℕ) (other : X) → AllByRecursion P xs → P other → P (slice_index_or xs k other)
 all-index P [] k other h o = o
@@ -97,6 +100,14 @@ module _ (script : Script) (rules : Rules) where
   store-small (Store at bytes) h = (h.3, tt)
   store-small _ h = tt
 
+  sent-small : (effect : Effect) → AllBytes (sent_back effect)
+  sent-small (effects.Answer at value) = word-small value
+  sent-small _ = tt
+
+  answer-small : (m : MsgName) (bytes : List ℕ) → AllBytes (answer_of script rules m bytes)
+  unfolding answer_of
+  answer-small m bytes = sent-small (completion_answer (rule_named script rules m) (user script m) bytes)
+
   land-small : (v : Values) (m : MsgName) (leg : Leg) (s : Statement) → AreSmall v → AllByRecursion IsSmall (land_writes script rules v m leg s)
   land-small v m Go s h =
       let at = at_target script rules m.origin m.statement in
@@ -108,6 +119,7 @@ module _ (script : Script) (rules : Rules) where
       (λ _. cond_both (has_back s) [] (scattered at (v.bytes m)) (AllByRecursion IsSmall) (λ _. tt) (λ _. scattered-small at (v.bytes m) (h.bytes m))))
   land-small v m Back s h = scattered-small (at_origin script rules m.origin m.statement) (v.bytes m) (h.bytes m)
   land-small v m Note s h = tt
+  land-small v m Echo s h = scattered-small (answer_pieces script m) (v.bytes m) (h.bytes m)
   land-small v m (Join d) s h = tt
 
   drop-test : (ws : List Write) → AllByRecursion IsSmall ws → AllByRecursion IsSmall (filter (λ (w : Write). nat_le (w.0 + length w.1) script.memory) ws)
@@ -131,6 +143,7 @@ module _ (script : Script) (rules : Rules) where
       let d = target script m.origin m.statement in
       cond_both (is_rmw s) (v.bytes m) (gathered v.memory d (at_target script rules m.origin m.statement)) AllBytes (λ _. h.bytes m) (λ _. gathered-small v.memory d (at_target script rules m.origin m.statement) (h.memory d))
   source-small v m Note s h = tt
+  source-small v m Echo s h = answer-small (message m.origin m.statement Go) (v.held (message m.origin m.statement Go))
   source-small v m (Join d) s h = tt
 
   with-small : (v : Values) (m : MsgName) (bytes : List ℕ) (n : MsgName) → AllBytes bytes → AreSmall v → AllBytes (with_bytes script rules v m bytes n)
@@ -143,6 +156,7 @@ module _ (script : Script) (rules : Rules) where
       cond_both (is_rmw s) (with_bytes script rules v (message m.origin m.statement Back) word) v.bytes (λ f. AllBytes (f n)) (λ _. with-small v (message m.origin m.statement Back) word n (gathered-small v.memory d (at_target script rules m.origin m.statement) (h.memory d)) h) (λ _. h.bytes n)
   land_bytes-small v m Back s n h = h.bytes n
   land_bytes-small v m Note s n h = h.bytes n
+  land_bytes-small v m Echo s n h = h.bytes n
   land_bytes-small v m (Join d) s n h = h.bytes n
 
   memory-small : ValidScript script → (v : Values) (e : Event) → AreSmall v → (t x : ℕ) → cond (t == writer script rules e) (byte_after (writes script rules v e) x (v.memory t x)) (v.memory t x) < 256

@@ -8,7 +8,7 @@ use Rattle.lapi_base.specs.declared.script.Script.{Script}
 use Rattle.lapi_base.specs.declared.rule.Rules.{Rules}
 use Rattle.lapi_base.specs.declared.statement.Statement.{Statement}
 use Rattle.lapi_base.specs.declared.message.Leg.{Leg}
-use Rattle.lapi_base.specs.declared.message.Leg.TheVariants.{Go, Back, Note, Join}
+use Rattle.lapi_base.specs.declared.message.Leg.TheVariants.{Go, Back, Note, Echo, Join}
 use Rattle.lapi_base.specs.declared.message.MsgName.{MsgName}
 use Rattle.lapi_base.specs.declared.head.Head.{Head}
 use Rattle.lapi_base.specs.declared.packet.Packet.{Packet}
@@ -18,7 +18,8 @@ use Rattle.lapi_base.specs.declared.head.Head.TheVariants as heads
 use Rattle.lapi_base.specs.declared.head.NoteOp.TheVariants as notes
 use Rattle.lapi_base.specs.declared.event.Event.{Event}
 use Rattle.lapi_base.specs.Form.{Done, ◌>>=◌, bytes_form, IsSpelled}
-use Rattle.lapi_base.specs.Layout.{First, unit_of}
+use Rattle.lapi_base.specs.Fragments.{fragments_in}
+use Rattle.lapi_base.specs.Layout.{First, layout_of, unit, longest, window, unit_of, longest_of, window_of}
 use Rattle.lapi_base.specs.Heads.{is_operation, operation_form, head_form}
 use Rattle.lapi_base.specs.Spelling.{task_form, kind_form, front_form, acknowledgement_form, is_leg, leg_of, leg_form, name_form, is_length, length_form, fragments, fragment_form, fragment_size, data_form, packet_form, Spells}
 use Rattle.lapi_base.specs.Written as written
@@ -31,6 +32,7 @@ use Rattle.lapi_base.specs.Atomic.{Atomic}
 use Rattle.lapi_base.specs.Valid.{IsByte, ValidScript, ValidRules, ValidStatement}
 use Rattle.lapi_base.specs.Seen.{HoldsOfRecords}
 use Rattle.lapi_base.specs.Entries.{GoesFrom, carried, IsOfNumber, PacketsArePlaced, PacketsAreSpelled, PacketsAreWritten}
+use Rattle.lapi_base.specs.Handlers.{answers}
 use Rattle.lapi_laws.proofs.Deeds.{eqb-refl}
 use Rattle.lapi_laws.proofs.Out.{all-get, out-copied}
 use Rattle.lapi_laws.proofs.Backward.{there}
@@ -42,7 +44,7 @@ use Rattle.lapi_parts.proofs.CarriedLengths.{carried-length}
 use Rattle.lapi_parts.proofs.SmallBytes.{AllBytes, all-take, all-drop, statement-valid, values-small}
 use Rattle.lapi_parts.proofs.Accepted.{Accepted, copied-accepted}
 use Rattle.lapi_parts.proofs.SpelledParts.{spelled-bind, spelled-last, bytes-spelled}
-use Rattle.lapi_parts.proofs.MessageHeads.{round-small, head-spelled, operation-kept, length-kept}
+use Rattle.lapi_parts.proofs.MessageHeads.{round-small, head-spelled, operation-kept, length-kept, no-answers}
 use Rattle.lapi_parts.proofs.Acknowledgements.{IsTold, record-told}
 use Rattle.lapi_parts.proofs.HandedPackets.{out-below}
 
@@ -194,12 +196,14 @@ leg-small : (leg : Leg) → written.leg_number leg < 256
 leg-small Go = omega arith
 leg-small Back = omega arith
 leg-small Note = omega arith
+leg-small Echo = omega arith
 leg-small (Join d) = omega arith
 
-leg-kept : (script : Script) (a d : ℕ) (leg : Leg) (s : Statement) → has_leg script a leg s ≡ true → is_leg (from_by a d leg) (to_by a d leg) a (written.leg_number leg) ≡ true
+leg-kept : (script : Script) (a d : ℕ) (leg : Leg) (s : Statement) → has_leg script false a leg s ≡ true → is_leg (from_by a d leg) (to_by a d leg) a (written.leg_number leg) ≡ true
 leg-kept script a d Go s h = eqb-refl a
 leg-kept script a d Back s h = eqb-refl a
 leg-kept script a d Note s h = eqb-refl a
+leg-kept script a d Echo s h = absurd (false≢true h)
 leg-kept script a d (Join e) s h =
     let apart = (and_parts (nat_lt e script.tasks) (not (e == a)) (and_parts (has_join s) (nat_lt e script.tasks && not (e == a)) h).1).1 in
     and_from (a == a) (not (a == e)) (eqb-refl a) (ap not (ne_eqb a e (λ same. eqb-false e a (not-true (e == a) apart) (sym same))))
@@ -212,12 +216,14 @@ leg-read : (a d : ℕ) (leg : Leg) → leg_of (to_by a d leg) (written.leg_numbe
 leg-read a d Go = refl
 leg-read a d Back = refl
 leg-read a d Note = refl
+leg-read a d Echo = refl
 leg-read a d (Join e) = refl
 
 origin-kept : (a d : ℕ) (leg : Leg) → (a == from_by a d leg || a == to_by a d leg) ≡ true
 origin-kept a d Go = or_left (a == a) (a == d) (eqb-refl a)
 origin-kept a d Back = or_right (a == d) (a == a) (eqb-refl a)
 origin-kept a d Note = or_right (a == d) (a == a) (eqb-refl a)
+origin-kept a d Echo = or_right (a == d) (a == a) (eqb-refl a)
 origin-kept a d (Join e) = or_left (a == a) (a == e) (eqb-refl a)
 
 operation-small : (h : Head) → written.head_number h < 256
@@ -230,6 +236,7 @@ operation-small (heads.GetvBack org dest) = omega arith
 operation-small (heads.RmwGo op at in1 in2 prev org) = omega arith
 operation-small (heads.RmwBack dest org) = omega arith
 operation-small (heads.Am handler tgt cmpl header) = omega arith
+operation-small (heads.Echo dest cmpl) = omega arith
 operation-small (heads.Note notes.Put cmpl) = omega arith
 operation-small (heads.Note notes.Putv cmpl) = omega arith
 operation-small (heads.Note notes.Am cmpl) = omega arith
@@ -237,35 +244,48 @@ operation-small (heads.Gfence round) = omega arith
 operation-small (heads.Addr round at) = omega arith
 
 -- the count of a message's fragments, told twice
-counts-same : (script : Script) (m : MsgName) → fragment_count script m ≡ fragments First (message_length script m)
-unfolding fragment_count unit_of
-counts-same script m = let n = message_length script m in let e : max 1 ((n + 255) / 256) ≡ max (n / 256 + min 1 (n % 256)) 1 = omega arith in e
+first-unit : (script : Script) → ValidScript script → unit_of script ≡ 256
+unfolding unit_of
+first-unit script valid = ap (λ n. unit (layout_of n)) valid.layout
 
-ends-small : (script : Script) (a d : ℕ) (leg : Leg) (s : Statement) → a < script.tasks → d < script.tasks → has_leg script a leg s ≡ true → (from_by a d leg < script.tasks) × (to_by a d leg < script.tasks)
-ends-small script a d Go s la ld h = (la, ld)
-ends-small script a d Back s la ld h = (ld, la)
-ends-small script a d Note s la ld h = (ld, la)
-ends-small script a d (Join e) s la ld h = (la, ltb-true e script.tasks (and_parts (nat_lt e script.tasks) (not (e == a)) (and_parts (has_join s) (nat_lt e script.tasks && not (e == a)) h).1).0)
+pub first-longest : (script : Script) → ValidScript script → longest_of script ≡ 16384
+unfolding longest_of
+first-longest script valid = ap (λ n. longest (layout_of n)) valid.layout
+
+first-window : (script : Script) → ValidScript script → window_of script ≡ 32
+unfolding window_of
+first-window script valid = ap (λ n. window (layout_of n)) valid.layout
+
+counts-same : (script : Script) → ValidScript script → (m : MsgName) → fragment_count script m ≡ fragments First (message_length script m)
+unfolding fragment_count
+counts-same script valid m = let n = message_length script m in let e : max 1 ((n + 255) / 256) ≡ max (n / 256 + min 1 (n % 256)) 1 = omega arith in ap (λ u. fragments_in u n) (first-unit script valid) ∙ e
+
+ends-small : (script : Script) (answers : Bool) (a d : ℕ) (leg : Leg) (s : Statement) → a < script.tasks → d < script.tasks → has_leg script answers a leg s ≡ true → (from_by a d leg < script.tasks) × (to_by a d leg < script.tasks)
+ends-small script ans a d Go s la ld h = (la, ld)
+ends-small script ans a d Back s la ld h = (ld, la)
+ends-small script ans a d Note s la ld h = (ld, la)
+ends-small script ans a d Echo s la ld h = (ld, la)
+ends-small script ans a d (Join e) s la ld h = (la, ltb-true e script.tasks (and_parts (nat_lt e script.tasks) (not (e == a)) (and_parts (has_join s) (nat_lt e script.tasks && not (e == a)) h).1).0)
 
 module _ (script : Script) (rules : Rules) (valid : ValidScript script) (few : ValidRules rules) where
   -- each message that was copied goes between tasks that there are
   pub copied-ends : (J : List Event) (m : MsgName) → Atomic script rules J → done (Copied m) J ≡ true → (sender script m < script.tasks) × (receiver script m < script.tasks)
   copied-ends J m h d =
       let is = and_parts _ _ (there script rules (Copied m) J h d) in
-      ends-small script m.origin (target script m.origin m.statement) m.leg (statement script m.origin m.statement) (ltb-true m.origin script.tasks (and_parts (nat_lt m.origin script.tasks) (nat_lt m.statement (length (statements script m.origin))) is.0).0) (copied-accepted script rules J m h d).target is.1
+      ends-small script (answers script rules m.origin m.statement) m.origin (target script m.origin m.statement) m.leg (statement script m.origin m.statement) (ltb-true m.origin script.tasks (and_parts (nat_lt m.origin script.tasks) (nat_lt m.statement (length (statements script m.origin))) is.0).0) (copied-accepted script rules J m h d).target is.1
 
   -- its length and its head keep their rules
-  size-kept : (m : MsgName) → has_leg script m.origin m.leg (statement script m.origin m.statement) ≡ true → Accepted script rules (target script m.origin m.statement) (statement script m.origin m.statement) → is_length First m.leg (written.head_number (head_by script m m.leg (statement script m.origin m.statement))) (message_length script m) ≡ true
+  size-kept : (m : MsgName) → has_leg script (answers script rules m.origin m.statement) m.origin m.leg (statement script m.origin m.statement) ≡ true → Accepted script rules (target script m.origin m.statement) (statement script m.origin m.statement) → is_length First m.leg (written.head_number (head_by script m m.leg (statement script m.origin m.statement))) (message_length script m) ≡ true
   unfolding message_length
   size-kept m g f = length-kept script rules valid few m m.leg (statement script m.origin m.statement) g f
 
-  head-kept : (m : MsgName) → has_leg script m.origin m.leg (statement script m.origin m.statement) ≡ true → Accepted script rules (target script m.origin m.statement) (statement script m.origin m.statement) → ValidStatement (statement script m.origin m.statement) → round_of script m.origin m.statement ≤ 511 → IsSpelled (head_form First m.leg (written.head_number (head_by script m m.leg (statement script m.origin m.statement))) (message_length script m)) (head_by script m m.leg (statement script m.origin m.statement)) (written.head (head_by script m m.leg (statement script m.origin m.statement)))
+  head-kept : (m : MsgName) → has_leg script (answers script rules m.origin m.statement) m.origin m.leg (statement script m.origin m.statement) ≡ true → Accepted script rules (target script m.origin m.statement) (statement script m.origin m.statement) → ValidStatement (statement script m.origin m.statement) → round_of script m.origin m.statement ≤ 511 → IsSpelled (head_form First m.leg (written.head_number (head_by script m m.leg (statement script m.origin m.statement))) (message_length script m)) (head_by script m m.leg (statement script m.origin m.statement)) (written.head (head_by script m m.leg (statement script m.origin m.statement)))
   unfolding message_length
   head-kept m g f v r = head-spelled script rules valid few m m.leg (statement script m.origin m.statement) g f v r
 
   -- and its packets have spellings
   pub message-spelled : (J : List Event) (m : MsgName) (n j : ℕ) → Atomic script rules J → done (Copied m) J ≡ true → n < 2 ^ 32 → j < fragment_count script m → Spells (data_packet script m n j (carried script rules J m)) (written.packet (data_packet script m n j (carried script rules J m)))
-  unfolding data_packet unit_of
+  unfolding data_packet
   message-spelled J m n j h c ln lj =
       let a = m.origin in
       let i = m.statement in
@@ -285,19 +305,20 @@ module _ (script : Script) (rules : Rules) (valid : ValidScript script) (few : V
       let own : a < script.tasks = ltb-true a script.tasks place.0 in
       let at : i < length (statements script a) = ltb-true i (length (statements script a)) place.1 in
       let most = statements-few script rules valid a in
-      let short : size ≤ 16384 = copied-short script rules J m h c in
+      let short : size ≤ 16384 = subst (λ l. size ≤ l) (first-longest script valid) (copied-short script rules J m h c) in
+      let unit = unit_of script in
       let count = copied-few script rules J m h c in
       let long : length bytes ≡ size = carried-length script rules J m h c in
-      let part : length (take 256 (drop (256 * j) bytes)) ≡ min 256 (size - 256 * j) = length-take 256 (drop (256 * j) bytes) ∙ ap (λ k. min 256 k) (length-drop (256 * j) bytes ∙ ap (λ k. k - 256 * j) long) in
-      data-spelled (record { from = sender script m; to = receiver script m; seq = n; name = m; head = head; length = size; fragment = j; payload = take 256 (drop (256 * j) bytes) })
+      let part : length (take unit (drop (unit * j) bytes)) ≡ min 256 (size - 256 * j) = length-take unit (drop (unit * j) bytes) ∙ ap (λ k. min unit k) (length-drop (unit * j) bytes ∙ ap (λ k. k - unit * j) long) ∙ ap (λ u. min u (size - u * j)) (first-unit script valid) in
+      data-spelled (record { from = sender script m; to = receiver script m; seq = n; name = m; head = head; length = size; fragment = j; payload = take unit (drop (unit * j) bytes) })
       (omega arith) (omega arith) ln
-      (name-spelled (sender script m) (receiver script m) m (omega arith) (omega arith) (omega arith) (origin-kept a d m.leg) (leg-kept script a d m.leg s leg) (leg-read a d m.leg) (leg-small m.leg) (omega arith))
+      (name-spelled (sender script m) (receiver script m) m (omega arith) (omega arith) (omega arith) (origin-kept a d m.leg) (leg-kept script a d m.leg s (subst (λ b. has_leg script b a m.leg s ≡ true) (no-answers script rules valid few m) leg)) (leg-read a d m.leg) (leg-small m.leg) (omega arith))
       (operation-kept script rules valid few m m.leg s leg) (operation-small head)
       (size-kept m leg fine) (omega arith)
-      (subst (λ (k : ℕ). j < k) (counts-same script m) lj) (omega arith)
+      (subst (λ (k : ℕ). j < k) (counts-same script valid m) lj) (omega arith)
       (head-kept m leg fine (statement-valid script valid a i) (round-small script a i (omega arith)))
       part
-      (all-take IsByte 256 (drop (256 * j) bytes) (all-drop IsByte (256 * j) bytes ((values-small script rules valid J).bytes m)))
+      (all-take IsByte unit (drop (unit * j) bytes) (all-drop IsByte (unit * j) bytes ((values-small script rules valid J).bytes m)))
 
   -- a packet of a wire
   wire-spelled : (r : Run) (a b : ℕ) (p : Packet) → SoundRun script rules r → IsOfNumber script rules r.journal a b p → IsTold script rules valid a b p → Spells p (written.packet p)
@@ -313,7 +334,7 @@ module _ (script : Script) (rules : Rules) (valid : ValidScript script) (few : V
       let y : to ≡ b = told.1 in
       let la : a < script.tasks = told.2 in
       let lb : b < script.tasks = told.3 in
-      acknowledgement-spelled from to base bits (omega arith) (omega arith) told.4 told.5 told.6
+      acknowledgement-spelled from to base bits (omega arith) (omega arith) told.4 (subst (λ k. bits < 2 ^ k) (first-window script valid) told.5) told.6
 
   packet-from : Packet → ℕ
   packet-from (Data p) = p.from

@@ -13,7 +13,8 @@ use Rattle.lapi_base.specs.declared.event.Event.{Event}
 use Rattle.lapi_base.specs.declared.packet.Packet.{Packet}
 use Rattle.lapi_base.specs.declared.packet.Packet.TheVariants.{Data, Ack}
 use Rattle.lapi_base.specs.declared.packet.DataPacket.{DataPacket}
-use Rattle.lapi_base.specs.Layout.{unit_of}
+use Rattle.lapi_base.specs.Layout.{Layout, First, Second, layout_of, unit, unit_of}
+use Rattle.lapi_base.specs.Fragments.{fragments_in}
 use Rattle.lapi_base.specs.Below.{below}
 use Rattle.lapi_base.specs.Names.{name_eq, Copied, done}
 use Rattle.lapi_base.specs.Operations.{upto, message_length, fragment_count}
@@ -65,7 +66,11 @@ module _ (script : Script) (rules : Rules) where
 
   long-enough : (m : MsgName) → message_length script m ≤ unit_of script * fragment_count script m
   unfolding fragment_count unit_of
-  long-enough m = let n = message_length script m in let q : n ≤ 256 * max 1 ((n + 255) / 256) = omega arith in q
+  long-enough m = each (layout_of script.layout) (message_length script m)
+    where
+      each : (l : Layout) (n : ℕ) → n ≤ unit l * fragments_in (unit l) n
+      each First n = let q : n ≤ 256 * max 1 ((n + 255) / 256) = omega arith in q
+      each Second n = let q : n ≤ 1024 * max 1 ((n + 1023) / 1024) = omega arith in q
 
   -- Whole, they are its bytes.
   pub assembled-bytes : (J : List Event) (m : MsgName) (ps : List Packet) → Atomic script rules J → done (Copied m) J ≡ true → AllByRecursion (Exact script rules J) ps → is_whole script ps m ≡ true → assembled (fragment_count script m) ps m ≡ carried script rules J m

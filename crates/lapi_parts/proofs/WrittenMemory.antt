@@ -6,7 +6,7 @@ use Rattle.lapi_base.specs.declared.script.Script.{Script}
 use Rattle.lapi_base.specs.declared.statement.Statement.{Statement}
 use Rattle.lapi_base.specs.declared.rule.Rules.{Rules}
 use Rattle.lapi_base.specs.declared.message.Leg.{Leg}
-use Rattle.lapi_base.specs.declared.message.Leg.TheVariants.{Go, Back, Note, Join}
+use Rattle.lapi_base.specs.declared.message.Leg.TheVariants.{Go, Back, Note, Echo, Join}
 use Rattle.lapi_base.specs.declared.message.MsgName.{MsgName}
 use Rattle.lapi_base.specs.declared.event.Event.{Event}
 use Rattle.lapi_base.specs.declared.event.Event.TheVariants.{Issue, Land, End, Refuse, Enter, Pass, Copy, Head, Begin}
@@ -14,7 +14,7 @@ use Rattle.lapi_base.specs.declared.packet.Packet.{Packet}
 use Rattle.lapi_base.specs.declared.packet.Packet.TheVariants.{Data, Ack}
 use Rattle.lapi_base.specs.Names.{Copied, done, name_eq, Begun}
 use Rattle.lapi_base.specs.Operations.{statement, receiver, target, is_am, is_rmw, has_back, fragment_count}
-use Rattle.lapi_base.specs.Handlers.{number_of, word_bytes, buffer}
+use Rattle.lapi_base.specs.Handlers.{number_of, word_bytes, buffer, answer_pieces}
 use Rattle.lapi_base.specs.Values.{Values, values, gathered, scattered, byte_after, new_word, at_target, at_origin, land_writes, store_writes, writes}
 use Rattle.lapi_base.specs.Atomic.{Atomic}
 use Rattle.lapi_base.specs.Headline.{HoldsOfAtomic}
@@ -46,6 +46,7 @@ module _ (script : Script) (rules : Rules) where
       ap (λ (bs : List ℕ). cond (is_am s) (scattered (buffer script rules m) bs) (cond (is_rmw s) (scattered at (word_bytes (new_word s word))) (cond (has_back s) [] (scattered at bs)))) e
   land-by v bytes m Back s e = ap (scattered (at_origin script rules m.origin m.statement)) e
   land-by v bytes m Note s e = refl
+  land-by v bytes m Echo s e = ap (scattered (answer_pieces script m)) e
   land-by v bytes m (Join d) s e = refl
 
   own-place : (t : ℕ) (after before : ℕ) → cond (t == t) after before ≡ after

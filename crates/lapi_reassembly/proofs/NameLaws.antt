@@ -2,7 +2,7 @@
 use Rattle.std.proofs.Common.{◌≡◌, ◌≢◌, ◌==◌, Bool, true, false, ◌&&◌, refl, ap}
 use Rattle.std.proofs.lemmas.Bool.{false≢true, eq-eqb, eqb-true, and_from, and_parts}
 use Rattle.lapi_base.specs.declared.message.Leg.{Leg}
-use Rattle.lapi_base.specs.declared.message.Leg.TheVariants.{Go, Back, Note, Join}
+use Rattle.lapi_base.specs.declared.message.Leg.TheVariants.{Go, Back, Note, Echo, Join}
 use Rattle.lapi_base.specs.declared.message.MsgName.{MsgName}
 use Rattle.lapi_base.specs.Names.{leg_eq, name_eq}
 
@@ -10,12 +10,14 @@ leg_eq-refl : (l : Leg) → leg_eq l l ≡ true
 leg_eq-refl Go = refl
 leg_eq-refl Back = refl
 leg_eq-refl Note = refl
+leg_eq-refl Echo = refl
 leg_eq-refl (Join d) = eq-eqb d d refl
 
 leg_eq-true : (l k : Leg) → leg_eq l k ≡ true → l ≡ k
 leg_eq-true Go Go h = refl
 leg_eq-true Back Back h = refl
 leg_eq-true Note Note h = refl
+leg_eq-true Echo Echo h = refl
 leg_eq-true (Join d) (Join e) h = ap Join (eqb-true d e h)
 leg_eq-true _ _ h = absurd (false≢true h)
 

@@ -33,7 +33,7 @@ pub(crate) fn head_name(head: &Head) -> &'static str
         Head::Putv { .. } => "putv",
         Head::GetvGo { .. } | Head::GetvBack { .. } => "getv",
         Head::RmwGo { .. } | Head::RmwBack { .. } => "rmw",
-        Head::Am { .. } => "am",
+        Head::Am { .. } | Head::Echo { .. } => "am",
         Head::Note { op, .. } => note_name(*op),
         Head::Gfence { .. } => "gfence",
         Head::Addr { .. } => "addr",
@@ -84,6 +84,10 @@ pub(crate) fn add_head(head: &Head, line: &mut TextLine)
             cmpl,
             header,
         } => add_am(*handler, *tgt, *cmpl, header, line),
+        Head::Echo { dest, cmpl } => {
+            add_number(" dest ", *dest, line);
+            add_counter(" cmpl ", *cmpl, line);
+        }
         Head::Note { cmpl, .. } => add_number(" cmpl ", *cmpl, line),
         Head::Gfence { round } => add_number(" round ", *round, line),
         Head::Addr { round, address } => {

@@ -26,6 +26,7 @@ fn add_leg(leg: Leg, line: &mut TextLine)
         Leg::Go => line.text("go"),
         Leg::Back => line.text("back"),
         Leg::Note => line.text("note"),
+        Leg::Echo => line.text("echo"),
         Leg::Join(task) => {
             line.text("join-");
             line.number(u64::from(task));

@@ -10,7 +10,7 @@ use Rattle.lapi_base.specs.declared.wire.WireEntry.{WireEntry}
 use Rattle.lapi_base.specs.Arrived.{least_number, ack_of}
 use Rattle.lapi_base.specs.Below.{bits_of}
 use Rattle.lapi_base.specs.Layout.{window_of}
-use Rattle.lapi_base.specs.Record.{Run, has_number, ack, with_handed, hand_over, deliver_entry, deliver}
+use Rattle.lapi_base.specs.Record.{Run, has_number, ack, with_handed, hand_over, deliver_entry, deliver, at_once}
 use Rattle.lapi_base.specs.Seen.{no_rules, IsRecord}
 use Rattle.lapi_base.specs.Spelling.{HasSpelling}
 use Rattle.lapi_base.specs.Written as written
@@ -22,6 +22,8 @@ use Rattle.lapi_task.specs.Answers.{HasTaken, answer}
 use Rattle.lapi_task.specs.StandsFor.{ReceiverAt}
 use Rattle.lapi_task.proofs.AnswerSpelled.{ack-spelled}
 use Rattle.lapi_task.proofs.Lists.{at-place}
+use Rattle.lapi_base.specs.Valid.{ValidScript}
+use Rattle.lapi_parts.proofs.FirstLayout.{told-at-once}
 
 module _ (script : Script) where
   receives-at : (ps : List Packet) (ends : List ReceivingEnd) (n : ℕ) (end : ReceivingEnd) → ReceiverAt script ps (slice_get ends n) → end ≡ get_or ends n end → ReceivesFor script end ps
@@ -56,10 +58,10 @@ module _ (script : Script) where
       answer-put old new bytes spells put = put ∙ ap (λ (bs : List ℕ). old ++ record { to = from; bytes = bs } ∷ []) (spells ∙ ap written.packet is)
 
   -- A delivery of a data packet puts its acknowledgement on the wire back, and leaves the other wires.
-  module _ (r : Run) (recorded : IsRecord script no_rules r) (a b k : ℕ) (p : DataPacket) (at : slice_get (r.wire a b) k ≡ Some (Data p)) where
+  module _ (valid : ValidScript script) (r : Run) (recorded : IsRecord script no_rules r) (a b k : ℕ) (p : DataPacket) (at : slice_get (r.wire a b) k ≡ Some (Data p)) where
     wires : (x y : ℕ) → (deliver script no_rules r a b k).wire x y ≡ cond (x == b && y == a) (r.wire x y ++ ack script no_rules (with_handed script no_rules r a b (Data p)) a b ∷ []) (r.wire x y)
     unfolding deliver hand_over
-    wires x y = ap (λ o. (deliver_entry script no_rules r a b o).wire x y) at
+    wires x y = ap (λ o. (deliver_entry script no_rules r a b o).wire x y) at ∙ ap (λ ps. cond (x == b && y == a) (r.wire x y ++ ps) (r.wire x y)) (told-at-once script no_rules valid (ack script no_rules (with_handed script no_rules r a b (Data p)) a b))
 
     pub answered-wire : (deliver script no_rules r a b k).wire b a ≡ r.wire b a ++ ack_of script (Data p ∷ r.handed a b) a b ∷ []
     answered-wire =

@@ -29,6 +29,7 @@ use Rattle.lapi_parts.proofs.InReach.{packets-in-reach}
 use Rattle.lapi_parts.proofs.Receivable.{packets-fit, heads-agree, new-open, new-room}
 use Rattle.lapi_parts.proofs.Records.{record-sound}
 use Rattle.lapi_task.specs.Performed.{IsPerformed}
+use Rattle.lapi_parts.proofs.SpelledPackets.{first-longest}
 
 payload_in : Packet → List ℕ
 payload_in (Data p) = p.payload
@@ -84,7 +85,7 @@ module _ (script : Script) where
       record {
         number = fits.number;
         reach = packets-in-reach script no_rules r is a b k p at;
-        size = fits-size p.length (subst (λ (n : ℕ). n ≤ 16384) (sym (length-is script no_rules J p own)) (copied-short script no_rules J p.name sound.atomic copied));
+        size = fits-size p.length (subst (λ (n : ℕ). n ≤ 16384) (sym (length-is script no_rules J p own)) (subst (λ (n : ℕ). message_length script p.name ≤ n) (first-longest script performed.valid) (copied-short script no_rules J p.name sound.atomic copied)));
         fragment = fits.fragment;
         payload = fits.payload;
         heads = λ j q there name. heads-agree script no_rules r is a b k j p q at there name;

@@ -37,7 +37,7 @@ use Rattle.lapi_laws.proofs.NumberLaws.{below-all}
 use Rattle.lapi_laws.proofs.Shorts.{copied-short}
 use Rattle.lapi_link.specs.Sender.{SendingEnd}
 use Rattle.lapi_parts.proofs.Accepted.{copied-accepted}
-use Rattle.lapi_parts.proofs.SpelledPackets.{message-spelled}
+use Rattle.lapi_parts.proofs.SpelledPackets.{message-spelled, first-longest}
 use Rattle.lapi_window.specs.SendWindow.{sent_count, bytes_of}
 use Rattle.lapi_task.specs.declared.put.Put.{Put}
 use Rattle.lapi_task.specs.declared.task.Task.{Task}
@@ -224,7 +224,7 @@ module _ (script : Script) (perf : IsPerformed script) (t : ℕ) (task : Task) (
           subst (λ k. k < script.tasks) (receiver-is script perf t i put e) acc.target,
           (subst (λ (s : Statement). AllByRecursion (λ (p : _). address script (target script t i) p.at + p.len ≤ script.memory) (origin_pieces s)) e acc.from).0,
           (λ c at. subst (λ (o : Option ℕ). NamesCounter script o) at (subst (λ (s : Statement). NamesCounter script (org_counter s)) e acc.org)),
-          subst (λ k. k ≤ 16384) (length-is script perf t i put e) (copied-short script no_rules L go h.atomic (done-head (Copy go) r.journal)),
+          subst (λ k. k ≤ 16384) (length-is script perf t i put e) (subst (λ n. message_length script go ≤ n) (first-longest script perf.valid) (copied-short script no_rules L go h.atomic (done-head (Copy go) r.journal))),
         )
 
     pub counters-then : (counters : List ℕ) → length counters ≡ script.counters → ((c : ℕ) → c < script.counters → slice_index counters c ≡ count script no_rules r.journal t c) → (c : ℕ) → c < script.counters → slice_index (announced counters put.org) c ≡ count script no_rules L t c

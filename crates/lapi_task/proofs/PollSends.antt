@@ -34,6 +34,8 @@ use Rattle.lapi_task.proofs.Lists.{flat_map-push, get-some, get-set, get-set-oth
 use Rattle.lapi_task.proofs.PutPackets.{upto-more}
 use Rattle.lapi_task.proofs.SenderLaws.{bytes-of-end, entries-within}
 use Rattle.lapi_task.proofs.StillLaws.{room}
+use Rattle.lapi_base.specs.Valid.{ValidScript}
+use Rattle.lapi_parts.proofs.FirstLayout.{sends-data}
 
 -- Lists by their places.
 get-take : {X : Type 0} (xs : List X) (k i : ℕ) → i < k → slice_get (take k xs) i ≡ slice_get xs i
@@ -131,7 +133,7 @@ module _ (script : Script) (J : List Event) (a b : ℕ) where
 
 -- ---- one link
 
-module _ (script : Script) (t : ℕ) (r : Run) (recorded : IsRecord script no_rules r) where
+module _ (script : Script) (valid : ValidScript script) (t : ℕ) (r : Run) (recorded : IsRecord script no_rules r) where
   abbrev pub J : List Event
   J = copied script no_rules r t
 
@@ -162,12 +164,13 @@ module _ (script : Script) (t : ℕ) (r : Run) (recorded : IsRecord script no_ru
         ∙ ap (λ n. map (λ i. low + i) (upto n)) (room (length (out script J t b)) s.window.numbers (base script then_ t b) (base_of s.window) (window_of script) s.window.window low (length s.waiting) (sym h.numbers.numbers) base-is h.numbers.size h.whole)
 
     pub polled-spelled : map written.packet (polled script no_rules r t b) ≡ packets_now s
-    polled-spelled = ap (λ ns. map written.packet (packets script no_rules J t b ns)) fresh-is ∙ packets-waiting script J t b low s.waiting h.waiting count count-fits
+    polled-spelled = ap (map written.packet) (sends-data script no_rules r valid recorded J t b) ∙ ap (λ ns. map written.packet (packets script no_rules J t b ns)) fresh-is ∙ packets-waiting script J t b low s.waiting h.waiting count count-fits
 
     sent-now : (n : ℕ) → has_number (r.wire t b ++ polled script no_rules r t b) n ≡ nat_lt n (low + count)
     unfolding has_number
     sent-now n =
         list_any-append (is_number n) (r.wire t b) (polled script no_rules r t b)
+        ∙ ap (λ ps. list_any (is_number n) (r.wire t b) || list_any (is_number n) ps) (sends-data script no_rules r valid recorded J t b)
         ∙ (λ i. h.numbers.sent n i || list_any (is_number n) (packets script no_rules J t b (fresh-is i)))
         ∙ numbers-waiting script J t b low s.waiting h.waiting count n count-fits
 
@@ -227,14 +230,14 @@ one-sent b first now s after h at same = record {
   size = length-set now b after ∙ h.size;
 }
 
-module _ (script : Script) (t : ℕ) (r : Run) (recorded : IsRecord script no_rules r) where
-  sender-polled : (b : ℕ) (o : Option SendingEnd) → SenderAt script (then_ script t r recorded) t b o → SenderAt script (poll script no_rules r t) t b (option_map sent_now o)
+module _ (script : Script) (valid : ValidScript script) (t : ℕ) (r : Run) (recorded : IsRecord script no_rules r) where
+  sender-polled : (b : ℕ) (o : Option SendingEnd) → SenderAt script (then_ script valid t r recorded) t b o → SenderAt script (poll script no_rules r t) t b (option_map sent_now o)
   sender-polled b None h = absurd h
-  sender-polled b (Some s) h = sends-polled script t r recorded b s h
+  sender-polled b (Some s) h = sends-polled script valid t r recorded b s h
 
-  wire-polled : (b : ℕ) (o : Option SendingEnd) → SenderAt script (then_ script t r recorded) t b o → map written.packet ((poll script no_rules r t).wire t b) ≡ map written.packet (r.wire t b) ++ of_end packets_now o
+  wire-polled : (b : ℕ) (o : Option SendingEnd) → SenderAt script (then_ script valid t r recorded) t b o → map written.packet ((poll script no_rules r t).wire t b) ≡ map written.packet (r.wire t b) ++ of_end packets_now o
   wire-polled b None h = absurd h
-  wire-polled b (Some s) h = ap (map written.packet) (wire-after script t r recorded b) ∙ map-append written.packet (r.wire t b) (polled script no_rules r t b) ∙ ap (λ xs. map written.packet (r.wire t b) ++ xs) (polled-spelled script t r recorded b s h)
+  wire-polled b (Some s) h = ap (map written.packet) (wire-after script valid t r recorded b) ∙ map-append written.packet (r.wire t b) (polled script no_rules r t b) ∙ ap (λ xs. map written.packet (r.wire t b) ++ xs) (polled-spelled script valid t r recorded b s h)
 
   holds-with : (task after : Task) {K : List Event} → HoldsFor script t task K → HoldsFor script t (record task { senders = after.senders }) K
   holds-with task after h = record { number = h.number; next = h.next; ahead = h.ahead; reads = h.reads; refusals = h.refusals; memory = h.memory; counter_count = h.counter_count; counters = h.counters; uncopied = h.uncopied; jobless = h.jobless }
@@ -243,7 +246,7 @@ module _ (script : Script) (t : ℕ) (r : Run) (recorded : IsRecord script no_ru
   pub poll-does : (task after : Task) (old new : Outcome) (es : List Event) → t < script.tasks → AllCopied script t r task old.events es → new.events ≡ es → AllSent script.tasks task.senders.items after.senders.items → after ≡ record task { senders = after.senders } → new.entries ≡ old.entries ++ entries_of packets_now task.senders.items script.tasks → Does script t r (poll script no_rules r t) after old new
   unfolding poll
   poll-does task after old new es lt h same sends rest put =
-      let stands : StandsFor script t task (then_ script t r recorded) = subst (λ (K : List Event). StandsFor script t task (record r { journal = K })) h.copied h.stands in
+      let stands : StandsFor script t task (then_ script valid t r recorded) = subst (λ (K : List Event). StandsFor script t task (record r { journal = K })) h.copied h.stands in
       record {
         events = h.events;
         entries = entries_of packets_now task.senders.items script.tasks;

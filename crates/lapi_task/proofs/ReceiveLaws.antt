@@ -53,6 +53,7 @@ use Rattle.lapi_task.proofs.ReceiveKinds.{IsKind, IsPut, IsNote, Comes, comes as
 use Rattle.lapi_task.proofs.ReceiveLinks.{told, Settled, notice-data, notice-carries, notice-count, notice-ends, ends-come, ends-length}
 use Rattle.lapi_task.proofs.SenderLaws.{bytes-here, bytes-there}
 use Rattle.lapi_task.proofs.StepMemories.{memory-length}
+use Rattle.lapi_parts.proofs.FirstLayout.{holds-nothing, told-at-once}
 
 -- What has changed only in its receiving ends.
 pub record KeepsRest (before after : Task) : Type 0 where
@@ -109,6 +110,7 @@ module _ (script : Script) where
     replies = r.replies ++ Did ∷ [];
     wire = λ x y. cond (x == t && y == a) (r.wire x y ++ q ∷ []) (r.wire x y);
     handed = λ x y. cond (x == a && y == t) (Data p ∷ r.handed x y) (r.handed x y);
+    owed = r.owed;
     journal = r.journal;
   }
 
@@ -228,7 +230,16 @@ module _ (script : Script) where
     delivered =
         let q = next-acks-told script no_rules r at.recorded a t k p entry in
         let es = ap (λ es. cond (is_delivered r a t p.seq) [] es) (arrivals-told script no_rules r at.recorded a t k p entry) ∙ come-events script (r.handed a t) p kind (is_delivered r a t p.seq) in
-        ap (deliver_entry script no_rules r a t) entry ∙ (λ i. told script (handed_on r a t p (q i)) (followed r.journal (es i)))
+        let held = holds-nothing script performed.valid in
+        let once = λ (told : Packet). told-at-once script no_rules performed.valid told in
+        ap (deliver_entry script no_rules r a t) entry
+        ∙ (λ i. record {
+          replies = r.replies ++ Did ∷ [];
+          wire = λ x y. cond (x == t && y == a) (r.wire x y ++ once (q i) i) (r.wire x y);
+          handed = λ x y. cond (x == a && y == t) (Data p ∷ r.handed x y) (r.handed x y);
+          owed = λ x y. (held i && (x == a && y == t)) || r.owed x y;
+          journal = followed r.journal (es i);
+        })
 
     atomic : Atomic script no_rules then
     atomic = subst (λ (x : Run). Atomic script no_rules x.journal) delivered (deliver-sound script no_rules r a t k (record-sound script no_rules r at.recorded)).atomic

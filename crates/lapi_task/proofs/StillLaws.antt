@@ -38,6 +38,8 @@ use Rattle.lapi_task.specs.StandsFor.{is_uncopied, SenderAt, HoldsFor}
 use Rattle.lapi_task.proofs.Jobless.{no-queue}
 use Rattle.lapi_task.proofs.Forms.{no-join}
 use Rattle.lapi_task.proofs.Lists.{get-some}
+use Rattle.lapi_base.specs.Valid.{ValidScript}
+use Rattle.lapi_parts.proofs.FirstLayout.{none-owed}
 
 -- Lists and numbers below a bound.
 all-from : {X : Type 0} (P : X → Type 0) (xs : List X) → ((k : ℕ) (x : X) → slice_get xs k ≡ Some x → P x) → AllByRecursion P xs
@@ -145,11 +147,17 @@ module _ (script : Script) (r : Run) (a b : ℕ) (s : SendingEnd) (h : SendsFor 
       ∙ blank-upto (λ i. sent + i) (min (length (out script r.journal a b)) (base script r a b + window_of script) - sent)
       ∙ ap (λ n. n == 0) (room (length (out script r.journal a b)) s.window.numbers (base script r a b) (base_of s.window) (window_of script) s.window.window sent (length s.waiting) (sym h.numbers.numbers) base-is h.numbers.size h.whole)
 
-  pub settled-is : IsRecord script no_rules r → settled s ≡ is_settled script no_rules r a b
+  pub settled-is : ValidScript script → IsRecord script no_rules r → settled s ≡ is_settled script no_rules r a b
   unfolding is_settled
-  settled-is is =
+  settled-is valid is =
       ap (λ x. x && sendable s == 0) (sym told-is)
       ∙ ap (λ x. list_all (is_told script no_rules r a b) (r.wire a b) && x) (sym (fresh-is is))
+      ∙ sym (and-yes (list_all (is_told script no_rules r a b) (r.wire a b) && is_empty (fresh script no_rules r r.journal a b)))
+      ∙ ap (λ o. list_all (is_told script no_rules r a b) (r.wire a b) && is_empty (fresh script no_rules r r.journal a b) && not o) (sym (none-owed script no_rules r valid is a b))
+    where
+      and-yes : (x : Bool) → (x && true) ≡ x
+      and-yes true = refl
+      and-yes false = refl
 
 module _ (script : Script) (p : IsPerformed script) where
   -- A statement's messages are copied where it isn't one that waits for its copy.
@@ -190,7 +198,7 @@ module _ (script : Script) (p : IsPerformed script) where
       let stands = at.stands in
       all-at settled (is_settled script no_rules r t) ends (λ b s there.
       let known : b < script.tasks = subst (λ n. b < n) stands.sender_count (slice_get_within ends b s there) in
-      settled-is script r t b s (sender-there r t b (slice_get ends b) s (stands.senders b known) there) at.recorded)
+      settled-is script r t b s (sender-there r t b (slice_get ends b) s (stands.senders b known) there) p.valid at.recorded)
       ∙ ap (λ n. every_below n (is_settled script no_rules r t)) stands.sender_count
 
   pub still-is : (t : ℕ) (task : Task) (r : Run) → IsAt script t task r → (length task.uncopied.items == 0 && list_all settled task.senders.items) ≡ (is_idle script no_rules r t && every_below script.tasks (is_settled script no_rules r t))

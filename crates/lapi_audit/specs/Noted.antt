@@ -1,0 +1,133 @@
+-- The state of one operation, and of all: which deeds stand by it, and what an event makes of it.
+use Rattle.std.specs.Prelude.{◌≡◌, ℕ, ◌<◌, Bool, true, false, ◌&&◌, List, [], length, replicate, slice_index_or, slice_set}
+use Rattle.lapi_base.specs.declared.script.Script.{Script}
+use Rattle.lapi_base.specs.declared.message.Leg.{Leg}
+use Rattle.lapi_base.specs.declared.message.Leg.TheVariants.{Go, Back, Note, Echo, Join}
+use Rattle.lapi_base.specs.declared.event.Event.{Event}
+use Rattle.lapi_base.specs.declared.event.Event.TheVariants.{Issue, Refuse, Enter, Pass, Copy, Head, Land, Begin, End}
+use Rattle.lapi_base.specs.Names.{leg_eq, Deed, Issued, Refused, Entered, Passed, Copied, Headed, Landed, Begun, Ended, deed, done}
+use Rattle.lapi_base.specs.Operations.{statements}
+use Rattle.lapi_audit.specs.declared.operation.Transit.{Transit}
+use Rattle.lapi_audit.specs.declared.operation.Operation.{Operation}
+
+-- no event of a message stood; and none of an operation
+abbrev pub still : Transit
+still = record { copied = false; landed = false }
+
+abbrev pub blank : List Transit → Operation
+blank joins =
+    record {
+      issued = false;
+      refused = false;
+      entered = false;
+      passed = false;
+      headed = false;
+      begun = false;
+      ended = false;
+      go = still;
+      back = still;
+      note = still;
+      echo = still;
+      joins = joins;
+    }
+
+abbrev pub fresh : Operation
+fresh = blank (replicate 8 still)
+
+-- the state of one of its messages
+abbrev pub transit_of : Operation → Leg → Transit
+transit_of o Go = o.go
+transit_of o Back = o.back
+transit_of o Note = o.note
+transit_of o Echo = o.echo
+transit_of o (Join d) = slice_index_or o.joins d still
+
+abbrev pub with_transit : Operation → Leg → Transit → Operation
+with_transit o Go t = record o { go = t }
+with_transit o Back t = record o { back = t }
+with_transit o Note t = record o { note = t }
+with_transit o Echo t = record o { echo = t }
+with_transit o (Join d) t = record o { joins = slice_set o.joins d t }
+
+-- whether a deed of the operation stands
+abbrev pub noted : Operation → Deed → Bool
+noted o (Issued a i) = o.issued
+noted o (Refused a i) = o.refused
+noted o (Entered a i) = o.entered
+noted o (Passed a i) = o.passed
+noted o (Copied m) = (transit_of o m.leg).copied
+noted o (Headed m) = leg_eq m.leg Go && o.headed
+noted o (Landed m) = (transit_of o m.leg).landed
+noted o (Begun m) = leg_eq m.leg Go && o.begun
+noted o (Ended m) = leg_eq m.leg Go && o.ended
+
+-- what an event makes of its operation
+abbrev pub after : Event → Operation → Operation
+after (Issue a i) o = record o { issued = true }
+after (Refuse a i why) o = record o { refused = true }
+after (Enter a i) o = record o { entered = true }
+after (Pass a i) o = record o { passed = true }
+after (Copy m) o = with_transit o m.leg (record (transit_of o m.leg) { copied = true })
+after (Head m) o = record o { headed = true }
+after (Land m) o = with_transit o m.leg (record (transit_of o m.leg) { landed = true })
+after (Begin m t w) o = record o { begun = true }
+after (End m t w) o = record o { ended = true }
+
+-- a Join is to a task below n
+abbrev pub JoinIsBelow : Leg → ℕ → Type 0
+JoinIsBelow (Join d) n = d < n
+JoinIsBelow _ n = Unit {0}
+
+abbrev pub HasJoinBelow : Event → ℕ → Type 0
+HasJoinBelow (Copy m) n = JoinIsBelow m.leg n
+HasJoinBelow (Land m) n = JoinIsBelow m.leg n
+HasJoinBelow _ n = Unit {0}
+
+-- the operation of a deed, by its task and its statement
+abbrev pub task_of : Deed → ℕ
+task_of (Issued a i) = a
+task_of (Refused a i) = a
+task_of (Entered a i) = a
+task_of (Passed a i) = a
+task_of (Copied m) = m.origin
+task_of (Headed m) = m.origin
+task_of (Landed m) = m.origin
+task_of (Begun m) = m.origin
+task_of (Ended m) = m.origin
+
+abbrev pub statement_of : Deed → ℕ
+statement_of (Issued a i) = i
+statement_of (Refused a i) = i
+statement_of (Entered a i) = i
+statement_of (Passed a i) = i
+statement_of (Copied m) = m.statement
+statement_of (Headed m) = m.statement
+statement_of (Landed m) = m.statement
+statement_of (Begun m) = m.statement
+statement_of (Ended m) = m.statement
+
+-- Tables: a list for each task, with something for each of its statements.
+abbrev pub operation : List (List Operation) → ℕ → ℕ → Operation
+operation table a i = slice_index_or (slice_index_or table a []) i (blank [])
+
+abbrev pub with_operation : List (List Operation) → ℕ → ℕ → Operation → List (List Operation)
+with_operation table a i o = slice_set table a (slice_set (slice_index_or table a []) i o)
+
+-- the table with what an event makes of its operation
+abbrev pub noted_in : List (List Operation) → Event → List (List Operation)
+noted_in table e = with_operation table (task_of (deed e)) (statement_of (deed e)) (after e (operation table (task_of (deed e)) (statement_of (deed e))))
+
+-- whether a deed stands, by the states of all operations
+unfoldable pub stood : List (List Operation) → Deed → Bool
+stood table d = noted (operation table (task_of d) (statement_of d)) d
+
+-- the table has a state for each operation
+pub record HasStates (script : Script) (table : List (List Operation)) : Type 0 where
+  pub tasks : length table ≡ script.tasks
+  pub lists : (a : ℕ) → a < script.tasks → length (slice_index_or table a []) ≡ length (statements script a)
+  pub joins : (a i : ℕ) → a < script.tasks → i < length (statements script a) → length (operation table a i).joins ≡ 8
+
+-- the states stand for the events so far
+pub record OperationsStand (script : Script) (table : List (List Operation)) (J : List Event) : Type 0 where
+  pub fits : HasStates script table
+  pub deeds : (d : Deed) → stood table d ≡ done d J
