@@ -9,6 +9,7 @@ mod frame;
 mod handler;
 mod head;
 mod input;
+mod layout;
 mod memory;
 mod message;
 mod numbers;

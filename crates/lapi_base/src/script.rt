@@ -3,7 +3,7 @@ use crate::statement::StatementLists;
 /// What each task calls, and the sizes that all tasks have.
 #[derive(Debug, Drop)]
 pub struct Script {
-    /// The layout of its packets, 1.
+    /// The layout of its packets, 1 or 2; only scripts of layout 1 are valid so far.
     pub layout: u32,
     /// How many tasks there are.
     pub tasks: u32,

@@ -1,4 +1,4 @@
--- Under the first layout nothing is owed: each packet is acknowledged at once.
+-- Under the first layout sizes are the first layout's, and nothing is owed: each packet is acknowledged at once.
 use Rattle.std.proofs.Common.{◌≡◌, ℕ, Bool, true, false, cond, ◌&&◌, List, [], ◌∷◌, ◌++◌, refl, sym, ap, ◌∙◌}
 use Rattle.std.proofs.lemmas.Bool.{both_ways, cond-false, false_from_ne_true}
 use Rattle.std.proofs.lemmas.List.{append-nil}
@@ -6,13 +6,25 @@ use Rattle.lapi_base.specs.declared.script.Script.{Script}
 use Rattle.lapi_base.specs.declared.rule.Rules.{Rules}
 use Rattle.lapi_base.specs.declared.packet.Packet.{Packet}
 use Rattle.lapi_base.specs.declared.event.Event.{Event}
-use Rattle.lapi_base.specs.Layout.{layout_of, waits_for_poll, holds_back}
+use Rattle.lapi_base.specs.Layout.{unit, longest, window, layout_of, waits_for_poll, unit_of, longest_of, window_of, holds_back}
 use Rattle.lapi_base.specs.Record.{Run, packets, fresh, ack, owed_ack, at_once, sends}
 use Rattle.lapi_base.specs.Valid.{ValidScript}
 use Rattle.lapi_base.specs.Links.{OwedAreHeldBack}
 use Rattle.lapi_base.specs.Seen.{IsRecord, HoldsOfRecords}
 use Rattle.lapi_laws.proofs.Owed.{run-owed}
 use Rattle.lapi_parts.proofs.Records.{of-runs}
+
+pub first-unit : (script : Script) → ValidScript script → unit_of script ≡ 256
+unfolding unit_of
+first-unit script valid = ap (λ n. unit (layout_of n)) valid.layout
+
+pub first-longest : (script : Script) → ValidScript script → longest_of script ≡ 16384
+unfolding longest_of
+first-longest script valid = ap (λ n. longest (layout_of n)) valid.layout
+
+pub first-window : (script : Script) → ValidScript script → window_of script ≡ 32
+unfolding window_of
+first-window script valid = ap (λ n. window (layout_of n)) valid.layout
 
 pub holds-nothing : (script : Script) → ValidScript script → holds_back script ≡ false
 unfolding holds_back

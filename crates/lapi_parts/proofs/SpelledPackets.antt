@@ -19,7 +19,7 @@ use Rattle.lapi_base.specs.declared.head.NoteOp.TheVariants as notes
 use Rattle.lapi_base.specs.declared.event.Event.{Event}
 use Rattle.lapi_base.specs.Form.{Done, ◌>>=◌, bytes_form, IsSpelled}
 use Rattle.lapi_base.specs.Fragments.{fragments_in}
-use Rattle.lapi_base.specs.Layout.{First, layout_of, unit, longest, window, unit_of, longest_of, window_of}
+use Rattle.lapi_base.specs.Layout.{First, unit_of, longest_of, window_of}
 use Rattle.lapi_base.specs.Heads.{is_operation, operation_form, head_form}
 use Rattle.lapi_base.specs.Spelling.{task_form, kind_form, front_form, acknowledgement_form, is_leg, leg_of, leg_form, name_form, is_length, length_form, fragments, fragment_form, fragment_size, data_form, packet_form, Spells}
 use Rattle.lapi_base.specs.Written as written
@@ -38,6 +38,7 @@ use Rattle.lapi_laws.proofs.Out.{all-get, out-copied}
 use Rattle.lapi_laws.proofs.Backward.{there}
 use Rattle.lapi_laws.proofs.Lines.{SoundRun}
 use Rattle.lapi_laws.proofs.Shorts.{statements-few, numbers-few, copied-short, copied-few}
+use Rattle.lapi_parts.proofs.FirstLayout.{first-unit, first-longest, first-window}
 use Rattle.lapi_parts.proofs.Records.{record-sound}
 use Rattle.lapi_parts.proofs.ExactBytes.{put-of-number}
 use Rattle.lapi_parts.proofs.CarriedLengths.{carried-length}
@@ -244,18 +245,6 @@ operation-small (heads.Gfence round) = omega arith
 operation-small (heads.Addr round at) = omega arith
 
 -- the count of a message's fragments, told twice
-first-unit : (script : Script) → ValidScript script → unit_of script ≡ 256
-unfolding unit_of
-first-unit script valid = ap (λ n. unit (layout_of n)) valid.layout
-
-pub first-longest : (script : Script) → ValidScript script → longest_of script ≡ 16384
-unfolding longest_of
-first-longest script valid = ap (λ n. longest (layout_of n)) valid.layout
-
-first-window : (script : Script) → ValidScript script → window_of script ≡ 32
-unfolding window_of
-first-window script valid = ap (λ n. window (layout_of n)) valid.layout
-
 counts-same : (script : Script) → ValidScript script → (m : MsgName) → fragment_count script m ≡ fragments First (message_length script m)
 unfolding fragment_count
 counts-same script valid m = let n = message_length script m in let e : max 1 ((n + 255) / 256) ≡ max (n / 256 + min 1 (n % 256)) 1 = omega arith in ap (λ u. fragments_in u n) (first-unit script valid) ∙ e

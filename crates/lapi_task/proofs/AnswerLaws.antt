@@ -23,7 +23,7 @@ use Rattle.lapi_task.specs.StandsFor.{ReceiverAt}
 use Rattle.lapi_task.proofs.AnswerSpelled.{ack-spelled}
 use Rattle.lapi_task.proofs.Lists.{at-place}
 use Rattle.lapi_base.specs.Valid.{ValidScript}
-use Rattle.lapi_parts.proofs.FirstLayout.{told-at-once}
+use Rattle.lapi_parts.proofs.FirstLayout.{first-window, told-at-once}
 
 module _ (script : Script) where
   receives-at : (ps : List Packet) (ends : List ReceivingEnd) (n : ℕ) (end : ReceivingEnd) → ReceiverAt script ps (slice_get ends n) → end ≡ get_or ends n end → ReceivesFor script end ps
@@ -33,10 +33,6 @@ module _ (script : Script) where
         | Some x ↦ λ e h. subst (λ y. ReceivesFor script y ps) (sym (at-place ends n x end e read)) h
       ] refl there
 
-  window-is : window_of script ≡ 32
-  unfolding window_of
-  window-is = refl
-
   -- what is told of these packets, from task number
   told-is : (ps : List Packet) (from t number base bits : ℕ) → number ≡ t → (base ≡ least_number ps) × (bits ≡ bits_of (window_of script) (λ i. has_number ps (least_number ps + i))) → Ack number from base bits ≡ ack_of script ps from t
   unfolding ack_of
@@ -44,7 +40,7 @@ module _ (script : Script) where
 
   module _ (t : ℕ) (task : Task) (from : ℕ) (ps : List Packet) (taken : HasTaken script t task from ps) (end : ReceivingEnd) (read : end ≡ get_or task.receivers.items from end) where
     pub answers-for : (window_of script ≡ 32) × ReceivesFor script end ps
-    answers-for = (window-is, receives-at ps task.receivers.items from end taken.receiver read)
+    answers-for = (first-window script taken.performed.valid, receives-at ps task.receivers.items from end taken.receiver read)
 
     -- so much is told
     module _ (base bits : ℕ) (told : ReceivesFor script end ps → (base ≡ least_number ps) × (bits ≡ bits_of (window_of script) (λ i. has_number ps (least_number ps + i)))) where

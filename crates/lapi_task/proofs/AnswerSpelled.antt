@@ -13,6 +13,7 @@ use Rattle.lapi_base.specs.Spelling.{HasSpelling}
 use Rattle.lapi_base.specs.Valid.{ValidScript}
 use Rattle.lapi_base.specs.Written as written
 use Rattle.lapi_laws.proofs.NumberLaws.{least_missing-not, least_missing-least}
+use Rattle.lapi_parts.proofs.FirstLayout.{first-window}
 use Rattle.lapi_parts.proofs.SpelledPackets.{acknowledgement-spelled}
 
 -- so many bits make a number below the power of two
@@ -57,11 +58,12 @@ unfolding least_number
 least-small ps few = least_missing-least (number_bound ps) (has_number ps) (2 ^ 22) (false_from_ne_true _ (λ there. let l : 2 ^ 22 < 2 ^ 22 = few (2 ^ 22) there in absurd (omega arith)))
 
 pub ack-spelled : (script : Script) → ValidScript script → (ps : List Packet) (a b : ℕ) → ((n : ℕ) → has_number ps n ≡ true → n < 2 ^ 22) → a < script.tasks → b < script.tasks → HasSpelling (ack_of script ps a b)
-unfolding ack_of window_of
+unfolding ack_of
 ack-spelled script valid ps a b few la lb =
     let least = least_number ps in
     let tasks : script.tasks ≤ 8 = valid.tasks.1 in
     let small : least ≤ 2 ^ 22 = least-small ps few in
     let set = λ (i : ℕ). has_number ps (least + i) in
     let first : least + 0 ≡ least = omega arith in
+    subst (λ w. HasSpelling (Ack b a least (bits_of w set))) (sym (first-window script valid))
     (written.packet (Ack b a least (bits_of 32 set)), acknowledgement-spelled b a least (bits_of 32 set) (omega arith) (omega arith) (omega arith) (bits-small 32 set) (bits-even 32 set (ap (has_number ps) first ∙ least-absent ps)))

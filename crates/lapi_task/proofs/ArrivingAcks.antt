@@ -13,13 +13,14 @@ use Rattle.lapi_base.specs.declared.packet.Packet.TheVariants.{Ack}
 use Rattle.lapi_base.specs.declared.packet.DataPacket.{DataPacket}
 use Rattle.lapi_base.specs.declared.reply.Reply.TheVariants.{Did}
 use Rattle.lapi_base.specs.Arrived.{has_fragment, payload_of, whole_by}
-use Rattle.lapi_base.specs.Layout.{window_of}
 use Rattle.lapi_base.specs.Record.{Run, has_number, has_ack, with_handed, hand_over, deliver_entry, deliver, reply_with, followed}
 use Rattle.lapi_base.specs.Seen.{no_rules}
+use Rattle.lapi_base.specs.Valid.{ValidScript}
 use Rattle.lapi_base.specs.Written as written
 use Rattle.lapi_laws.proofs.Deeds.{eqb-refl}
 use Rattle.lapi_link.specs.Receiver.{ReceivingEnd, packet_of, partial_by, partial_of, ReceivesFor}
 use Rattle.lapi_link.specs.Sender.{SendingEnd, IsAcked}
+use Rattle.lapi_parts.proofs.FirstLayout.{first-window}
 use Rattle.lapi_parts.proofs.Receivable.{acks-cover-sent}
 use Rattle.lapi_window.specs.NumberSet.{is_covered}
 use Rattle.lapi_window.specs.SendWindow.{sent_count}
@@ -180,9 +181,8 @@ module _ (script : Script) (r : Run) (from t k x y base bits : ℕ) where
     unfolding is_covered
     covers-sent n covered = ltb-true n (sent_count end.window) (sym (here.1.numbers.sent n) ∙ acks-cover-sent script no_rules r at.recorded from t k n (Ack x y base bits) entry covered)
 
-    pub is-narrow : end.window.window ≤ 32
-    unfolding window_of
-    is-narrow = let size = here.1.numbers.size in omega (arith, size)
+    pub is-narrow : ValidScript script → end.window.window ≤ 32
+    is-narrow valid = let size = here.1.numbers.size in let width = first-window script valid in omega (arith, size, width)
 
     -- and so the task is told of it.
     pub acked-does : (new : SendingEnd) → IsAcked end new base bits → (out : Outcome) → Does script t r (deliver script no_rules r from t k) (with_sender task new) out out

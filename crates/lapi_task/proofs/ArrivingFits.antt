@@ -29,7 +29,8 @@ use Rattle.lapi_parts.proofs.InReach.{packets-in-reach}
 use Rattle.lapi_parts.proofs.Receivable.{packets-fit, heads-agree, new-open, new-room}
 use Rattle.lapi_parts.proofs.Records.{record-sound}
 use Rattle.lapi_task.specs.Performed.{IsPerformed}
-use Rattle.lapi_parts.proofs.SpelledPackets.{first-longest}
+use Rattle.lapi_parts.proofs.FirstLayout.{first-unit, first-longest}
+use Rattle.lapi_base.specs.Valid.{ValidScript}
 
 payload_in : Packet → List ℕ
 payload_in (Data p) = p.payload
@@ -48,9 +49,8 @@ module _ (script : Script) where
       ∙ ap (λ (j : ℕ). take (unit_of script) (drop (unit_of script * j) (carried script no_rules J p.name))) fragment
       ∙ sym (payload-is J p x)
 
-  fits-size : (n : ℕ) → n ≤ 16384 → n ≤ 64 * unit_of script
-  unfolding unit_of
-  fits-size n l = omega arith
+  fits-size : ValidScript script → (n : ℕ) → n ≤ 16384 → n ≤ 64 * unit_of script
+  fits-size valid n l = let unit = first-unit script valid in omega (arith, l, unit)
 
   -- a message with a fragment missing isn't complete
   is-open : (ps : List Packet) (m : MsgName) (len j : ℕ) → j < count_of script len → has_fragment ps m j ≡ false → is_complete script ps m len ≡ false
@@ -85,7 +85,7 @@ module _ (script : Script) where
       record {
         number = fits.number;
         reach = packets-in-reach script no_rules r is a b k p at;
-        size = fits-size p.length (subst (λ (n : ℕ). n ≤ 16384) (sym (length-is script no_rules J p own)) (subst (λ (n : ℕ). message_length script p.name ≤ n) (first-longest script performed.valid) (copied-short script no_rules J p.name sound.atomic copied)));
+        size = fits-size performed.valid p.length (subst (λ (n : ℕ). n ≤ 16384) (sym (length-is script no_rules J p own)) (subst (λ (n : ℕ). message_length script p.name ≤ n) (first-longest script performed.valid) (copied-short script no_rules J p.name sound.atomic copied)));
         fragment = fits.fragment;
         payload = fits.payload;
         heads = λ j q there name. heads-agree script no_rules r is a b k j p q at there name;

@@ -37,7 +37,8 @@ use Rattle.lapi_laws.proofs.NumberLaws.{below-all}
 use Rattle.lapi_laws.proofs.Shorts.{copied-short}
 use Rattle.lapi_link.specs.Sender.{SendingEnd}
 use Rattle.lapi_parts.proofs.Accepted.{copied-accepted}
-use Rattle.lapi_parts.proofs.SpelledPackets.{message-spelled, first-longest}
+use Rattle.lapi_parts.proofs.FirstLayout.{first-unit, first-longest}
+use Rattle.lapi_parts.proofs.SpelledPackets.{message-spelled}
 use Rattle.lapi_window.specs.SendWindow.{sent_count, bytes_of}
 use Rattle.lapi_task.specs.declared.put.Put.{Put}
 use Rattle.lapi_task.specs.declared.task.Task.{Task}
@@ -86,12 +87,12 @@ module _ (script : Script) (perf : IsPerformed script) where
     length-is = rw e refl
 
     pub count-is : fragment_count script m ≡ fragments_in 256 put.len
-    unfolding fragment_count unit_of
-    count-is = ap (fragments_in 256) length-is
+    unfolding fragment_count
+    count-is = ap (λ u. fragments_in u (message_length script m)) (first-unit script perf.valid) ∙ ap (fragments_in 256) length-is
 
     pub packet-is : (n j : ℕ) (bytes : List ℕ) → data_packet script m n j bytes ≡ Data (put_packet put t i n j (fragment_bytes 256 j bytes))
-    unfolding data_packet unit_of message_length address
-    packet-is n j bytes = rw e refl
+    unfolding data_packet message_length address
+    packet-is n j bytes = rw e (ap (λ u. Data (put_packet put t i n j (fragment_bytes u j bytes))) (first-unit script perf.valid))
 
     -- what it carries
     pub carried-is : (J : List Event) → carried script no_rules (Copy m ∷ J) m ≡ map (λ k. (values script no_rules J).memory t (put.from + k)) (upto put.len)

@@ -21,6 +21,8 @@ use Rattle.lapi_task.specs.StandsFor.{SenderAt, ReceiverAt, is_uncopied, HoldsFo
 use Rattle.lapi_task.specs.Steps.{IsBlank}
 use Rattle.lapi_task.proofs.StepMemories.{memory-blank}
 use Rattle.lapi_task.proofs.Lists.{get-some}
+use Rattle.lapi_base.specs.Valid.{ValidScript}
+use Rattle.lapi_parts.proofs.FirstLayout.{first-unit, first-window}
 
 -- the task has done nothing
 pub record IsNew (script : Script) (t : ℕ) (task : Task) : Type 0 where
@@ -34,10 +36,9 @@ pub record IsNew (script : Script) (t : ℕ) (task : Task) : Type 0 where
   pub senders : (length task.senders.items ≡ script.tasks) × AllByRecursion IsFresh task.senders.items
   pub receivers : (length task.receivers.items ≡ script.tasks) × AllByRecursion IsBlank task.receivers.items
 
-module _ (script : Script) where
+module _ (script : Script) (valid : ValidScript script) where
   layout : (window_of script ≡ 32) × (unit_of script ≡ 256)
-  unfolding window_of unit_of
-  layout = (refl, refl)
+  layout = (first-window script valid, first-unit script valid)
 
   nothing-uncopied : (t k : ℕ) → is_uncopied script [] t k ≡ false
   unfolding done

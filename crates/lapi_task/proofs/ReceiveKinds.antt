@@ -8,7 +8,7 @@ use Rattle.lapi_base.specs.declared.statement.Statement.{Statement}
 use Rattle.lapi_base.specs.declared.head.Head.{Head}
 use Rattle.lapi_base.specs.declared.head.Head.TheVariants as heads
 use Rattle.lapi_base.specs.declared.message.Leg.{Leg}
-use Rattle.lapi_base.specs.declared.message.Leg.TheVariants.{Go, Back, Note, Join}
+use Rattle.lapi_base.specs.declared.message.Leg.TheVariants.{Go, Back, Note, Echo, Join}
 use Rattle.lapi_base.specs.declared.message.MsgName.{MsgName}
 use Rattle.lapi_base.specs.declared.packet.Packet.TheVariants.{Data}
 use Rattle.lapi_base.specs.declared.packet.DataPacket.{DataPacket}
@@ -31,6 +31,8 @@ use Rattle.lapi_task.specs.declared.put.Put.{Put}
 use Rattle.lapi_task.specs.Performed.{IsPerformed}
 use Rattle.lapi_task.specs.Puts.{statement_of}
 use Rattle.lapi_task.proofs.Forms.{data-put, no-back, no-join}
+use Rattle.lapi_base.specs.Handlers.{answers}
+use Rattle.lapi_parts.proofs.MessageHeads.{no-answers}
 
 -- the head of a put or of a notice
 abbrev pub IsKind : Head → Type 0
@@ -70,7 +72,7 @@ module _ (script : Script) where
   note-kind m s = tt
 
   module _ (performed : IsPerformed script) where
-    kind-by : (m : MsgName) (leg : Leg) (h : Head) → m.leg ≡ leg → has_leg script m.origin leg (statement script m.origin m.statement) ≡ true → h ≡ head_by script m leg (statement script m.origin m.statement) → IsPut m h ⊎ IsNote m h
+    kind-by : (m : MsgName) (leg : Leg) (h : Head) → m.leg ≡ leg → has_leg script (answers script no_rules m.origin m.statement) m.origin leg (statement script m.origin m.statement) ≡ true → h ≡ head_by script m leg (statement script m.origin m.statement) → IsPut m h ⊎ IsNote m h
     unfolding address
     kind-by m Go h e g head =
         let put = data-put script performed m.origin m.statement g in
@@ -79,6 +81,7 @@ module _ (script : Script) where
     kind-by m Note h e g head =
         let s = statement script m.origin m.statement in
         inr (record { head = subst IsKind (sym head) (note-kind m s); counter = λ at tgt cmpl x. note-apart m s at tgt cmpl (sym head ∙ x) })
+    kind-by m Echo h e g head = absurd (false≢true (sym (no-answers script no_rules performed.valid none-valid m) ∙ g))
     kind-by m (Join d) h e g head = absurd (false≢true (sym (no-join script performed m.origin m.statement) ∙ (and_parts (has_join (statement script m.origin m.statement)) _ g).0))
 
     pub comes : (r : Run) (a t k : ℕ) (p : DataPacket) → IsRecord script no_rules r → slice_get (r.wire a t) k ≡ Some (Data p) → Comes r a t p
@@ -87,7 +90,7 @@ module _ (script : Script) where
         let exact = record-exact script no_rules r is in
         let own = all-get (Exact script no_rules r.journal) (r.wire a t) k (Data p) (exact.wires a t) at in
         let ends = out-copied script r.journal a t p.seq (p.name, p.fragment) (all-get (IsOf script no_rules r.journal r.handed a t) (r.wire a t) k (Data p) (sound.wires a t) at) in
-        let leg : has_leg script p.name.origin p.name.leg (statement script p.name.origin p.name.statement) ≡ true = (and_parts _ _ (there script no_rules (Copied p.name) r.journal sound.atomic ends.0)).1 in
+        let leg : has_leg script (answers script no_rules p.name.origin p.name.statement) p.name.origin p.name.leg (statement script p.name.origin p.name.statement) ≡ true = (and_parts _ _ (there script no_rules (Copied p.name) r.journal sound.atomic ends.0)).1 in
         record {
           atomic = sound.atomic;
           copied = ends.0;

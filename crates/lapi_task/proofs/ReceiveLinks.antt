@@ -15,8 +15,8 @@ use Rattle.lapi_base.specs.declared.packet.Packet.TheVariants.{Data}
 use Rattle.lapi_base.specs.Atomic.{Atomic}
 use Rattle.lapi_base.specs.Below.{below}
 use Rattle.lapi_base.specs.Entries.{carried}
-use Rattle.lapi_base.specs.Fragments.{fragment_bytes}
-use Rattle.lapi_base.specs.Layout.{unit_of}
+use Rattle.lapi_base.specs.Fragments.{fragments_in, fragment_bytes}
+use Rattle.lapi_base.specs.Layout.{Layout, First, Second, layout_of, unit, unit_of}
 use Rattle.lapi_base.specs.Names.{message, name_eq}
 use Rattle.lapi_base.specs.Operations.{upto, statement, target, from_by, to_by, sender, receiver, message_length, fragment_count, fragments}
 use Rattle.lapi_base.specs.Packets.{data_packet, head_by}
@@ -142,7 +142,23 @@ module _ (script : Script) where
   stays-copy : (n : MsgName) (J : List Event) (x y : ℕ) → Atomic script no_rules (Copy n ∷ J) → (sender script n == x && receiver script n == y) ≡ false → Stays J (Copy n ∷ J) x y
   stays-copy n J x y atomic e = record { numbers = ap (λ (ps : List (MsgName × ℕ)). length ps) (out-other n J x y e); packets = packet-same script (Copy n) J x y atomic (out-other n J x y e) }
 
-  -- ---- the notice of a put
+  -- ---- the notice of a put: one fragment without bytes, in each layout
+
+  no-bytes : fragment_bytes (unit_of script) 0 [] ≡ []
+  unfolding unit_of
+  no-bytes = by-layout (layout_of script.layout)
+    where
+      by-layout : (layout : Layout) → fragment_bytes (unit layout) 0 [] ≡ []
+      by-layout First = refl
+      by-layout Second = refl
+
+  one-fragment : fragments_in (unit_of script) 0 ≡ 1
+  unfolding unit_of
+  one-fragment = by-layout (layout_of script.layout)
+    where
+      by-layout : (layout : Layout) → fragments_in (unit layout) 0 ≡ 1
+      by-layout First = refl
+      by-layout Second = refl
 
   module _ (m : MsgName) (put : Put) (is : statement script m.origin m.statement ≡ statement_of put) (c : ℕ) (named : put.cmpl ≡ Some c) where
     abbrev pub notice : MsgName
@@ -152,16 +168,18 @@ module _ (script : Script) where
     notice-head = ap (head_by script notice Note) is ∙ ap (λ o. heads.Note NoteOp.Put (unwrap_or o 0)) named
 
     pub notice-data : (n : ℕ) (bytes : List ℕ) → bytes ≡ [] → data_packet script notice n 0 bytes ≡ Data (note_packet (sender script notice) (receiver script notice) n m c)
-    unfolding data_packet message_length unit_of
-    notice-data n bytes empty = λ i. Data (record { from = sender script notice; to = receiver script notice; seq = n; name = notice; head = notice-head i; length = 0; fragment = 0; payload = fragment_bytes (unit_of script) 0 (empty i) })
+    unfolding data_packet message_length
+    notice-data n bytes empty =
+        let payload : fragment_bytes (unit_of script) 0 bytes ≡ [] = ap (fragment_bytes (unit_of script) 0) empty ∙ no-bytes in
+        λ i. Data (record { from = sender script notice; to = receiver script notice; seq = n; name = notice; head = notice-head i; length = 0; fragment = 0; payload = payload i })
 
     pub notice-carries : (J : List Event) → carried script no_rules (Copy notice ∷ J) notice ≡ []
     unfolding values
     notice-carries J = cond-true (name_eq notice notice) [] (carried script no_rules J notice) (name_eq-refl notice)
 
     pub notice-count : fragment_count script notice ≡ 1
-    unfolding fragment_count message_length unit_of
-    notice-count = refl
+    unfolding fragment_count message_length
+    notice-count = one-fragment
 
     first : slice_get (upto 1) 0 ≡ Some 0
     unfolding upto below

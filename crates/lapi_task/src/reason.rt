@@ -4,11 +4,7 @@ ghost use Rattle.lapi_task.specs.Performed.{reason_of};
 
 use lapi_base::{Addr, Refusal, Script, Statement};
 
-/// The longest message.
-const LONGEST: u32 = 16_384;
-
 /// Why the statement is refused, if it is.
-#[tactic(auto, unfolding(lapi_base::specs::Layout::longest_of))]
 pub fn reason_of(script: &Script, statement: &Statement) -> Option<Refusal>
     ensures { result ≡ reason_of script.now statement.now }
 {
@@ -37,7 +33,7 @@ pub fn reason_of(script: &Script, statement: &Statement) -> Option<Refusal>
                 || is_missing(script, *cmpl)
             {
                 Some(Refusal::BadCounter)
-            } else if *len > LONGEST {
+            } else if *len > script.longest() {
                 Some(Refusal::TooLong)
             } else {
                 None

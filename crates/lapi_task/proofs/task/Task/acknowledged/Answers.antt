@@ -8,7 +8,7 @@ acked-requires c =
     let w = c.requires.2 in
     record {
       sent = covers-sent w.script w.run c.args.from w.task w.place x y c.args.base c.args.bits c.args.self.now w.at w.from_known w.entry c.index_mut.result.now c.index_mut.ensures.value;
-      narrow = is-narrow w.script w.run c.args.from w.task w.place x y c.args.base c.args.bits c.args.self.now w.at w.from_known w.entry c.index_mut.result.now c.index_mut.ensures.value;
+      narrow = is-narrow w.script w.run c.args.from w.task w.place x y c.args.base c.args.bits c.args.self.now w.at w.from_known w.entry c.index_mut.result.now c.index_mut.ensures.value w.performed.valid;
     }
 
 pub returns : goal.returns

@@ -3,7 +3,7 @@ use Rattle.lapi_task.proofs.NewStands.{new-stands}
 use Rattle.lapi_task.proofs.task.Task.new.Goals as goal
 
 pub returns : goal.returns
-returns c = new-stands c.args.script.now c.args.task _ (record {
+returns c = new-stands c.args.script.now c.requires.script.valid c.args.task _ (record {
   number = refl;
   next = refl;
   memory = c.in_ok-memory.ensures;
