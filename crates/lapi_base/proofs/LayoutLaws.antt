@@ -1,6 +1,6 @@
 -- What a layout sets, by its number.
 use Rattle.std.proofs.Common.{◌≡◌, ℕ, ◌==◌, true, false, cond, refl}
-use Rattle.lapi_base.specs.Layout.{First, Second, layout_of, longest, longest_active, has_echo}
+use Rattle.lapi_base.specs.Layout.{First, Second, layout_of, longest, longest_active, has_echo, most_lines, most_injected}
 
 pub longest_by : (n : ℕ) → longest (layout_of n) ≡ cond (n == 2) 65536 16384
 longest_by n = elim (n == 2) as (λ b. longest (cond b Second First) ≡ cond b 65536 16384) [ true ↦ refl | false ↦ refl ]
@@ -10,3 +10,9 @@ longest_active_by n = elim (n == 2) as (λ b. longest_active (cond b Second Firs
 
 pub has_echo_by : (n : ℕ) → has_echo (layout_of n) ≡ (n == 2)
 has_echo_by n = elim (n == 2) as (λ b. has_echo (cond b Second First) ≡ b) [ true ↦ refl | false ↦ refl ]
+
+pub most_lines_by : (n : ℕ) → most_lines (layout_of n) ≡ cond (n == 2) 5000 20000
+most_lines_by n = elim (n == 2) as (λ b. most_lines (cond b Second First) ≡ cond b 5000 20000) [ true ↦ refl | false ↦ refl ]
+
+pub most_injected_by : (n : ℕ) → most_injected (layout_of n) ≡ cond (n == 2) 1280 640
+most_injected_by n = elim (n == 2) as (λ b. most_injected (cond b Second First) ≡ cond b 1280 640) [ true ↦ refl | false ↦ refl ]

@@ -1,7 +1,7 @@
 //! What a script's layout of packets sets.
 
 ghost use Rattle.std.specs.Prelude.{◌≡◌};
-ghost use Rattle.lapi_base.specs.Layout.{longest_of, longest_active_of, may_answer};
+ghost use Rattle.lapi_base.specs.Layout.{layout_of, most_lines, most_injected, longest_of, longest_active_of, may_answer};
 
 use crate::script::Script;
 
@@ -28,5 +28,21 @@ impl Script {
         ensures { result ≡ may_answer self.now }
     {
         self.layout == 2
+    }
+
+    /// The most lines of a schedule.
+    #[tactic(auto, using(crate::proofs::LayoutLaws::most_lines_by))]
+    pub fn most_lines(&self) -> usize
+        ensures { result ≡ most_lines (layout_of self.now.layout) }
+    {
+        if self.layout == 2 { 5_000 } else { 20_000 }
+    }
+
+    /// The most bytes that a line injects.
+    #[tactic(auto, using(crate::proofs::LayoutLaws::most_injected_by))]
+    pub fn most_injected(&self) -> usize
+        ensures { result ≡ most_injected (layout_of self.now.layout) }
+    {
+        if self.layout == 2 { 1_280 } else { 640 }
     }
 }

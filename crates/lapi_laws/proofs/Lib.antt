@@ -28,4 +28,5 @@ pub mod Reach
 pub mod Partial
 pub mod Shorts
 pub mod MoreRows
+pub mod SecondLayoutRows
 pub mod TextRows

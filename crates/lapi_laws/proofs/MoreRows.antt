@@ -46,13 +46,13 @@ abbrev span : (at len : ℕ) → Span
 span at len = record { at = at; len = len }
 
 -- the first lines of a row
-abbrev first_lines : ℕ → Row → Row
+abbrev pub first_lines : ℕ → Row → Row
 first_lines n row = record row { lines = take n row.lines }
 
 abbrev with_workers : ℕ → Row → Row
 with_workers n row = record row { script = record row.script { workers = n } }
 
-abbrev quiet_after : ℕ → Row → Bool
+abbrev pub quiet_after : ℕ → Row → Bool
 quiet_after n row = is_quiet row.script builtin (run (first_lines n row))
 
 -- Fences and waits.
@@ -354,7 +354,7 @@ fence_over_all-passed = refl
 -- Handlers.
 
 -- the user header with these three words, each below 256
-abbrev header : (place user choice : ℕ) → List ℕ
+abbrev pub header : (place user choice : ℕ) → List ℕ
 header place user choice = 0 ∷ 0 ∷ 0 ∷ place ∷ 0 ∷ 0 ∷ 0 ∷ user ∷ 0 ∷ 0 ∷ 0 ∷ choice ∷ []
 
 -- Two jobs begin in the order of their landings, at two workers, each of which ends its own.
@@ -656,101 +656,3 @@ one_job-runs = refl
 one_job-quiet : quiet_after 6 one_job ≡ true
 unfolding run is_quiet is_settled is_idle
 one_job-quiet = refl
-
--- Under the second layout an acknowledgement waits for the receiver's poll, and a packet that comes again is
--- acknowledged again at the poll after it.
-abbrev second_layout : Row
-second_layout =
-    record {
-      script = record { layout = 2; tasks = 2; memory = 64; counters = 4; workers = 1; lists = (Store 0 (0x61 ∷ 0x62 ∷ []) ∷ Put 1 (Plain 16) 0 2 None None None ∷ []) ∷ [] ∷ [] };
-      lines = Step 0 ∷ Step 0 ∷ Poll 0 ∷ Deliver 0 1 0 ∷ [];
-    }
-
-abbrev polled_twice : Row
-polled_twice = record { script = second_layout.script; lines = second_layout.lines ++ Poll 1 ∷ Tick 0 ∷ Deliver 0 1 1 ∷ Poll 1 ∷ Poll 1 ∷ Deliver 1 0 1 ∷ [] }
-
-second_layout-journal : journal_of second_layout ≡ Issue 0 0 ∷ Issue 0 1 ∷ Copy (message 0 1 Go) ∷ Land (message 0 1 Go) ∷ []
-unfolding run
-second_layout-journal = refl
-
-second_layout-waits : wire_of second_layout 1 0 ≡ []
-unfolding run
-second_layout-waits = refl
-
-second_layout-owes : (run second_layout).owed 0 1 ≡ true
-unfolding run
-second_layout-owes = refl
-
-polled_twice-acks : wire_of polled_twice 1 0 ≡ Ack 1 0 1 0 ∷ Ack 1 0 1 0 ∷ []
-unfolding run
-polled_twice-acks = refl
-
-polled_twice-owes : (run polled_twice).owed 0 1 ≡ false
-unfolding run
-polled_twice-owes = refl
-
--- A completion handler that answers: its word comes back to the origin, in place of the notice, and fences don't
--- wait for it.
-abbrev answering : Row
-answering =
-    record {
-      script = record { layout = 2; tasks = 2; memory = 64; counters = 4; workers = 1; lists = (Store 0 (1 ∷ 2 ∷ 3 ∷ 4 ∷ []) ∷ Am 1 1 (header 0x10 0x20 4) 0 4 (Some 0) None (Some 0) ∷ []) ∷ [] ∷ [] };
-      lines = Step 0 ∷ Step 0 ∷ Poll 0 ∷ Deliver 0 1 0 ∷ Act.Begin 1 0 ∷ Act.End 1 0 ∷ Poll 1 ∷ Deliver 1 0 0 ∷ Deliver 1 0 1 ∷ Poll 0 ∷ Deliver 0 1 1 ∷ [];
-    }
-
-answering-journal : journal_of answering ≡ Issue 0 0 ∷ Issue 0 1 ∷ Copy (message 0 1 Go) ∷ Event.Head (message 0 1 Go) ∷ Land (message 0 1 Go) ∷ Event.Begin (message 0 1 Go) 1 0 ∷ Event.End (message 0 1 Go) 1 0 ∷ Copy (message 0 1 Echo) ∷ Land (message 0 1 Echo) ∷ []
-unfolding run
-answering-journal = refl
-
-answering-word : take 4 (bytes_of answering 0 0x20) ≡ 0 ∷ 0 ∷ 0 ∷ 10 ∷ []
-unfolding run
-answering-word = refl
-
-answering-counters : counters_of answering 0 ≡ 1 ∷ 0 ∷ 0 ∷ 0 ∷ []
-unfolding run
-answering-counters = refl
-
-answering-wire : wire_of answering 1 0 ≡ Data (record { from = 1; to = 0; seq = 0; name = message 0 1 Echo; head = Head.Echo 0x20 (Some 0); length = 4; fragment = 0; payload = 0 ∷ 0 ∷ 0 ∷ 10 ∷ [] }) ∷ Ack 1 0 1 0 ∷ []
-unfolding run
-answering-wire = refl
-
-answering-quiet : quiet_after 11 answering ≡ true
-unfolding run is_quiet is_settled is_idle
-answering-quiet = refl
-
--- It is quiet once the acknowledgement has come, not while one is owed: a packet that comes once more makes its
--- receiver owe again until the next poll, and nothing else happens.
-abbrev delivered_again : Row
-delivered_again = record { script = second_layout.script; lines = second_layout.lines ++ Poll 1 ∷ Deliver 1 0 0 ∷ Deliver 0 1 0 ∷ Poll 1 ∷ [] }
-
-delivered_again-owes : quiet_after 4 delivered_again ≡ false
-unfolding run is_quiet is_settled is_idle
-delivered_again-owes = refl
-
-delivered_again-quiet : quiet_after 6 delivered_again ≡ true
-unfolding run is_quiet is_settled is_idle
-delivered_again-quiet = refl
-
-delivered_again-owes_again : quiet_after 7 delivered_again ≡ false
-unfolding run is_quiet is_settled is_idle
-delivered_again-owes_again = refl
-
-delivered_again-end : quiet_after 8 delivered_again ≡ true
-unfolding run is_quiet is_settled is_idle
-delivered_again-end = refl
-
--- Nothing is answered under the first layout, nor to an address that is no word's: there is the notice.
-abbrev unanswered : (layout user : ℕ) → Row
-unanswered layout user =
-    record {
-      script = record { layout = layout; tasks = 2; memory = 64; counters = 4; workers = 1; lists = (Store 0 (1 ∷ 2 ∷ 3 ∷ 4 ∷ []) ∷ Am 1 1 (header 0x10 user 4) 0 4 (Some 0) None (Some 0) ∷ []) ∷ [] ∷ [] };
-      lines = Step 0 ∷ Step 0 ∷ Poll 0 ∷ Deliver 0 1 0 ∷ Act.Begin 1 0 ∷ Act.End 1 0 ∷ [];
-    }
-
-unanswered-layout : drop 6 (journal_of (unanswered 1 0x20)) ≡ Event.End (message 0 1 Go) 1 0 ∷ Copy (message 0 1 Note) ∷ []
-unfolding run
-unanswered-layout = refl
-
-unanswered-place : drop 6 (journal_of (unanswered 2 0x22)) ≡ Event.End (message 0 1 Go) 1 0 ∷ Copy (message 0 1 Note) ∷ []
-unfolding run
-unanswered-place = refl

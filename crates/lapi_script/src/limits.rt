@@ -16,9 +16,6 @@ const MOST_STORED: usize = 1024;
 /// The most bytes of a user header, as it is written.
 const MOST_USER_HEADER: usize = 128;
 
-/// The most bytes that a line injects.
-const MOST_INJECTED: usize = 640;
-
 pub(crate) fn checked_sizes(script: Script) -> Result<Script, LineFault>
     ensures { Gives (λ script. script) result (checked_sizes script) }
 {
@@ -108,7 +105,7 @@ pub(crate) fn keeps_injected(script: &Script, act: &Act) -> bool
     ensures { result ≡ keeps_injected script.now act.now }
 {
     match act {
-        Act::Inject { bytes, .. } => bytes.as_slice().len() <= MOST_INJECTED,
+        Act::Inject { bytes, .. } => bytes.as_slice().len() <= script.most_injected(),
         _ => true,
     }
 }

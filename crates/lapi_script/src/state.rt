@@ -31,9 +31,6 @@ use std::mem;
 /// The most statements of a task.
 const MOST_STATEMENTS: usize = 512;
 
-/// The most lines of a schedule.
-const MOST_LINES: usize = 20_000;
-
 /// What was read so far, by which line is awaited.
 #[derive(Debug, Drop)]
 pub(crate) enum State {
@@ -127,7 +124,7 @@ fn on_line(script: Script, mut schedule: Schedule, line: Line) -> Result<State, 
     if !is_built_act(&line.act) {
         return Err(limit(Which::Unbuilt));
     }
-    if schedule.as_slice().len() >= MOST_LINES {
+    if schedule.as_slice().len() >= script.most_lines() {
         return Err(limit(Which::Lines));
     }
     if line.lane > 15 {
