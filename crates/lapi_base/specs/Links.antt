@@ -1,14 +1,16 @@
 -- What is bounded on a link: how far numbers run ahead, how many messages are there in part, how great numbers
 -- get. These are words of this project for its laws.
-use Rattle.std.specs.Prelude.{◌≡◌, ℕ, ◌+◌, ◌^◌, ◌<◌, ◌≤◌, true, false, List, length, slice_get, Some}
+use Rattle.std.specs.Prelude.{◌≡◌, ℕ, ◌+◌, ◌^◌, ◌<◌, ◌≤◌, true, false, List, [], ◌∷◌, length, slice_get, Some}
 use Rattle.std.specs.List.{AllByRecursion, IsDistinct}
 use Rattle.lapi_base.specs.declared.script.Script.{Script}
 use Rattle.lapi_base.specs.declared.rule.Rules.{Rules}
 use Rattle.lapi_base.specs.declared.message.MsgName.{MsgName}
+use Rattle.lapi_base.specs.declared.event.Event.{Event}
+use Rattle.lapi_base.specs.declared.packet.Packet.{Packet}
 use Rattle.lapi_base.specs.Layout.{window_of, holds_back}
 use Rattle.lapi_base.specs.Below.{least_missing}
 use Rattle.lapi_base.specs.Names.{name_eq}
-use Rattle.lapi_base.specs.Record.{Run, out, base, is_sent, is_delivered, is_acked}
+use Rattle.lapi_base.specs.Record.{Run, out, base, is_sent, is_delivered, is_acked, packets, fresh, at_once, sends}
 use Rattle.lapi_base.specs.Valid.{ValidScript}
 
 module _ (script : Script) (rules : Rules) where
@@ -27,6 +29,12 @@ module _ (script : Script) (rules : Rules) where
   -- an acknowledgement is owed under a layout that holds them back alone, and between tasks that there are
   abbrev pub OwedAreHeldBack : Run → Type 0
   OwedAreHeldBack r = (a b : ℕ) → r.owed a b ≡ true → (holds_back script ≡ true) × (a < script.tasks) × (b < script.tasks)
+
+  -- Where the layout holds nothing back, nothing is owed: each delivery of a data packet puts its acknowledgement on the wire, and a Poll sends data alone.
+  abbrev pub TellsAtOnce : Run → Type 0
+  TellsAtOnce r =
+      holds_back script ≡ false
+      → ((a b : ℕ) → r.owed a b ≡ false) × ((told : Packet) → at_once script rules told ≡ told ∷ []) × ((J : List Event) (a b : ℕ) → sends script rules r J a b ≡ packets script rules J a b (fresh script rules r J a b))
 
   -- number n of the link is one of message m
   abbrev pub IsNumberOf : Run → (from to : ℕ) → MsgName → ℕ → Type 0

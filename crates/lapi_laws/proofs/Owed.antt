@@ -1,8 +1,9 @@
 -- What is owed is held back by the layout, and between tasks that there are.
-use Rattle.std.proofs.Common.{◌≡◌, ℕ, ◌<◌, ◌==◌, Bool, true, false, cond, ◌&&◌, ◌||◌, not, List, [], ◌∷◌, length, Some, None, sym, subst, ⊎_elim}
+use Rattle.std.proofs.Common.{◌≡◌, ℕ, ◌<◌, ◌==◌, Bool, true, false, cond, ◌&&◌, ◌||◌, not, List, [], ◌∷◌, ◌++◌, length, Some, None, sym, ap, ◌∙◌, subst, ⊎_elim}
 use Rattle.std.specs.Prelude.{slice_get, nat_lt}
 use Rattle.std.specs.List.{AllByRecursion}
-use Rattle.std.proofs.lemmas.Bool.{false≢true, and_parts, cond_both, eqb-true, or_cases}
+use Rattle.std.proofs.lemmas.Bool.{both_ways, false≢true, and_parts, cond_both, cond-false, false_from_ne_true, eqb-true, or_cases}
+use Rattle.std.proofs.lemmas.List.{append-nil}
 use Rattle.lapi_base.specs.declared.script.Script.{Script}
 use Rattle.lapi_base.specs.declared.rule.Rules.{Rules}
 use Rattle.lapi_base.specs.declared.schedule.Act.{Act}
@@ -16,9 +17,9 @@ use Rattle.lapi_base.specs.Operations.{statements}
 use Rattle.lapi_base.specs.Refusals.{next, why}
 use Rattle.lapi_base.specs.Jobs.{queue, runs}
 use Rattle.lapi_base.specs.Valid.{ValidAct}
-use Rattle.lapi_base.specs.Record.{Run, start, poll, tick, hand_over, deliver, deliver_entry, unless_refused, add_event, reply_with, step, begin_first, begin_at, begin, end_at, end, cut_entry, perform, after, run_of}
+use Rattle.lapi_base.specs.Record.{Run, start, packets, fresh, ack, owed_ack, at_once, sends, poll, tick, hand_over, deliver, deliver_entry, unless_refused, add_event, reply_with, step, begin_first, begin_at, begin, end_at, end, cut_entry, perform, after, run_of}
 use Rattle.lapi_base.specs.Headline.{HoldsOfRuns}
-use Rattle.lapi_base.specs.Links.{OwedAreHeldBack}
+use Rattle.lapi_base.specs.Links.{OwedAreHeldBack, TellsAtOnce}
 
 module _ (script : Script) (rules : Rules) where
   -- a packet that is handed over between tasks that there are
@@ -62,3 +63,18 @@ module _ (script : Script) (rules : Rules) where
 pub run-owed : HoldsOfRuns OwedAreHeldBack
 unfolding run_of
 run-owed script rules spells size refusal acts v = after-owed script rules spells size refusal acts start v (λ a b e. absurd (false≢true e))
+
+-- so where the layout holds nothing back, all is told at once
+pub owed-told : (script : Script) (rules : Rules) (r : Run) → OwedAreHeldBack script rules r → TellsAtOnce script rules r
+unfolding owed_ack at_once
+owed-told script rules r held now = (
+  none,
+  λ told. cond-false (holds_back script) [] (told ∷ []) now,
+  λ J a b. ap (λ ps. packets script rules J a b (fresh script rules r J a b) ++ ps) (cond-false (r.owed b a) (ack script rules r b a ∷ []) [] (none b a)) ∙ append-nil (packets script rules J a b (fresh script rules r J a b)),
+)
+  where
+    none : (a b : ℕ) → r.owed a b ≡ false
+    none a b = false_from_ne_true (r.owed a b) (λ owed. both_ways _ now (held a b owed).0)
+
+pub run-told : HoldsOfRuns TellsAtOnce
+run-told script rules spells size refusal acts v = owed-told script rules (run_of script rules size refusal acts) (run-owed script rules spells size refusal acts v)

@@ -1,6 +1,6 @@
 //! What is bounded on every link.
 ghost use Rattle.lapi_base.specs.Headline.{HoldsOfRuns};
-ghost use Rattle.lapi_base.specs.Links.{AckedAreDelivered, SentAreInWindow, StaysInWindow, OwedAreHeldBack, FewArePartial, NumbersAreSmall, NumbersFit};
+ghost use Rattle.lapi_base.specs.Links.{AckedAreDelivered, SentAreInWindow, StaysInWindow, OwedAreHeldBack, TellsAtOnce, FewArePartial, NumbersAreSmall, NumbersFit};
 
 /// What is acknowledged was delivered, and what was sent lies in the window of the sender, and of the receiver.
 pub fn window_is_kept()
@@ -9,9 +9,11 @@ pub fn window_is_kept()
     ensures reach { HoldsOfRuns StaysInWindow }
 {}
 
-/// An acknowledgement is owed where the layout holds it back, and nowhere else.
+/// An acknowledgement is owed where the layout holds it back, and nowhere else. Where it holds none back, each
+/// delivery of a data packet is acknowledged at once, and a poll sends data alone.
 pub fn owed_are_held_back()
-    ensures { HoldsOfRuns OwedAreHeldBack }
+    ensures held { HoldsOfRuns OwedAreHeldBack }
+    ensures told { HoldsOfRuns TellsAtOnce }
 {}
 
 /// At most as many messages of a link are there in part as the window has numbers.

@@ -9,9 +9,9 @@ use Rattle.lapi_base.specs.declared.event.Event.{Event}
 use Rattle.lapi_base.specs.Layout.{unit, longest, window, layout_of, waits_for_poll, unit_of, longest_of, window_of, holds_back}
 use Rattle.lapi_base.specs.Record.{Run, packets, fresh, ack, owed_ack, at_once, sends}
 use Rattle.lapi_base.specs.Valid.{ValidScript}
-use Rattle.lapi_base.specs.Links.{OwedAreHeldBack}
+use Rattle.lapi_base.specs.Links.{TellsAtOnce}
 use Rattle.lapi_base.specs.Seen.{IsRecord, HoldsOfRecords}
-use Rattle.lapi_laws.proofs.Owed.{run-owed}
+use Rattle.lapi_laws.proofs.Owed.{run-told}
 use Rattle.lapi_parts.proofs.Records.{of-runs}
 
 pub first-unit : (script : Script) → ValidScript script → unit_of script ≡ 256
@@ -30,17 +30,16 @@ pub holds-nothing : (script : Script) → ValidScript script → holds_back scri
 unfolding holds_back
 holds-nothing script valid = ap (λ n. waits_for_poll (layout_of n)) valid.layout
 
-pub told-at-once : (script : Script) (rules : Rules) → ValidScript script → (p : Packet) → at_once script rules p ≡ p ∷ []
-unfolding at_once
-told-at-once script rules valid p = cond-false (holds_back script) [] (p ∷ []) (holds-nothing script valid)
+module _ (script : Script) (rules : Rules) (valid : ValidScript script) where
+  record-told : (r : Run) → IsRecord script rules r → TellsAtOnce script rules r
+  record-told = of-runs TellsAtOnce run-told script rules
 
-record-owed : HoldsOfRecords OwedAreHeldBack
-record-owed = of-runs OwedAreHeldBack run-owed
+  pub told-at-once : (p : Packet) → at_once script rules p ≡ p ∷ []
+  unfolding at_once
+  told-at-once p = cond-false (holds_back script) [] (p ∷ []) (holds-nothing script valid)
 
-pub none-owed : (script : Script) (rules : Rules) (r : Run) → ValidScript script → IsRecord script rules r → (a b : ℕ) → r.owed a b ≡ false
-none-owed script rules r valid is a b = false_from_ne_true (r.owed a b) (λ owed. both_ways _ (holds-nothing script valid) (record-owed script rules r is a b owed).0)
+  pub none-owed : (r : Run) → IsRecord script rules r → (a b : ℕ) → r.owed a b ≡ false
+  none-owed r is = (record-told r is (holds-nothing script valid)).0
 
-pub sends-data : (script : Script) (rules : Rules) (r : Run) → ValidScript script → IsRecord script rules r → (J : List Event) (a b : ℕ) → sends script rules r J a b ≡ packets script rules J a b (fresh script rules r J a b)
-unfolding owed_ack
-sends-data script rules r valid is J a b =
-    ap (λ ps. packets script rules J a b (fresh script rules r J a b) ++ ps) (cond-false (r.owed b a) (ack script rules r b a ∷ []) [] (none-owed script rules r valid is b a)) ∙ append-nil (packets script rules J a b (fresh script rules r J a b))
+  pub sends-data : (r : Run) → IsRecord script rules r → (J : List Event) (a b : ℕ) → sends script rules r J a b ≡ packets script rules J a b (fresh script rules r J a b)
+  sends-data r is = (record-told r is (holds-nothing script valid)).2

@@ -164,13 +164,13 @@ module _ (script : Script) (valid : ValidScript script) (t : ℕ) (r : Run) (rec
         ∙ ap (λ n. map (λ i. low + i) (upto n)) (room (length (out script J t b)) s.window.numbers (base script then_ t b) (base_of s.window) (window_of script) s.window.window low (length s.waiting) (sym h.numbers.numbers) base-is h.numbers.size h.whole)
 
     pub polled-spelled : map written.packet (polled script no_rules r t b) ≡ packets_now s
-    polled-spelled = ap (map written.packet) (sends-data script no_rules r valid recorded J t b) ∙ ap (λ ns. map written.packet (packets script no_rules J t b ns)) fresh-is ∙ packets-waiting script J t b low s.waiting h.waiting count count-fits
+    polled-spelled = ap (map written.packet) (sends-data script no_rules valid r recorded J t b) ∙ ap (λ ns. map written.packet (packets script no_rules J t b ns)) fresh-is ∙ packets-waiting script J t b low s.waiting h.waiting count count-fits
 
     sent-now : (n : ℕ) → has_number (r.wire t b ++ polled script no_rules r t b) n ≡ nat_lt n (low + count)
     unfolding has_number
     sent-now n =
         list_any-append (is_number n) (r.wire t b) (polled script no_rules r t b)
-        ∙ ap (λ ps. list_any (is_number n) (r.wire t b) || list_any (is_number n) ps) (sends-data script no_rules r valid recorded J t b)
+        ∙ ap (λ ps. list_any (is_number n) (r.wire t b) || list_any (is_number n) ps) (sends-data script no_rules valid r recorded J t b)
         ∙ (λ i. h.numbers.sent n i || list_any (is_number n) (packets script no_rules J t b (fresh-is i)))
         ∙ numbers-waiting script J t b low s.waiting h.waiting count n count-fits
 

@@ -153,7 +153,7 @@ module _ (script : Script) (r : Run) (a b : ℕ) (s : SendingEnd) (h : SendsFor 
       ap (λ x. x && sendable s == 0) (sym told-is)
       ∙ ap (λ x. list_all (is_told script no_rules r a b) (r.wire a b) && x) (sym (fresh-is is))
       ∙ sym (and-yes (list_all (is_told script no_rules r a b) (r.wire a b) && is_empty (fresh script no_rules r r.journal a b)))
-      ∙ ap (λ o. list_all (is_told script no_rules r a b) (r.wire a b) && is_empty (fresh script no_rules r r.journal a b) && not o) (sym (none-owed script no_rules r valid is a b))
+      ∙ ap (λ o. list_all (is_told script no_rules r a b) (r.wire a b) && is_empty (fresh script no_rules r r.journal a b) && not o) (sym (none-owed script no_rules valid r is a b))
     where
       and-yes : (x : Bool) → (x && true) ≡ x
       and-yes true = refl
