@@ -1,0 +1,9 @@
+pub mod StridedPieces
+pub mod CompiledStatements
+pub mod ArrayStages
+pub mod StagesAreMade
+pub mod UnwrittenStays
+pub mod NeverRefused
+pub mod PlainArrays
+pub mod SmallPlan
+pub mod PlanLines

@@ -1,0 +1,3 @@
+pub mod EpochOrder
+pub mod GatheredPieces
+pub mod StagedBytes
