@@ -12,6 +12,7 @@ use Rattle.lapi_laws.proofs.NumberLaws.{below-all}
 use Rattle.lapi_laws.proofs.Deeds.{eqb-refl}
 use Rattle.lapi_laws.proofs.Places.{upto-length}
 use Rattle.lapi_laws.proofs.Turns.{below-place}
+use Rattle.lapi_parts.proofs.SentFront.{get-some}
 use Rattle.lapi_blocks.specs.declared.plan.Op.{Op}
 use Rattle.lapi_blocks.specs.declared.plan.Op.TheVariants.{Set, Get}
 use Rattle.lapi_blocks.specs.declared.plan.Plan.{Plan}
@@ -31,11 +32,6 @@ pub nth-of_get : {X : Type 0} (xs : List X) (i : ℕ) (d x : X) → slice_get xs
 nth-of_get [] i d x h = absurd (cc)
 nth-of_get (y ∷ xs) zero d x h = (Rattle.lapi_laws.proofs.Arrival.some-same y x h, omega arith)
 nth-of_get (y ∷ xs) (suc i) d x h = let r = nth-of_get xs i d x h in (r.0, omega (arith, r.1))
-
-pub get-of_nth : {X : Type 0} (xs : List X) (i : ℕ) → i < length xs → (x : X) × (slice_get xs i ≡ Some x)
-get-of_nth [] i l = absurd (omega arith)
-get-of_nth (y ∷ xs) zero l = (y, refl)
-get-of_nth (y ∷ xs) (suc i) l = get-of_nth xs i (omega arith)
 
 nth-last : (xs : List Statement) (s d : Statement) → get_or (xs ++ s ∷ []) (length xs) d ≡ s
 nth-last xs s d =
@@ -234,7 +230,7 @@ module _ (plan : Plan) where
       let f = find count a i l in
       let k = f.0 in
       let o = f.1 in
-      let got = get-of_nth plan.ops k f.2 in
+      let got = get-some plan.ops k f.2 in
       let is = statement-is a i t ∙ f.5 in
       let size = round-length k a in record {
         k = k;

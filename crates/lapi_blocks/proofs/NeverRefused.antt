@@ -2,7 +2,7 @@
 use Rattle.std.proofs.Common.{◌≡◌, ◌⊎◌, ℕ, suc, ◌+◌, ◌-◌, ◌*◌, ◌/◌, ◌%◌, ◌<◌, ◌≤◌, ◌==◌, Bool, true, false, not, cond, ◌||◌, List, [], ◌∷◌, length, map, Some, None, refl, sym, ap, ◌∙◌, subst, ⊎_elim, arith}
 use Rattle.std.specs.Prelude.{nat_lt, nat_le, slice_get, max, min}
 use Rattle.std.specs.List.{AllByRecursion, list_any, zip}
-use Rattle.std.proofs.lemmas.Bool.{lt-ltb, le-ltb, le-leb, ltb-true, and_parts}
+use Rattle.std.proofs.lemmas.Bool.{or_from, lt-ltb, le-ltb, le-leb, ltb-true, and_parts}
 use Rattle.std.proofs.lemmas.Nat.{mul-le}
 use Rattle.std.proofs.lemmas.List.{length-map}
 use Rattle.lapi_base.specs.declared.address.Addr.TheVariants.{Plain}
@@ -94,9 +94,6 @@ not-within a b l = ap not (le-leb a b l)
 same-lengths : (m n : ℕ) → m ≡ n → not (m == n) ≡ false
 same-lengths m n e = ap (λ k. not (k == n)) e ∙ ap not (eqb-refl n)
 
-both-false : (x y : Bool) → x ≡ false → y ≡ false → (x || y) ≡ false
-both-false x y p q = ap (λ b. b || y) p ∙ q
-
 long-by : (layout : Layout) (n : ℕ) → n ≤ 16384 → nat_lt (longest layout) n ≡ false
 long-by First n l = le-ltb 16384 n l
 long-by Second n l = le-ltb 65536 n (omega arith)
@@ -121,14 +118,14 @@ putv-kept script rules J a i w b1 s1 b2 s2 block n g e =
           (
             refl,
             (
-              both-false _ _ long1 long2,
+              or_from _ _ long1 long2,
               (
                 stride-none _ b1 block s1 n (λ k l. refl),
                 (
                   refl,
                   (
                     refl,
-                    (same-lengths _ _ (stride-count b1 block s1 n ∙ sym (stride-count b2 block s2 n)), (stride-lens b1 b2 block s1 s2 n, (both-false _ _ (le-ltb s1 block g.apart1) (le-ltb s2 block g.apart2), (refl, tt)))),
+                    (same-lengths _ _ (stride-count b1 block s1 n ∙ sym (stride-count b2 block s2 n)), (stride-lens b1 b2 block s1 s2 n, (or_from _ _ (le-ltb s1 block g.apart1) (le-ltb s2 block g.apart2), (refl, tt)))),
                   ),
                 ),
               ),
@@ -154,14 +151,14 @@ getv-kept script rules J a i w b1 s1 b2 s2 block n g e =
           (
             refl,
             (
-              both-false _ _ long1 long2,
+              or_from _ _ long1 long2,
               (
                 stride-none _ b1 block s1 n (λ k l. refl),
                 (
                   refl,
                   (
                     refl,
-                    (same-lengths _ _ (stride-count b1 block s1 n ∙ sym (stride-count b2 block s2 n)), (stride-lens b1 b2 block s1 s2 n, (both-false _ _ (le-ltb s2 block g.apart2) (le-ltb s1 block g.apart1), (refl, tt)))),
+                    (same-lengths _ _ (stride-count b1 block s1 n ∙ sym (stride-count b2 block s2 n)), (stride-lens b1 b2 block s1 s2 n, (or_from _ _ (le-ltb s2 block g.apart2) (le-ltb s1 block g.apart1), (refl, tt)))),
                   ),
                 ),
               ),
@@ -176,7 +173,7 @@ unfolding why why_by address
 store-kept script rules J a i at bytes l e =
     rw e
     (none-of _
-    (refl, (refl, (both-false _ _ (not-within (at + length bytes) script.memory l) refl, (refl, (refl, (refl, (refl, (refl, (refl, (refl, (refl, (refl, tt)))))))))))))
+    (refl, (refl, (or_from _ _ (not-within (at + length bytes) script.memory l) refl, (refl, (refl, (refl, (refl, (refl, (refl, (refl, (refl, (refl, tt)))))))))))))
 
 module _ (plan : Plan) (valid : ValidPlan plan) where
   -- ---- where the two sides of a move lie

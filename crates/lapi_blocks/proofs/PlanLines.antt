@@ -27,6 +27,8 @@ use Rattle.lapi_laws.proofs.Runs.{start-sound}
 use Rattle.lapi_laws.proofs.Follows.{Owes, after-owes}
 use Rattle.lapi_base.specs.Operations.{upto, statements, statement, is_am, target_of, sender, receiver, is_data, has_back, has_join, has_leg, cmpl_counter, length_by, message_length, fragment_count}
 use Rattle.lapi_laws.proofs.Places.{place-below}
+use Rattle.lapi_laws.proofs.Still.{back-data}
+use Rattle.lapi_parts.proofs.SentFront.{get-some}
 use Rattle.lapi_blocks.specs.declared.plan.Op.{Op}
 use Rattle.lapi_blocks.specs.declared.plan.Op.TheVariants.{Set, Get}
 use Rattle.lapi_blocks.specs.declared.plan.Plan.{Plan}
@@ -42,7 +44,7 @@ use Rattle.lapi_flush.proofs.ServedParts.{named-append}
 use Rattle.lapi_flush.proofs.FlushedTasks.{sum-le, after-join}
 use Rattle.lapi_flush.proofs.CalledRounds.{round-done}
 use Rattle.lapi_blocks.specs.PlanRuns.{op_begin, op_fence, plan_acts, PlansRun, PlansAreShort, PlansAreValid}
-use Rattle.lapi_blocks.proofs.CompiledStatements.{is_set, all-nth, nth-of_get, get-of_nth, all-map, body, begin, round, count, begin-more, begin-zero, round-length, at-place, in-body, at-fence, epoch-is, statements-are, stand, IsStored, IsMoved}
+use Rattle.lapi_blocks.proofs.CompiledStatements.{is_set, all-nth, nth-of_get, all-map, body, begin, round, count, begin-more, begin-zero, round-length, at-place, in-body, at-fence, epoch-is, statements-are, stand, IsStored, IsMoved}
 use Rattle.lapi_blocks.proofs.ArrayStages.{within}
 use Rattle.lapi_blocks.proofs.PlainArrays.{all-plain}
 use Rattle.std.proofs.Common.{◌^◌}
@@ -308,12 +310,6 @@ module _ (plan : Plan) (valid : ValidPlan plan) (rules : Rules) where
       let at = at-place plan k a o la lk (omega arith) in
       ap (λ n. is_call (statement (compiled plan) a n)) (sym here) ∙ ap is_call (at.1 ∙ in-body plan k a o lt) ∙ all-nth (λ s. is_call s ≡ true) (body plan k a) o Fence (op-calls plan k (slice_get plan.ops k) a) lt
 
-  back-moves : (s : Statement) → has_back s ≡ true → is_data s ≡ true
-  back-moves (statements_of.Get target from to len tgt org) h = refl
-  back-moves (Getv target from to tgt org) h = refl
-  back-moves (statements_of.Rmw target op at in1 in2 prev org) h = refl
-  back-moves _ h = absurd (false≢true h)
-
   -- the messages of operation k on a link
   link_messages : (k : ℕ) (op : Op) (a b : ℕ) → List MsgName
   link_messages k op a b =
@@ -334,7 +330,7 @@ module _ (plan : Plan) (valid : ValidPlan plan) (rules : Rules) where
       let own : a ≡ t = sym from ∙ r.1 in
       subst (λ ms. In ms (message o i Go)) (sym (cond-true (a == t) (message t (move_place k op b) Go ∷ backs) backs (eq-eqb a t own))) (inl (λ j. message (sym r.1 j) (sym place j) Go))
   in-link k op a b o i Back e has leg low high from to =
-      let r = data-place k op o i e has.0 low high (back-moves (statement (compiled plan) o i) leg) in
+      let r = data-place k op o i e has.0 low high (back-data (statement (compiled plan) o i) leg) in
       let w : r.0 ≡ a = sym (ap (λ s. unwrap_or (target_of s) o) r.3 ∙ ap (λ x. unwrap_or x o) (moves-target plan k op (part_of plan (patch_of op) r.0))) ∙ from in
       let place : i ≡ move_place k op a = r.2 ∙ ap (move_place k op) w in
       let t = (patch_of op).task in
@@ -401,7 +397,7 @@ module _ (plan : Plan) (valid : ValidPlan plan) (rules : Rules) where
         let at = at-place plan k a (length (body plan k a)) la lk room in
         (at.1 ∙ at-fence plan k a, epoch-is plan k a (length (body plan k a)) la lk room);
     few = λ k a b lk la lb.
-        let got = get-of_nth plan.ops k lk in
+        let got = get-some plan.ops k lk in
         let op = got.0 in
         let t = (within plan valid k op got.1).task in (
           link_messages k op a b,
@@ -462,7 +458,7 @@ module _ (plan : Plan) (valid : ValidPlan plan) (rules : Rules) where
 
   calls-few : (k : ℕ) → k < count plan → sum_to (tasks_of plan) (λ a. op_fence plan k a - op_begin plan k a) ≤ 9
   calls-few k lk =
-      let got = get-of_nth plan.ops k lk in
+      let got = get-some plan.ops k lk in
       let op = got.0 in
       let t = (patch_of op).task in
       let T = tasks_of plan in
@@ -487,7 +483,7 @@ module _ (plan : Plan) (valid : ValidPlan plan) (rules : Rules) where
   round-weight : (k : ℕ) (lk : k < count plan) (w : ℕ → ℕ → ℕ) → ((a b : ℕ) (la : a < tasks_of plan) (lb : b < tasks_of plan) → w a b ≤ weigh (compiled plan) (plan-fenced.few k a b lk la lb).0) → sum_to (tasks_of plan) (λ a. sum_to (tasks_of plan) (w a)) ≤ 128
   unfolding plan-fenced
   round-weight k lk w h =
-      let got = get-of_nth plan.ops k lk in
+      let got = get-some plan.ops k lk in
       let op = got.0 in
       let t = (patch_of op).task in
       let T = tasks_of plan in

@@ -20,7 +20,8 @@ use Rattle.lapi_laws.proofs.NumberLaws.{filter-push, filter-all, below-all, all-
 use Rattle.lapi_laws.proofs.Deeds.{done-nil, done-cases, done-later, done-head}
 use Rattle.lapi_laws.proofs.Backward.{Atomic-head, Atomic-tail, shown, there, behind, next-later}
 use Rattle.lapi_laws.proofs.Once.{atomic-end}
-use Rattle.lapi_laws.proofs.Fences.{global-fences-wait}
+use Rattle.lapi_laws.proofs.Fences.{gfence-is, global-fences-wait}
+use Rattle.lapi_parts.proofs.Replay.{done-later-all}
 use Rattle.lapi_epochs.specs.Epochs.{epoch, Has, IsOver, EpochsWait}
 
 -- ---- numbers
@@ -91,10 +92,6 @@ epoch-below script a (suc i) =
     cond_both fence (xs ++ i ∷ []) xs (λ ys. length ys ≡ epoch script a i + cond fence 1 0)
     (λ h. length_push xs i ∙ one-fence fence (length xs) (epoch script a i) h (epoch-below script a i))
     (λ h. no-fence fence (length xs) (epoch script a i) h (epoch-below script a i))
-
-gfence-is : (s : Statement) → is_gfence s ≡ true → s ≡ Gfence
-gfence-is Gfence h = refl
-gfence-is _ h = absurd (false≢true h)
 
 -- the round of a global fence is its epoch
 pub round-epoch : (script : Script) (a g : ℕ) → g < length (statements script a) → is_gfence (statement script a g) ≡ true → round_of script a g ≡ epoch script a g
@@ -208,10 +205,6 @@ module _ (script : Script) (rules : Rules) where
       (λ (x : done d J ≡ true). let r = stood d J x in (r.0, r.1, r.2, (e ∷ r.3.0, ap (λ K. e ∷ K) r.3.1)))
       (done-cases d e J h)
 
-  pub grown-done : (later J : List Event) (d : Deed) → done d J ≡ true → done d (later ++ J) ≡ true
-  grown-done [] J d h = h
-  grown-done (e ∷ later) J d h = done-later d e (later ++ J) (grown-done later J d h)
-
   pub grown-next : (later J : List Event) (a : ℕ) → next J a ≤ next (later ++ J) a
   grown-next [] J a = omega arith
   grown-next (e ∷ later) J a = let h = grown-next later J a in let q = next-later e (later ++ J) a in omega arith
@@ -256,7 +249,7 @@ module _ (script : Script) (rules : Rules) where
   over-before later before a i k h hb l entered earlier =
       let come : k ≤ next before a = behind script rules (Entered a k) before hb entered in
       let grown = grown-next later before a in
-      (omega arith, λ moved issued. grown-done later before _ (earlier i l moved (issued-early later before a i h (omega arith) issued)))
+      (omega arith, λ moved issued. done-later-all later before _ (earlier i l moved (issued-early later before a i h (omega arith) issued)))
 
   -- a statement of a fence's epoch stands before it
   in-epoch : (a i k : ℕ) → is_gfence (statement script a k) ≡ true → is_gfence (statement script a i) ≡ false → epoch script a i ≤ epoch script a k → i < k

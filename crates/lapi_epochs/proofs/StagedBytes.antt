@@ -2,7 +2,7 @@
 use Rattle.std.proofs.Common.{◌≡◌, ◌⊎◌, ℕ, zero, suc, ◌<◌, ◌≤◌, ◌==◌, Bool, true, false, cond, ◌&&◌, ◌||◌, List, [], ◌∷◌, length, Some, None, refl, sym, ap, ◌∙◌, subst, ⊎_elim, inl, inr, arith}
 use Rattle.std.specs.List.{AllByRecursion}
 use Rattle.std.proofs.Math.Seq.{take-length}
-use Rattle.std.proofs.lemmas.Bool.{false≢true, and_parts, or_parts, both_ways, cond_both, cond-true, cond-false, eqb-true, cases_lt, cases_order, ltb-true, lt-ltb, le-ltb, cases_Bool, false_from_ne_true}
+use Rattle.std.proofs.lemmas.Bool.{false≢true, or_from, and_parts, or_parts, both_ways, cond_both, cond-true, cond-false, eqb-true, cases_lt, cases_order, ltb-true, lt-ltb, le-ltb, cases_Bool, false_from_ne_true}
 use Rattle.lapi_base.specs.declared.script.Script.{Script}
 use Rattle.lapi_base.specs.declared.statement.Statement.{Statement}
 use Rattle.lapi_base.specs.declared.statement.Statement.TheVariants.{Store, Put, Get, Putv, Getv, Rmw, Am}
@@ -82,12 +82,7 @@ not-store script rules (Store at bytes) h = absurd (false≢true (sym h))
 not-store script rules _ h = refl
 
 silent-pieces : (s : Statement) → goes s ≡ false → comes s ≡ false → is_store s ≡ false → written_pieces s ≡ []
-silent-pieces s g c k = cond-false (goes s) (target_pieces s) _ g ∙ cond-false (comes s || is_store s) (origin_pieces s) [] (or-none (comes s) (is_store s) c k)
-  where
-    or-none : (x y : Bool) → x ≡ false → y ≡ false → (x || y) ≡ false
-    or-none false false p q = refl
-    or-none true y p q = absurd (false≢true (sym p))
-    or-none false true p q = absurd (false≢true (sym q))
+silent-pieces s g c k = cond-false (goes s) (target_pieces s) _ g ∙ cond-false (comes s || is_store s) (origin_pieces s) [] (or_from (comes s) (is_store s) c k)
 
 -- the statement that a deed is of
 deed_place : Deed → ℕ × ℕ

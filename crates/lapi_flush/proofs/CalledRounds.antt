@@ -30,11 +30,13 @@ use Rattle.lapi_laws.proofs.Sound.{implied-from}
 use Rattle.lapi_laws.proofs.Arrival.{all_numbers-from}
 use Rattle.lapi_laws.proofs.Deeds.{eqb-refl, done-nil, done-cases, done-later, done-head}
 use Rattle.lapi_laws.proofs.Lines.{SoundRun}
+use Rattle.lapi_laws.proofs.Still.{back-data}
 use Rattle.lapi_laws.proofs.Turns.{step-sound, below-place}
 use Rattle.lapi_laws.proofs.Follows.{Stand, Owes, perform-owes}
 use Rattle.lapi_laws.proofs.Backward.{Atomic-head, Atomic-tail, closed, there, behind}
 use Rattle.lapi_base.specs.Seen.{HoldsOfRecords}
 use Rattle.lapi_parts.proofs.Records.{record-sound}
+use Rattle.lapi_parts.proofs.Replay.{done-later-all}
 use Rattle.lapi_epochs.specs.Epochs.{Has}
 use Rattle.lapi_flush.specs.Flushed.{data_count, sum_to, all_data, IsCalm}
 use Rattle.lapi_epochs.specs.Stages.{is_store, goes, comes}
@@ -44,10 +46,10 @@ use Rattle.lapi_flush.specs.Settled.{IsSettled, two_sweeps}
 use Rattle.lapi_flush.specs.Rounds.{weigh, IsFenced, IsAtRound, steps_of, steps_to, calls_to, and_after, round_acts, RoundsGoOn}
 use Rattle.lapi_epochs.proofs.EpochOrder.{taken, kind, has-of, round-epoch}
 use Rattle.lapi_epochs.proofs.StagedBytes.{data-not_passed}
-use Rattle.lapi_flush.proofs.SettledRecords.{record-owes, growth, grows-on, ends-there, ready-go, ready-join, back-data, needed-go, settles}
+use Rattle.lapi_flush.proofs.SettledRecords.{record-owes, growth, grows-on, ends-there, ready-go, ready-join, needed-go, settles}
 use Rattle.lapi_flush.proofs.NoneOwed.{IsPaid, after-paid, record-paid}
 use Rattle.lapi_flush.proofs.ServedParts.{named-append, after-more, place-below}
-use Rattle.lapi_flush.proofs.SweptTasks.{same-next, same-entered, kept-done}
+use Rattle.lapi_flush.proofs.SweptTasks.{done-before, same-next, same-entered, kept-done}
 use Rattle.lapi_flush.proofs.FlushedTasks.{after-join}
 
 -- ---- lines that add events of statements alone
@@ -83,24 +85,16 @@ module _ (script : Script) (rules : Rules) where
   pub no-steps : (r : Run) → Steps r r
   no-steps r = record { wires = λ x y. refl; hands = λ x y. refl; later = []; journal = refl; calls = tt }
 
-  done-back : (later J : List Event) (d : Deed) → AllByRecursion IsOfCall later → IsOfMessages d → done d (later ++ J) ≡ true → done d J ≡ true
-  done-back [] J d h g x = x
-  done-back (e ∷ later) J d h g x = ⊎_elim (λ (y : d ≡ deed e). absurd (call-apart e d h.0 g y)) (λ (y : done d (later ++ J) ≡ true). done-back later J d h.1 g y) (done-cases d e (later ++ J) x)
-
-  done-on : (later J : List Event) (d : Deed) → done d J ≡ true → done d (later ++ J) ≡ true
-  done-on [] J d x = x
-  done-on (e ∷ later) J d x = done-later d e (later ++ J) (done-on later J d x)
-
   pub steps-done : (r s : Run) (d : Deed) → Steps r s → done d r.journal ≡ true → done d s.journal ≡ true
-  steps-done r s d k h = subst (λ L. done d L ≡ true) (sym k.journal) (done-on k.later r.journal d h)
+  steps-done r s d k h = subst (λ L. done d L ≡ true) (sym k.journal) (done-later-all k.later r.journal d h)
 
   pub steps-copied : (r s : Run) (m : MsgName) → Steps r s → done (Copied m) s.journal ≡ true → done (Copied m) r.journal ≡ true
   unfolding IsOfMessages
-  steps-copied r s m k h = done-back k.later r.journal (Copied m) k.calls tt (subst (λ L. done (Copied m) L ≡ true) k.journal h)
+  steps-copied r s m k h = done-before IsOfCall (Copied m) (λ e of. call-apart e (Copied m) of tt) k.later r.journal k.calls (subst (λ L. done (Copied m) L ≡ true) k.journal h)
 
   pub steps-landed : (r s : Run) (m : MsgName) → Steps r s → done (Landed m) s.journal ≡ true → done (Landed m) r.journal ≡ true
   unfolding IsOfMessages
-  steps-landed r s m k h = done-back k.later r.journal (Landed m) k.calls tt (subst (λ L. done (Landed m) L ≡ true) k.journal h)
+  steps-landed r s m k h = done-before IsOfCall (Landed m) (λ e of. call-apart e (Landed m) of tt) k.later r.journal k.calls (subst (λ L. done (Landed m) L ≡ true) k.journal h)
 
   out-on : (later J : List Event) (a b : ℕ) → AllByRecursion IsOfCall later → out script (later ++ J) a b ≡ out script J a b
   unfolding out
@@ -231,7 +225,7 @@ module _ (script : Script) (rules : Rules) where
     complete : (r : Run) → IsSettled script rules r → SoundRun script rules r → Owes script rules r.journal → (a i : ℕ) (leg : Leg) → Has script a i → has_leg script (answers script rules a i) a leg (statement script a i) ≡ true → i < next r.journal a → done (Copied (message a i leg)) r.journal ≡ true
     complete r s sound owes a i Go has leg l = go-complete r s sound a i has leg l
     complete r s sound owes a i Back has leg l =
-        let go = go-complete r s sound a i has (back-data script rules (statement script a i) leg) l in
+        let go = go-complete r s sound a i has (back-data (statement script a i) leg) l in
         let stand = owes.lands (message a i Go) (s.landed (message a i Go) go) in
         (subst (λ x. Stand r.journal (cond x (Copy (message a i Back) ∷ []) (cond (has_completion script rules a i) [] (note_of script rules (message a i Go))))) leg stand).0
     complete r s sound owes a i Note has leg l = absurd (false≢true (ap is_some (sym (f.none a i has).0) ∙ (and_parts (is_some (cmpl_counter (statement script a i))) (not (answers script rules a i)) leg).0))

@@ -30,38 +30,17 @@ use Rattle.lapi_laws.proofs.Out.{get-front, all-get}
 use Rattle.lapi_laws.proofs.Places.{get-right}
 use Rattle.lapi_laws.proofs.Sound.{Fits, known, number-known, acked-delivered}
 use Rattle.lapi_laws.proofs.Lines.{SoundRun, poll-sound, all-flat_map, all-any}
+use Rattle.lapi_laws.proofs.Told.{IsData, packets-data}
 use Rattle.lapi_parts.proofs.Records.{record-sound}
+use Rattle.lapi_parts.proofs.Replay.{done-later-all}
+use Rattle.lapi_parts.proofs.SentFront.{number-append, get-some, below-has, packets-have}
 use Rattle.lapi_parts.proofs.HandedPackets.{out-has, out-below, out-unique}
 use Rattle.lapi_flush.specs.Served.{delivers, served, IsAck, AddsAcks, AddsEvents, IsPart, AllNamed}
 use Rattle.lapi_flush.specs.Flushed.{data_count, sum_to, all_data, IsCalm, polled, part_acts, link_acts, flush, IsFlushed, FlushesAreFlushed}
 use Rattle.lapi_flush.proofs.NoneOwed.{IsPaid, none-owed, record-paid}
-use Rattle.lapi_flush.proofs.ServedParts.{named-append, served-named, adds-none, events-on, adds-no_number, grown-out, grown-done, place-below, least-above, all-served, served-sound}
+use Rattle.lapi_flush.proofs.ServedParts.{named-append, served-named, adds-none, events-on, adds-no_number, grown-out, place-below, least-above, all-served, served-sound}
 
 -- ---- the packets of a list of numbers
-
-number-split : (xs ys : List Packet) (n : ℕ) → has_number (xs ++ ys) n ≡ (has_number xs n || has_number ys n)
-unfolding has_number
-number-split xs ys n = list_any-append (is_number n) xs ys
-
-below-has : (n : ℕ) (p : ℕ → Bool) (k : ℕ) → k < n → p k ≡ true → list_any (λ x. x == k) (below n p) ≡ true
-unfolding below
-below-has zero p k l h = absurd (omega arith)
-below-has (suc n) p k l h =
-    cond_both (p n) (below n p ++ n ∷ []) (below n p) (λ xs. list_any (λ x. x == k) xs ≡ true)
-    (λ e. list_any-append (λ x. x == k) (below n p) (n ∷ [])
-    ∙ ⊎_elim
-    (λ (lt : k < n). or_left (list_any (λ x. x == k) (below n p)) (list_any (λ x. x == k) (n ∷ [])) (below-has n p k lt h))
-    (λ (ge : n ≤ k). or_right (list_any (λ x. x == k) (below n p)) (list_any (λ x. x == k) (n ∷ [])) (or_left (n == k) false (eq-eqb n k (let q : n ≡ k = omega arith in q))))
-    (cases_lt k n))
-    (λ e. ⊎_elim
-    (λ (lt : k < n). below-has n p k lt h)
-    (λ (ge : n ≤ k). absurd (false≢true (sym e ∙ subst (λ x. p x ≡ true) (let q : k ≡ n = omega arith in q) h)))
-    (cases_lt k n))
-
-get-some : {X : Type 0} (xs : List X) (n : ℕ) → n < length xs → (x : X) × (slice_get xs n ≡ Some x)
-get-some [] n l = absurd (omega arith)
-get-some (x ∷ xs) zero l = (x, refl)
-get-some (x ∷ xs) (suc n) l = get-some xs n (let q : n < length xs = omega arith in q)
 
 -- what passes a test stands at some place
 any-place : {X : Type 0} (t : X → Bool) (xs : List X) → list_any t xs ≡ true → (i : ℕ) × (x : X) × (i < length xs) × (slice_get xs i ≡ Some x) × (t x ≡ true)
@@ -144,12 +123,7 @@ below-few (suc n) top p h =
     one-more : (m l n top : ℕ) → m ≡ l + 1 → l ≤ n - top → top ≤ n → m ≤ suc n - top
     one-more m l n top a b c = omega arith
 
-pub IsData : Packet → Type 0
-IsData (Data p) = Unit {0}
-IsData (Ack from to base bits) = ⊥
-
 data-of : (p : Packet) → IsData p → (d : DataPacket) × (p ≡ Data d)
-unfolding IsData
 data-of (Data d) h = (d, refl)
 data-of (Ack from to base bits) h = absurd h
 
@@ -158,7 +132,7 @@ number-data (Data d) n h = (d, refl, eqb-true d.seq n h)
 number-data (Ack from to base bits) n h = absurd (false≢true h)
 
 pub count-data : (ps : List Packet) → AllByRecursion IsData ps → data_count ps ≡ length ps
-unfolding data_count IsData
+unfolding data_count
 count-data [] h = refl
 count-data (Data p ∷ ps) h = let q : suc (data_count ps) ≡ suc (length ps) = omega (arith, count-data ps h.1) in q
 count-data (Ack from to base bits ∷ ps) h = absurd h.0
@@ -181,36 +155,6 @@ module _ (script : Script) (rules : Rules) where
     where
       sums : (all f r n : ℕ) → all ≡ f + r → f ≤ 1 → r ≤ n → all ≤ suc n
       sums all f r n a b c = omega arith
-
-  packet-there : (J : List Event) (n : ℕ) (o : Option (MsgName × ℕ)) (x : MsgName × ℕ) → o ≡ Some x → has_number (packet_of script rules J n o) n ≡ true
-  unfolding data_packet has_number
-  packet-there J n None x e = absurd (cc)
-  packet-there J n (Some pair) x e = or_left (n == n) false (eq-eqb n n refl)
-
-  packets-have : (J : List Event) (a b : ℕ) (numbers : List ℕ) (k : ℕ) → list_any (λ x. x == k) numbers ≡ true → k < length (out script J a b) → has_number (packets script rules J a b numbers) k ≡ true
-  unfolding packets
-  packets-have J a b [] k h l = absurd (false≢true h)
-  packets-have J a b (n ∷ ns) k h l =
-      let first = packet_of script rules J n (slice_get (out script J a b) n) in
-      let rest = flat_map (λ m. packet_of script rules J m (slice_get (out script J a b) m)) ns in
-      let split : has_number (flat_map (λ m. packet_of script rules J m (slice_get (out script J a b) m)) (n ∷ ns)) k ≡ (has_number first k || has_number rest k) = ap (λ ps. has_number ps k) (flat_map-cons (λ m. packet_of script rules J m (slice_get (out script J a b) m)) n ns) ∙ number-split first rest k in
-      split
-      ∙ ⊎_elim
-      (λ (here : (n == k) ≡ true).
-      let x = get-some (out script J a b) k l in
-      let same = eqb-true n k here in
-      or_left (has_number first k) (has_number rest k) (subst (λ (m : ℕ). has_number (packet_of script rules J m (slice_get (out script J a b) m)) k ≡ true) (sym same) (packet-there J k (slice_get (out script J a b) k) x.0 x.1)))
-      (λ (later : list_any (λ x. x == k) ns ≡ true). or_right (has_number first k) (has_number rest k) (packets-have J a b ns k later l))
-      (or_cases (n == k) (list_any (λ x. x == k) ns) h)
-
-  packet-data : (J : List Event) (n : ℕ) (o : Option (MsgName × ℕ)) → AllByRecursion IsData (packet_of script rules J n o)
-  unfolding IsData data_packet
-  packet-data J n None = tt
-  packet-data J n (Some pair) = (tt, tt)
-
-  pub packets-data : (J : List Event) (a b : ℕ) (numbers : List ℕ) → AllByRecursion IsData (packets script rules J a b numbers)
-  unfolding packets
-  packets-data J a b numbers = all-flat_map (λ _. Unit {0}) IsData (λ n. packet_of script rules J n (slice_get (out script J a b) n)) numbers (all-any numbers) (λ n _. packet-data J n (slice_get (out script J a b) n))
 
   -- ---- a calm link that is polled
 
@@ -279,13 +223,13 @@ module _ (script : Script) (rules : Rules) where
       new-has : (m : ℕ) → m < size b → top ≤ m → has_number (new b) m ≡ true
       unfolding new fresh size
       new-has m l ge =
-          packets-have J t b (below (length (out script J t b)) (λ n. not (is_sent r t b n) && nat_lt n (base script (record r { journal = J }) t b + window_of script))) m
+          packets-have script rules J t b (below (length (out script J t b)) (λ n. not (is_sent r t b n) && nat_lt n (base script (record r { journal = J }) t b + window_of script))) m
           (below-has (length (out script J t b)) (λ n. not (is_sent r t b n) && nat_lt n (base script (record r { journal = J }) t b + window_of script)) m l (and_from _ _ (ap not (calm.sent m ∙ le-ltb m top ge)) (edge-far m l)))
           l
 
       new-data : AllByRecursion IsData (new b)
       unfolding new
-      new-data = packets-data J t b (fresh script rules r J t b)
+      new-data = packets-data script rules J t b (fresh script rules r J t b)
 
       -- no more than the link has numbers that weren't sent
       new-few : length (new b) ≤ size b - top
@@ -314,7 +258,7 @@ module _ (script : Script) (rules : Rules) where
       -- all of its numbers were sent
       now-sent : (m : ℕ) → m < size b → is_sent s0 t b m ≡ true
       now-sent m l =
-          ap (λ ps. has_number ps m) (s0-wire b) ∙ number-split (r.wire t b) (new b) m
+          ap (λ ps. has_number ps m) (s0-wire b) ∙ number-append (r.wire t b) (new b) m
           ∙ ⊎_elim
           (λ (lt : m < top). or_left (has_number (r.wire t b) m) (has_number (new b) m) (calm.sent m ∙ lt-ltb m top lt))
           (λ (ge : top ≤ m). or_right (has_number (r.wire t b) m) (has_number (new b) m) (new-has m l ge))
@@ -357,7 +301,7 @@ module _ (script : Script) (rules : Rules) where
     acks-on old mid new_wire x y = (x.0 ++ y.0, y.1 ∙ ap (λ ps. ps ++ y.0) x.1 ∙ append_assoc old x.0 y.0, all-append IsAck x.0 y.0 x.2 y.2)
 
     sent-grows : (old more : List Packet) (m : ℕ) → AddsAcks old more → has_number old m ≡ true → has_number more m ≡ true
-    sent-grows old more m x h = ap (λ ps. has_number ps m) x.1 ∙ number-split old x.0 m ∙ or_left (has_number old m) (has_number x.0 m) h
+    sent-grows old more m x h = ap (λ ps. has_number ps m) x.1 ∙ number-append old x.0 m ∙ or_left (has_number old m) (has_number x.0 m) h
 
     -- a part is one later too, where only acknowledgements were added
     part-moves : (s u : Run) (a b first last top : ℕ) → AddsAcks (s.wire a b) (u.wire a b) → ((m : ℕ) → is_acked s a b m ≡ true → is_acked u a b m ≡ true) → IsPart s a b first last top → IsPart u a b first last top
@@ -490,7 +434,7 @@ module _ (script : Script) (rules : Rules) where
       acked-landed : (u : Run) → SoundRun script rules u → AddsEvents (polled script rules r t) u.journal → (b : ℕ) → ((n : ℕ) → n < length (out script (polled script rules r t) t b) → is_acked u t b n ≡ true) → (m : MsgName) → sender script m ≡ t → receiver script m ≡ b → done (Copied m) (polled script rules r t) ≡ true → done (Landed m) u.journal ≡ true
       acked-landed u sound_u events b acked m from to copied =
           let K = polled script rules r t in
-          let here = subst (λ L. done (Copied m) L ≡ true) (sym events.1) (grown-done script rules events.0 K m copied) in
+          let here = subst (λ L. done (Copied m) L ≡ true) (sym events.1) (done-later-all events.0 K (Copied m) copied) in
           sound_u.arrived m here
           (λ n is.
           let ours : slice_get (out script u.journal t b) n ≡ Some (m, is.0) = subst (λ y. slice_get (out script u.journal t y) n ≡ Some (m, is.0)) to (subst (λ x. slice_get (out script u.journal x (receiver script m)) n ≡ Some (m, is.0)) from is.1) in

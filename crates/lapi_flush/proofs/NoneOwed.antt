@@ -55,11 +55,7 @@ module _ (script : Script) (rules : Rules) where
   unfolding record_of run_of
   record-paid r is now = subst IsPaid (sym is.2) (after-paid is.0 start (now, λ a b. refl))
 
-  -- so a Poll adds no acknowledgement, and a delivery adds one
+  -- so a Poll adds no acknowledgement
   pub none-owed : (r : Run) (a b : ℕ) → IsPaid r → owed_ack script rules r a b ≡ []
   unfolding owed_ack
   none-owed r a b h = cond-false (r.owed a b) _ [] (h.1 a b)
-
-  pub told-now : (told : Packet) → holds_back script ≡ false → at_once script rules told ≡ told ∷ []
-  unfolding at_once
-  told-now told now = cond-false (holds_back script) [] (told ∷ []) now

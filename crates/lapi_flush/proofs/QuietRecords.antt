@@ -22,17 +22,13 @@ use Rattle.lapi_laws.proofs.Workers.{Waiting, queue-waiting, begun}
 use Rattle.lapi_laws.proofs.Out.{out-copied}
 use Rattle.lapi_laws.proofs.Sound.{Fits, number-known}
 use Rattle.lapi_laws.proofs.Lines.{SoundRun}
+use Rattle.lapi_laws.proofs.Still.{below-empty}
 use Rattle.lapi_epochs.specs.Epochs.{Has}
 use Rattle.lapi_flush.specs.Settled.{IsSettled, HasNoNotes}
 use Rattle.lapi_epochs.proofs.EpochOrder.{has-of}
 use Rattle.lapi_flush.proofs.NoneOwed.{IsPaid}
 use Rattle.lapi_flush.proofs.ServedParts.{place-below}
 use Rattle.lapi_flush.proofs.SettledRecords.{ends-there}
-
-below-nothing : (n : ℕ) (p : ℕ → Bool) → ((k : ℕ) → k < n → p k ≡ false) → below n p ≡ []
-unfolding below
-below-nothing zero p h = refl
-below-nothing (suc n) p h = cond-false (p n) (below n p ++ n ∷ []) (below n p) (h n (omega arith)) ∙ below-nothing n p (λ k l. h k (omega arith))
 
 module _ (script : Script) (rules : Rules) (plain : (a i : ℕ) → Has script a i → is_am (statement script a i) ≡ false) (none : HasNoNotes script rules) (r : Run) (sound : SoundRun script rules r) (paid : IsPaid script rules r) (s : IsSettled script rules r) where
   no-active : (m : MsgName) → has_message script rules m ≡ true → is_am (statement script m.origin m.statement) ≡ true → ⊥
@@ -65,7 +61,7 @@ module _ (script : Script) (rules : Rules) (plain : (a i : ℕ) → Has script a
   unfolding fresh
   nothing-fresh a b la lb =
       let len = length (out script r.journal a b) in
-      below-nothing len (λ n. not (is_sent r a b n) && nat_lt n (base script (record r { journal = r.journal }) a b + window_of script)) (λ n l. and_left _ _ (ap not ((s.calm a b la lb).sent n ∙ lt-ltb n len l)))
+      below-empty len (λ n. not (is_sent r a b n) && nat_lt n (base script (record r { journal = r.journal }) a b + window_of script)) (λ n l. and_left _ _ (ap not ((s.calm a b la lb).sent n ∙ lt-ltb n len l)))
 
   -- all that was sent goes between tasks, and is acknowledged
   sent-acked : (a b n : ℕ) → is_sent r a b n ≡ true → is_acked r a b n ≡ true

@@ -32,9 +32,10 @@ use Rattle.lapi_laws.proofs.Sound.{Fits, known, acked-delivered}
 use Rattle.lapi_laws.proofs.SentWindow.{number-append}
 use Rattle.lapi_laws.proofs.Lines.{SoundRun, deliver-sound}
 use Rattle.lapi_parts.proofs.Records.{record-sound}
+use Rattle.lapi_parts.proofs.FirstLayout.{told-now}
+use Rattle.lapi_parts.proofs.Replay.{done-later-all}
 use Rattle.lapi_parts.proofs.HandedPackets.{out-has, out-below, out-unique}
 use Rattle.lapi_flush.specs.Served.{delivers, served, IsAck, AddsAcks, IsOfMessage, AddsEvents, IsPart, IsServed, AllNamed, PartsAreServed}
-use Rattle.lapi_flush.proofs.NoneOwed.{told-now}
 
 -- ---- lists
 
@@ -75,10 +76,6 @@ module _ (script : Script) (rules : Rules) where
   pub grown-out : (later J : List Event) (a b n : ℕ) (x : MsgName × ℕ) → slice_get (out script J a b) n ≡ Some x → slice_get (out script (later ++ J) a b) n ≡ Some x
   grown-out [] J a b n x h = h
   grown-out (e ∷ later) J a b n x h = out-later script e (later ++ J) a b n x (grown-out later J a b n x h)
-
-  pub grown-done : (later J : List Event) (m : MsgName) → done (Copied m) J ≡ true → done (Copied m) (later ++ J) ≡ true
-  grown-done [] J m d = d
-  grown-done (e ∷ later) J m d = done-later (Copied m) e (later ++ J) (grown-done later J m d)
 
   -- events of messages, one after another
   pub events-on : (old mid new : List Event) → AddsEvents old mid → AddsEvents mid new → AddsEvents old new
@@ -345,7 +342,7 @@ module _ (script : Script) (rules : Rules) where
               ack-now s told.0 told.1 m (told.3 top (all-delivered s mid) m (part.sent m old));
           stays = λ x y m h. ack-acked s told.0 told.1 x y m (mid.stays x y m h);
           landed = λ m from to copied sent.
-              let here = subst (λ J. done (Copied m) J ≡ true) (sym events.1) (grown-done events.0 r.journal m copied) in
+              let here = subst (λ J. done (Copied m) J ≡ true) (sym events.1) (done-later-all events.0 r.journal (Copied m) copied) in
               sound.arrived m here
               (λ n is.
               let at = is.1 in

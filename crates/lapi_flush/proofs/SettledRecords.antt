@@ -29,6 +29,7 @@ use Rattle.lapi_laws.proofs.Places.{upto-length}
 use Rattle.lapi_laws.proofs.Follows.{Stand, Owes, after-owes, run-owes}
 use Rattle.lapi_laws.proofs.Quiet.{upto-each, joins-each, join-no_data, target-room}
 use Rattle.lapi_laws.proofs.Lines.{SoundRun}
+use Rattle.lapi_laws.proofs.Still.{back-data}
 use Rattle.lapi_laws.proofs.SentWindow.{grows-cons}
 use Rattle.lapi_parts.proofs.Records.{record-sound}
 use Rattle.lapi_flush.specs.Served.{AddsEvents, AllNamed}
@@ -134,12 +135,6 @@ module _ (script : Script) (rules : Rules) where
       let each = upto-each P (to_copy_of script J a) (length (statements script a)) i all l in
       let h = subst (λ ms. list_all P ms ≡ true) (cond-false (is_data s && done (Issued a i) J) (message a i Go ∷ []) (cond (has_join s && done (Entered a i) J) (joins script a i) []) (and_left _ _ (join-no_data s parts.0)) ∙ cond-true (has_join s && done (Entered a i) J) (joins script a i) [] (and_from _ _ parts.0 entered)) each in
       joins-each P (λ e. message a i (Join e)) (λ e. not (e == a)) script.tasks d h (ltb-true d script.tasks ends.0) ends.1
-
-  pub back-data : (s : Statement) → has_back s ≡ true → is_data s ≡ true
-  back-data (Get target from to len tgt org) h = refl
-  back-data (Getv target from to tgt org) h = refl
-  back-data (Rmw target op at in1 in2 prev org) h = refl
-  back-data _ h = absurd (false≢true h)
 
   -- the ends of a message that was copied are tasks
   pub needed-go : (J : List Event) (a i : ℕ) (leg : Leg) → Atomic script rules J → done (Copied (message a i leg)) J ≡ true → (leg ≡ Go) ⊎ (leg ≡ Back) → done (Issued a i) J ≡ true

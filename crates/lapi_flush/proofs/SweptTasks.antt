@@ -21,6 +21,7 @@ use Rattle.lapi_laws.proofs.Deeds.{done-cases, done-later, done-head}
 use Rattle.lapi_laws.proofs.Lines.{SoundRun}
 use Rattle.lapi_parts.proofs.Records.{record-sound}
 use Rattle.lapi_parts.proofs.LocalQuestions.{by_points}
+use Rattle.lapi_parts.proofs.Replay.{done-later-all}
 use Rattle.lapi_flush.specs.Served.{IsOfMessage, AddsEvents, AllNamed}
 use Rattle.lapi_flush.specs.Flushed.{all_data, IsCalm, polled, flush}
 use Rattle.lapi_flush.specs.Swept.{sweep_to, sweep, HasRoom, IsSweptAt, SweepsAreSwept}
@@ -49,22 +50,23 @@ apart-deeds (Land m) d h g q = subst IsOfStatement q g
 apart-deeds (Begin m t w) d h g q = subst IsOfStatement q g
 apart-deeds (End m t w) d h g q = subst IsOfStatement q g
 
-done-back : (later J : List Event) (d : Deed) → AllByRecursion IsOfMessage later → IsOfStatement d → done d (later ++ J) ≡ true → done d J ≡ true
-done-back [] J d h g x = x
-done-back (e ∷ later) J d h g x = ⊎_elim (λ (y : d ≡ deed e). absurd (apart-deeds e d h.0 g y)) (λ (y : done d (later ++ J) ≡ true). done-back later J d h.1 g y) (done-cases d e (later ++ J) x)
-
-done-on : (later J : List Event) (d : Deed) → done d J ≡ true → done d (later ++ J) ≡ true
-done-on [] J d x = x
-done-on (e ∷ later) J d x = done-later d e (later ++ J) (done-on later J d x)
+-- a deed that no event of a kind does was done before such events
+pub done-before : (P : Event → Type 0) (d : Deed) → ((e : Event) → P e → d ≡ deed e → ⊥) → (later J : List Event) → AllByRecursion P later → done d (later ++ J) ≡ true → done d J ≡ true
+done-before P d apart [] J h x = x
+done-before P d apart (e ∷ later) J h x =
+    ⊎_elim
+    (λ (y : d ≡ deed e). absurd (apart e h.0 y))
+    (λ (y : done d (later ++ J) ≡ true). done-before P d apart later J h.1 y)
+    (done-cases d e (later ++ J) x)
 
 pub kept-done : (J K : List Event) (d : Deed) → AddsEvents J K → done d J ≡ true → done d K ≡ true
-kept-done J K d x h = subst (λ L. done d L ≡ true) (sym x.1) (done-on x.0 J d h)
+kept-done J K d x h = subst (λ L. done d L ≡ true) (sym x.1) (done-later-all x.0 J d h)
 
 same-done : (J K : List Event) (d : Deed) → AddsEvents J K → IsOfStatement d → done d K ≡ done d J
 same-done J K d x g =
     elim (cases_Bool (done d J)) [
       | inl h ↦ kept-done J K d x h ∙ sym h
-      | inr h ↦ false_from_ne_true _ (λ y. both_ways _ h (done-back x.0 J d x.2 g (subst (λ L. done d L ≡ true) x.1 y))) ∙ sym h
+      | inr h ↦ false_from_ne_true _ (λ y. both_ways _ h (done-before IsOfMessage d (λ e of. apart-deeds e d of g) x.0 J x.2 (subst (λ L. done d L ≡ true) x.1 y))) ∙ sym h
     ]
 
 next-on : (later J : List Event) (a : ℕ) → AllByRecursion IsOfMessage later → next (later ++ J) a ≡ next J a

@@ -20,7 +20,8 @@ use Rattle.lapi_base.specs.Layout.{holds_back}
 use Rattle.lapi_base.specs.Record.{Run, packets, fresh, ready, copy_each, ack, with_handed, at_once, owed_ack, hand_over, deliver_entry, deliver, reply_with, unless_refused, add_event, step, poll, perform, after}
 use Rattle.lapi_flush.specs.Served.{IsNamed, AllNamed}
 use Rattle.lapi_flush.specs.Flushed.{data_count}
-use Rattle.lapi_flush.proofs.FlushedTasks.{IsData, count-append, count-data, packets-data}
+use Rattle.lapi_laws.proofs.Told.{IsData, packets-data}
+use Rattle.lapi_flush.proofs.FlushedTasks.{count-append, count-data}
 
 -- a wire has data packets more, and one entry at most
 abbrev Extends : List Packet → List Packet → Type 0

@@ -18,9 +18,13 @@ pub holds-nothing : (script : Script) → ValidScript script → holds_back scri
 unfolding holds_back
 holds-nothing script valid = ap (λ n. waits_for_poll (layout_of n)) valid.layout
 
-pub told-at-once : (script : Script) (rules : Rules) → ValidScript script → (p : Packet) → at_once script rules p ≡ p ∷ []
+-- where acknowledgements go out at once, one that is told goes out
+pub told-now : (script : Script) (rules : Rules) (p : Packet) → holds_back script ≡ false → at_once script rules p ≡ p ∷ []
 unfolding at_once
-told-at-once script rules valid p = cond-false (holds_back script) [] (p ∷ []) (holds-nothing script valid)
+told-now script rules p now = cond-false (holds_back script) [] (p ∷ []) now
+
+pub told-at-once : (script : Script) (rules : Rules) → ValidScript script → (p : Packet) → at_once script rules p ≡ p ∷ []
+told-at-once script rules valid p = told-now script rules p (holds-nothing script valid)
 
 record-owed : HoldsOfRecords OwedAreHeldBack
 record-owed = of-runs OwedAreHeldBack run-owed
