@@ -44,8 +44,8 @@ module _ (plan : Plan) (valid : ValidPlan plan) (rules : Rules) where
 
   pub are-stages : AreStages (compiled plan) rules (stage plan)
   are-stages = record {
-    plain = all-plain;
-    kept = λ J a i has. never-refused plan valid rules J a i has;
+    only_moves = all-plain;
+    none_refused = λ J a i has. never-refused plan valid rules J a i has;
     start = starts plan valid;
     stays = stays plan valid;
     stored = stores-hold plan valid;

@@ -382,8 +382,8 @@ module _ (plan : Plan) (valid : ValidPlan plan) (rules : Rules) where
   pub plan-fenced : IsFenced (compiled plan) rules (count plan) (op_begin plan) (op_fence plan)
   unfolding is_call link_messages
   plan-fenced = record {
-    none = λ a i has. (no-notes a i has, no-answers a i);
-    kept = λ J a i has. never-refused plan valid rules J a i has;
+    no_notes = λ a i has. (no-notes a i has, no-answers a i);
+    none_refused = λ J a i has. never-refused plan valid rules J a i has;
     first = λ a la. begin-zero plan a;
     order = λ k a lk la.
         let size = round-length plan k a in
@@ -578,7 +578,7 @@ plans-run plan valid rules =
     let z = all-rounds plan valid rules (count plan) (omega arith) in
     let r = after (compiled plan) rules packet_size refusal start (plan_acts plan rules (count plan)) in (
       λ a la. z.at_round.place a la ∙ sym (ap length (statements-are plan a la)),
-      settled-quiet (compiled plan) rules (λ a i has. (or_parts (is_am (statement (compiled plan) a i)) _ (all-plain plan valid rules a i has)).0) (plan-fenced plan valid rules).none r z.is_sound (after-paid (compiled plan) rules (plan_acts plan rules (count plan)) start (start-paid plan valid rules)) z.at_round.settled,
+      settled-quiet (compiled plan) rules (λ a i has. (or_parts (is_am (statement (compiled plan) a i)) _ (all-plain plan valid rules a i has)).0) (plan-fenced plan valid rules).no_notes r z.is_sound (after-paid (compiled plan) rules (plan_acts plan rules (count plan)) start (start-paid plan valid rules)) z.at_round.settled,
     )
 
 pub plans-short : PlansAreShort

@@ -29,7 +29,7 @@ use Rattle.lapi_laws.proofs.Shorts.{last-of}
 use Rattle.lapi_laws.proofs.Sound.{landed-copied}
 use Rattle.lapi_parts.proofs.ExactBytes.{stays}
 use Rattle.lapi_epochs.specs.Epochs.{epoch, Has, IsOver}
-use Rattle.lapi_epochs.specs.Stages.{is_store, goes, comes, written_pieces, covers, reads_from, reads_at, writes_to, writes_at, is_written, written, AreStages, IsSettled, SettledAreStages, EndsAreStages}
+use Rattle.lapi_epochs.specs.Stages.{is_store, goes, comes, written_pieces, covers, reads_from, reads_at, writes_to, writes_at, is_written, write_deed, AreStages, IsAtStage, BytesAreStages, EndsAreStages}
 use Rattle.lapi_epochs.proofs.EpochOrder.{has-of, issue-turn, taken, kind, epochs-wait}
 use Rattle.lapi_epochs.proofs.GatheredPieces.{covers-none, gathered-agree, scatter-gathered}
 
@@ -103,17 +103,17 @@ module _ (script : Script) (rules : Rules) where
   -- a statement that writes is of one of three kinds
   abbrev WrittenBy : (a i : ℕ) → Type 0
   WrittenBy a i =
-      ((goes (statement script a i) ≡ true) × (written script a i ≡ Landed (message a i Go)))
-      ⊎ ((comes (statement script a i) ≡ true) × (written script a i ≡ Landed (message a i Back)))
-      ⊎ ((is_store (statement script a i) ≡ true) × (written script a i ≡ Issued a i))
+      ((goes (statement script a i) ≡ true) × (write_deed script a i ≡ Landed (message a i Go)))
+      ⊎ ((comes (statement script a i) ≡ true) × (write_deed script a i ≡ Landed (message a i Back)))
+      ⊎ ((is_store (statement script a i) ≡ true) × (write_deed script a i ≡ Issued a i))
 
-  goes-deed : (a i : ℕ) → goes (statement script a i) ≡ true → written script a i ≡ Landed (message a i Go)
+  goes-deed : (a i : ℕ) → goes (statement script a i) ≡ true → write_deed script a i ≡ Landed (message a i Go)
   goes-deed a i h = cond-true (goes (statement script a i)) _ _ h
 
-  comes-deed : (a i : ℕ) → comes (statement script a i) ≡ true → written script a i ≡ Landed (message a i Back)
+  comes-deed : (a i : ℕ) → comes (statement script a i) ≡ true → write_deed script a i ≡ Landed (message a i Back)
   comes-deed a i h = cond-false (goes (statement script a i)) _ _ (comes-facts (statement script a i) h).0 ∙ cond-true (comes (statement script a i)) _ _ h
 
-  store-deed : (a i : ℕ) → is_store (statement script a i) ≡ true → written script a i ≡ Issued a i
+  store-deed : (a i : ℕ) → is_store (statement script a i) ≡ true → write_deed script a i ≡ Issued a i
   store-deed a i h = let f = store-facts (statement script a i) h in cond-false (goes (statement script a i)) _ _ f.0 ∙ cond-false (comes (statement script a i)) _ _ f.1
 
   written-by : (a i t x : ℕ) → is_written script a i t x ≡ true → WrittenBy a i
@@ -135,29 +135,29 @@ module _ (script : Script) (rules : Rules) where
       (cases_Bool (goes s))
 
   -- the deed tells the statement
-  written-place : (a i : ℕ) → deed_place (written script a i) ≡ (a, i)
+  written-place : (a i : ℕ) → deed_place (write_deed script a i) ≡ (a, i)
   unfolding deed_place
   written-place a i =
       cond_both (goes (statement script a i)) (Landed (message a i Go)) (cond (comes (statement script a i)) (Landed (message a i Back)) (Issued a i)) (λ d. deed_place d ≡ (a, i)) (λ _. refl)
       (λ _. cond_both (comes (statement script a i)) (Landed (message a i Back)) (Issued a i) (λ d. deed_place d ≡ (a, i)) (λ _. refl) (λ _. refl))
 
-  same-statement : (a i b j : ℕ) → written script b j ≡ written script a i → (b ≡ a) × (j ≡ i)
+  same-statement : (a i b j : ℕ) → write_deed script b j ≡ write_deed script a i → (b ≡ a) × (j ≡ i)
   same-statement a i b j e =
       let p : (b, j) ≡ (a, i) = sym (written-place b j) ∙ ap deed_place e ∙ written-place a i in
       (ap (λ (q : ℕ × ℕ). q.0) p, ap (λ (q : ℕ × ℕ). q.1) p)
 
   -- what was written was issued
-  written-issued : (J : List Event) (a i t x : ℕ) → Atomic script rules J → is_written script a i t x ≡ true → done (written script a i) J ≡ true → done (Issued a i) J ≡ true
+  written-issued : (J : List Event) (a i t x : ℕ) → Atomic script rules J → is_written script a i t x ≡ true → done (write_deed script a i) J ≡ true → done (Issued a i) J ≡ true
   unfolding needs
   written-issued J a i t x h w d =
       ⊎_elim
-      (λ (g : (goes (statement script a i) ≡ true) × (written script a i ≡ Landed (message a i Go))). (closed script rules (Landed (message a i Go)) J h (subst (λ y. done y J ≡ true) g.1 d)).0)
-      (λ (r : ((comes (statement script a i) ≡ true) × (written script a i ≡ Landed (message a i Back))) ⊎ ((is_store (statement script a i) ≡ true) × (written script a i ≡ Issued a i))).
+      (λ (g : (goes (statement script a i) ≡ true) × (write_deed script a i ≡ Landed (message a i Go))). (closed script rules (Landed (message a i Go)) J h (subst (λ y. done y J ≡ true) g.1 d)).0)
+      (λ (r : ((comes (statement script a i) ≡ true) × (write_deed script a i ≡ Landed (message a i Back))) ⊎ ((is_store (statement script a i) ≡ true) × (write_deed script a i ≡ Issued a i))).
       ⊎_elim
-      (λ (c : (comes (statement script a i) ≡ true) × (written script a i ≡ Landed (message a i Back))).
+      (λ (c : (comes (statement script a i) ≡ true) × (write_deed script a i ≡ Landed (message a i Back))).
       let all = closed script rules (Landed (message a i Back)) J h (subst (λ y. done y J ≡ true) c.1 d) in
       (last-of script rules (λ y. done y J ≡ true) (only_if (has_completion script rules a i) (Begun (message a i Go) ∷ Ended (message a i Go) ∷ [])) (Landed (message a i Go) ∷ to_land script rules a i) all.1).1.0)
-      (λ (k : (is_store (statement script a i) ≡ true) × (written script a i ≡ Issued a i)). subst (λ y. done y J ≡ true) k.1 d)
+      (λ (k : (is_store (statement script a i) ≡ true) × (write_deed script a i ≡ Issued a i)). subst (λ y. done y J ≡ true) k.1 d)
       r)
       (written-by a i t x w)
 
@@ -166,11 +166,11 @@ module _ (script : Script) (rules : Rules) where
   writes-no_pass a i t x w =
       let s = statement script a i in
       ⊎_elim
-      (λ (g : (goes s ≡ true) × (written script a i ≡ Landed (message a i Go))). data-not_passed s (goes-facts s g.0).3)
-      (λ (r : ((comes s ≡ true) × (written script a i ≡ Landed (message a i Back))) ⊎ ((is_store s ≡ true) × (written script a i ≡ Issued a i))).
+      (λ (g : (goes s ≡ true) × (write_deed script a i ≡ Landed (message a i Go))). data-not_passed s (goes-facts s g.0).3)
+      (λ (r : ((comes s ≡ true) × (write_deed script a i ≡ Landed (message a i Back))) ⊎ ((is_store s ≡ true) × (write_deed script a i ≡ Issued a i))).
       ⊎_elim
-      (λ (c : (comes s ≡ true) × (written script a i ≡ Landed (message a i Back))). data-not_passed s (comes-facts s c.0).3)
-      (λ (k : (is_store s ≡ true) × (written script a i ≡ Issued a i)). let f = store-facts s k.0 in (f.4, f.3))
+      (λ (c : (comes s ≡ true) × (write_deed script a i ≡ Landed (message a i Back))). data-not_passed s (comes-facts s c.0).3)
+      (λ (k : (is_store s ≡ true) × (write_deed script a i ≡ Issued a i)). let f = store-facts s k.0 in (f.4, f.3))
       r)
       (written-by a i t x w)
 
@@ -182,22 +182,22 @@ module _ (script : Script) (rules : Rules) where
   landed-back J a i c d = subst (λ b. done (Landed (message a i (cond b Back Go))) J ≡ true) (comes-facts (statement script a i) c).2 d
 
   -- what is over isn't written now
-  over-new : (J : List Event) (e : Event) (a i t x : ℕ) → Keeps script rules J e → is_written script a i t x ≡ true → written script a i ≡ deed e → IsOver script rules J a i → ⊥
+  over-new : (J : List Event) (e : Event) (a i t x : ℕ) → Keeps script rules J e → is_written script a i t x ≡ true → write_deed script a i ≡ deed e → IsOver script rules J a i → ⊥
   unfolding needs
   over-new J e a i t x k w is over =
       let s = statement script a i in
-      let once : done (written script a i) J ≡ false = subst (λ d. done d J ≡ false) (sym is) k.once in
-      let after = λ (d : Deed) (at : written script a i ≡ d). subst (λ d. AllByRecursion (λ y. done y J ≡ true) (needs script rules d)) (sym is ∙ at) (list_all-each (λ y. done y J) (needs script rules (deed e)) k.after) in
+      let once : done (write_deed script a i) J ≡ false = subst (λ d. done d J ≡ false) (sym is) k.once in
+      let after = λ (d : Deed) (at : write_deed script a i ≡ d). subst (λ d. AllByRecursion (λ y. done y J ≡ true) (needs script rules d)) (sym is ∙ at) (list_all-each (λ y. done y J) (needs script rules (deed e)) k.after) in
       ⊎_elim
-      (λ (g : (goes s ≡ true) × (written script a i ≡ Landed (message a i Go))).
+      (λ (g : (goes s ≡ true) × (write_deed script a i ≡ Landed (message a i Go))).
       both_ways _ (subst (λ d. done d J ≡ false) g.1 once) (landed-go J a i g.0 (over.1 (goes-facts s g.0).3 (after (Landed (message a i Go)) g.1).0)))
-      (λ (r : ((comes s ≡ true) × (written script a i ≡ Landed (message a i Back))) ⊎ ((is_store s ≡ true) × (written script a i ≡ Issued a i))).
+      (λ (r : ((comes s ≡ true) × (write_deed script a i ≡ Landed (message a i Back))) ⊎ ((is_store s ≡ true) × (write_deed script a i ≡ Issued a i))).
       ⊎_elim
-      (λ (c : (comes s ≡ true) × (written script a i ≡ Landed (message a i Back))).
+      (λ (c : (comes s ≡ true) × (write_deed script a i ≡ Landed (message a i Back))).
       let all = after (Landed (message a i Back)) c.1 in
       let issued = (last-of script rules (λ y. done y J ≡ true) (only_if (has_completion script rules a i) (Begun (message a i Go) ∷ Ended (message a i Go) ∷ [])) (Landed (message a i Go) ∷ to_land script rules a i) all.1).1.0 in
       both_ways _ (subst (λ d. done d J ≡ false) c.1 once) (landed-back J a i c.0 (over.1 (comes-facts s c.0).3 issued)))
-      (λ (q : (is_store s ≡ true) × (written script a i ≡ Issued a i)).
+      (λ (q : (is_store s ≡ true) × (write_deed script a i ≡ Issued a i)).
       let turn = issue-turn script rules e J a i k (sym q.1 ∙ is) in
       let l = over.0 in
       absurd (omega arith))
@@ -206,22 +206,22 @@ module _ (script : Script) (rules : Rules) where
 
   module _ (M : ℕ → Memories) (st : AreStages script rules M) where
     -- what is over was written
-    pub over-written : (J : List Event) (b j t x : ℕ) → Atomic script rules J → Has script b j → is_written script b j t x ≡ true → IsOver script rules J b j → done (written script b j) J ≡ true
+    pub over-written : (J : List Event) (b j t x : ℕ) → Atomic script rules J → Has script b j → is_written script b j t x ≡ true → IsOver script rules J b j → done (write_deed script b j) J ≡ true
     over-written J b j t x h has w over =
         let s = statement script b j in
         ⊎_elim
         (λ (issued : done (Issued b j) J ≡ true).
         ⊎_elim
-        (λ (g : (goes s ≡ true) × (written script b j ≡ Landed (message b j Go))). subst (λ d. done d J ≡ true) (sym g.1) (landed-go J b j g.0 (over.1 (goes-facts s g.0).3 issued)))
-        (λ (r : ((comes s ≡ true) × (written script b j ≡ Landed (message b j Back))) ⊎ ((is_store s ≡ true) × (written script b j ≡ Issued b j))).
+        (λ (g : (goes s ≡ true) × (write_deed script b j ≡ Landed (message b j Go))). subst (λ d. done d J ≡ true) (sym g.1) (landed-go J b j g.0 (over.1 (goes-facts s g.0).3 issued)))
+        (λ (r : ((comes s ≡ true) × (write_deed script b j ≡ Landed (message b j Back))) ⊎ ((is_store s ≡ true) × (write_deed script b j ≡ Issued b j))).
         ⊎_elim
-        (λ (c : (comes s ≡ true) × (written script b j ≡ Landed (message b j Back))). subst (λ d. done d J ≡ true) (sym c.1) (landed-back J b j c.0 (over.1 (comes-facts s c.0).3 issued)))
-        (λ (q : (is_store s ≡ true) × (written script b j ≡ Issued b j)). subst (λ d. done d J ≡ true) (sym q.1) issued)
+        (λ (c : (comes s ≡ true) × (write_deed script b j ≡ Landed (message b j Back))). subst (λ d. done d J ≡ true) (sym c.1) (landed-back J b j c.0 (over.1 (comes-facts s c.0).3 issued)))
+        (λ (q : (is_store s ≡ true) × (write_deed script b j ≡ Issued b j)). subst (λ d. done d J ≡ true) (sym q.1) issued)
         r)
         (written-by b j t x w))
         (λ (y : (done (Refused b j) J ≡ true) ⊎ (done (Passed b j) J ≡ true)).
         ⊎_elim
-        (λ (refused : done (Refused b j) J ≡ true). let k = kind script rules (Refused b j) J h refused in absurd (let e : None ≡ Some k.1 = sym (st.kept k.0 b j has) ∙ k.2 in cc))
+        (λ (refused : done (Refused b j) J ≡ true). let k = kind script rules (Refused b j) J h refused in absurd (let e : None ≡ Some k.1 = sym (st.none_refused k.0 b j has) ∙ k.2 in cc))
         (λ (passed : done (Passed b j) J ≡ true). absurd (both_ways _ (writes-no_pass b j t x w).0 (kind script rules (Passed b j) J h passed)))
         y)
         (taken script rules J h b j over.0)
@@ -245,7 +245,7 @@ module _ (script : Script) (rules : Rules) where
     -- a byte that no statement has written
     record Untouched (J : List Event) (t x : ℕ) : Type 0 where
       is_zero : memory_of J t x ≡ 0
-      none : (b j : ℕ) → Has script b j → is_written script b j t x ≡ true → done (written script b j) J ≡ false
+      none : (b j : ℕ) → Has script b j → is_written script b j t x ≡ true → done (write_deed script b j) J ≡ false
 
     -- and one that some have, of which a.i is of the last epoch
     record Touched (J : List Event) (t x : ℕ) : Type 0 where
@@ -253,24 +253,24 @@ module _ (script : Script) (rules : Rules) where
       i : ℕ
       has : Has script a i
       writes : is_written script a i t x ≡ true
-      was : done (written script a i) J ≡ true
-      last : (b j : ℕ) → Has script b j → is_written script b j t x ≡ true → done (written script b j) J ≡ true → epoch script b j ≤ epoch script a i
+      was : done (write_deed script a i) J ≡ true
+      last : (b j : ℕ) → Has script b j → is_written script b j t x ≡ true → done (write_deed script b j) J ≡ true → epoch script b j ≤ epoch script a i
       byte : memory_of J t x ≡ M (suc (epoch script a i)) t x
 
     Known : List Event → ℕ → ℕ → Type 0
     Known J t x = Untouched J t x ⊎ Touched J t x
 
-    settled-known : (J : List Event) (k t x : ℕ) → Known J t x → IsSettled script rules J k t x → memory_of J t x ≡ M k t x
+    staged-known : (J : List Event) (k t x : ℕ) → Known J t x → IsAtStage script rules J k t x → memory_of J t x ≡ M k t x
     unfolding Known
-    settled-known J k t x known settled =
+    staged-known J k t x known staged =
         ⊎_elim
         (λ (u : Untouched J t x).
         u.is_zero ∙ sym (st.start t x)
-        ∙ sym (same-through t x 0 k (omega arith) (λ a i has w low high. both_ways _ (u.none a i has w) (settled a i has w ∙ lt-ltb (epoch script a i) k high))))
+        ∙ sym (same-through t x 0 k (omega arith) (λ a i has w low high. both_ways _ (u.none a i has w) (staged a i has w ∙ lt-ltb (epoch script a i) k high))))
         (λ (q : Touched J t x).
-        let below : epoch script q.a q.i < k = ltb-true (epoch script q.a q.i) k (sym (settled q.a q.i q.has q.writes) ∙ q.was) in
+        let below : epoch script q.a q.i < k = ltb-true (epoch script q.a q.i) k (sym (staged q.a q.i q.has q.writes) ∙ q.was) in
         q.byte
-        ∙ sym (same-through t x (suc (epoch script q.a q.i)) k below (λ b j has w low high. let most = q.last b j has w (settled b j has w ∙ lt-ltb (epoch script b j) k high) in absurd (omega arith))))
+        ∙ sym (same-through t x (suc (epoch script q.a q.i)) k below (λ b j has w low high. let most = q.last b j has w (staged b j has w ∙ lt-ltb (epoch script b j) k high) in absurd (omega arith))))
         known
 
     -- ---- one event more
@@ -278,7 +278,7 @@ module _ (script : Script) (rules : Rules) where
     -- it leaves a byte, and no statement that writes the byte is written by it
     record Same (e : Event) (J : List Event) (t x : ℕ) : Type 0 where
       same : memory_of (e ∷ J) t x ≡ memory_of J t x
-      other : (b j : ℕ) → Has script b j → is_written script b j t x ≡ true → written script b j ≡ deed e → ⊥
+      other : (b j : ℕ) → Has script b j → is_written script b j t x ≡ true → write_deed script b j ≡ deed e → ⊥
 
     -- or it writes the byte as a statement's epoch leaves it
     record New (e : Event) (J : List Event) (t x : ℕ) : Type 0 where
@@ -286,11 +286,11 @@ module _ (script : Script) (rules : Rules) where
       i : ℕ
       has : Has script a i
       writes : is_written script a i t x ≡ true
-      is : written script a i ≡ deed e
+      is : write_deed script a i ≡ deed e
       byte : memory_of (e ∷ J) t x ≡ M (suc (epoch script a i)) t x
 
     -- what is written now is of no earlier epoch than what was written
-    in-order : (J : List Event) (e : Event) (a i b j t x : ℕ) → Atomic script rules (e ∷ J) → Has script a i → is_written script a i t x ≡ true → written script a i ≡ deed e → is_written script b j t x ≡ true → done (written script b j) J ≡ true → epoch script b j ≤ epoch script a i
+    in-order : (J : List Event) (e : Event) (a i b j t x : ℕ) → Atomic script rules (e ∷ J) → Has script a i → is_written script a i t x ≡ true → write_deed script a i ≡ deed e → is_written script b j t x ≡ true → done (write_deed script b j) J ≡ true → epoch script b j ≤ epoch script a i
     in-order J e a i b j t x h has w is w' d =
         ⊎_elim
         (λ (lt : epoch script a i < epoch script b j).
@@ -309,7 +309,7 @@ module _ (script : Script) (rules : Rules) where
         (λ (u : Untouched J t x).
         inl (record {
           is_zero = s.same ∙ u.is_zero;
-          none = λ b j has w. false_from_ne_true _ (λ d. ⊎_elim (λ (x : written script b j ≡ deed e). s.other b j has w x) (λ (x : done (written script b j) J ≡ true). both_ways _ (u.none b j has w) x) (done-cases (written script b j) e J d));
+          none = λ b j has w. false_from_ne_true _ (λ d. ⊎_elim (λ (x : write_deed script b j ≡ deed e). s.other b j has w x) (λ (x : done (write_deed script b j) J ≡ true). both_ways _ (u.none b j has w) x) (done-cases (write_deed script b j) e J d));
         }))
         (λ (q : Touched J t x).
         inr (record {
@@ -317,8 +317,8 @@ module _ (script : Script) (rules : Rules) where
           i = q.i;
           has = q.has;
           writes = q.writes;
-          was = done-later (written script q.a q.i) e J q.was;
-          last = λ b j has w d. ⊎_elim (λ (x : written script b j ≡ deed e). absurd (s.other b j has w x)) (λ (x : done (written script b j) J ≡ true). q.last b j has w x) (done-cases (written script b j) e J d);
+          was = done-later (write_deed script q.a q.i) e J q.was;
+          last = λ b j has w d. ⊎_elim (λ (x : write_deed script b j ≡ deed e). absurd (s.other b j has w x)) (λ (x : done (write_deed script b j) J ≡ true). q.last b j has w x) (done-cases (write_deed script b j) e J d);
           byte = s.same ∙ q.byte;
         }))
         known)
@@ -331,9 +331,9 @@ module _ (script : Script) (rules : Rules) where
           was = subst (λ d. done d (e ∷ J) ≡ true) (sym n.is) (done-head e J);
           last = λ b j has w d.
               ⊎_elim
-              (λ (x : written script b j ≡ deed e). let p = same-statement n.a n.i b j (x ∙ sym n.is) in let q : epoch script b j ≡ epoch script n.a n.i = λ k. epoch script (p.0 k) (p.1 k) in let r : epoch script b j ≤ epoch script n.a n.i = omega arith in r)
-              (λ (y : done (written script b j) J ≡ true). in-order J e n.a n.i b j t x h n.has n.writes n.is w y)
-              (done-cases (written script b j) e J d);
+              (λ (x : write_deed script b j ≡ deed e). let p = same-statement n.a n.i b j (x ∙ sym n.is) in let q : epoch script b j ≡ epoch script n.a n.i = λ k. epoch script (p.0 k) (p.1 k) in let r : epoch script b j ≤ epoch script n.a n.i = omega arith in r)
+              (λ (y : done (write_deed script b j) J ≡ true). in-order J e n.a n.i b j t x h n.has n.writes n.is w y)
+              (done-cases (write_deed script b j) e J d);
           byte = n.byte;
         }))
         out
@@ -368,9 +368,9 @@ module _ (script : Script) (rules : Rules) where
     Carries : List Event → Type 0
     Carries J = (a i : ℕ) (leg : Leg) → IsDataLeg (statement script a i) leg → done (Copied (message a i leg)) J ≡ true → carried script rules J (message a i leg) ≡ gathered (M (suc (epoch script a i))) (writes_to script a i) (writes_at script a i)
 
-    -- where a message is copied, the bytes that it reads are settled
-    copy-settled : (J : List Event) (a i : ℕ) (leg : Leg) (y : ℕ) → Atomic script rules J → Has script a i → IsDataLeg (statement script a i) leg → covers (reads_at script a i) y ≡ true → done (Issued a i) J ≡ true → done (Copied (message a i leg)) J ≡ false → IsSettled script rules J (suc (epoch script a i)) (reads_from script a i) y
-    copy-settled J a i leg y h has data_leg covered issued new = λ b j hasb w.
+    -- where a message is copied, the bytes that it reads are staged
+    copy-staged : (J : List Event) (a i : ℕ) (leg : Leg) (y : ℕ) → Atomic script rules J → Has script a i → IsDataLeg (statement script a i) leg → covers (reads_at script a i) y ≡ true → done (Issued a i) J ≡ true → done (Copied (message a i leg)) J ≡ false → IsAtStage script rules J (suc (epoch script a i)) (reads_from script a i) y
+    copy-staged J a i leg y h has data_leg covered issued new = λ b j hasb w.
         let t = reads_from script a i in
         let come : i < next J a = behind script rules (Issued a i) J h issued in
         let ok = writes-no_pass b j t y w in
@@ -402,7 +402,7 @@ module _ (script : Script) (rules : Rules) where
         gathered (memory_of J) (reads_from script a i) (reads_at script a i) ≡ gathered (M (suc (epoch script a i))) (writes_to script a i) (writes_at script a i)
     read-now J a i leg h known has data_leg issued new =
         gathered-agree (memory_of J) (M (suc (epoch script a i))) (reads_from script a i) (reads_from script a i) (reads_at script a i)
-        (λ y c. settled-known J (suc (epoch script a i)) (reads_from script a i) y (known (reads_from script a i) y) (copy-settled J a i leg y h has data_leg c issued new))
+        (λ y c. staged-known J (suc (epoch script a i)) (reads_from script a i) y (known (reads_from script a i) y) (copy-staged J a i leg y h has data_leg c issued new))
         ∙ st.carried a i has (leg-data (statement script a i) leg data_leg)
 
     -- what a Copy takes is what its statement reads
@@ -473,7 +473,7 @@ module _ (script : Script) (rules : Rules) where
     unfolding values memory_of
     memory-step e J t x = refl
 
-    silent : (e : Event) (J : List Event) (t x : ℕ) → writes script rules (values script rules J) e ≡ [] → ((b j : ℕ) → Has script b j → is_written script b j t x ≡ true → written script b j ≡ deed e → ⊥) → Same e J t x ⊎ New e J t x
+    silent : (e : Event) (J : List Event) (t x : ℕ) → writes script rules (values script rules J) e ≡ [] → ((b j : ℕ) → Has script b j → is_written script b j t x ≡ true → write_deed script b j ≡ deed e → ⊥) → Same e J t x ⊎ New e J t x
     unfolding byte_after
     silent e J t x none other =
         inl (record {
@@ -481,7 +481,7 @@ module _ (script : Script) (rules : Rules) where
           other = other;
         })
 
-    loud : (e : Event) (J : List Event) (t x a i : ℕ) → Has script a i → written script a i ≡ deed e → writer script rules e ≡ writes_to script a i → writes script rules (values script rules J) e ≡ scattered (writes_at script a i) (gathered (M (suc (epoch script a i))) (writes_to script a i) (writes_at script a i)) → Same e J t x ⊎ New e J t x
+    loud : (e : Event) (J : List Event) (t x a i : ℕ) → Has script a i → write_deed script a i ≡ deed e → writer script rules e ≡ writes_to script a i → writes script rules (values script rules J) e ≡ scattered (writes_at script a i) (gathered (M (suc (epoch script a i))) (writes_to script a i) (writes_at script a i)) → Same e J t x ⊎ New e J t x
     loud e J t x a i has is at what =
         let u = writes_to script a i in
         let new = M (suc (epoch script a i)) in
@@ -515,26 +515,26 @@ module _ (script : Script) (rules : Rules) where
         not-both false q y old f = refl
 
     -- only a Land or an Issue can be what a statement writes by
-    no-deed : (d : Deed) → ((m : MsgName) → Landed m ≡ d → ⊥) → ((a i : ℕ) → Issued a i ≡ d → ⊥) → (t x b j : ℕ) → Has script b j → is_written script b j t x ≡ true → written script b j ≡ d → ⊥
+    no-deed : (d : Deed) → ((m : MsgName) → Landed m ≡ d → ⊥) → ((a i : ℕ) → Issued a i ≡ d → ⊥) → (t x b j : ℕ) → Has script b j → is_written script b j t x ≡ true → write_deed script b j ≡ d → ⊥
     no-deed d land issue t x b j has w is =
         ⊎_elim
-        (λ (g : (goes (statement script b j) ≡ true) × (written script b j ≡ Landed (message b j Go))). land (message b j Go) (sym g.1 ∙ is))
-        (λ (r : ((comes (statement script b j) ≡ true) × (written script b j ≡ Landed (message b j Back))) ⊎ ((is_store (statement script b j) ≡ true) × (written script b j ≡ Issued b j))).
+        (λ (g : (goes (statement script b j) ≡ true) × (write_deed script b j ≡ Landed (message b j Go))). land (message b j Go) (sym g.1 ∙ is))
+        (λ (r : ((comes (statement script b j) ≡ true) × (write_deed script b j ≡ Landed (message b j Back))) ⊎ ((is_store (statement script b j) ≡ true) × (write_deed script b j ≡ Issued b j))).
         ⊎_elim
-        (λ (c : (comes (statement script b j) ≡ true) × (written script b j ≡ Landed (message b j Back))). land (message b j Back) (sym c.1 ∙ is))
-        (λ (k : (is_store (statement script b j) ≡ true) × (written script b j ≡ Issued b j)). issue b j (sym k.1 ∙ is))
+        (λ (c : (comes (statement script b j) ≡ true) × (write_deed script b j ≡ Landed (message b j Back))). land (message b j Back) (sym c.1 ∙ is))
+        (λ (k : (is_store (statement script b j) ≡ true) × (write_deed script b j ≡ Issued b j)). issue b j (sym k.1 ∙ is))
         r)
         (written-by b j t x w)
 
     -- an issue of another kind than a store writes nothing
-    issue-other : (a i t x : ℕ) → is_store (statement script a i) ≡ false → (b j : ℕ) → Has script b j → is_written script b j t x ≡ true → written script b j ≡ Issued a i → ⊥
+    issue-other : (a i t x : ℕ) → is_store (statement script a i) ≡ false → (b j : ℕ) → Has script b j → is_written script b j t x ≡ true → write_deed script b j ≡ Issued a i → ⊥
     issue-other a i t x not b j has w is =
         ⊎_elim
-        (λ (g : (goes (statement script b j) ≡ true) × (written script b j ≡ Landed (message b j Go))). let e = sym g.1 ∙ is in absurd (cc))
-        (λ (r : ((comes (statement script b j) ≡ true) × (written script b j ≡ Landed (message b j Back))) ⊎ ((is_store (statement script b j) ≡ true) × (written script b j ≡ Issued b j))).
+        (λ (g : (goes (statement script b j) ≡ true) × (write_deed script b j ≡ Landed (message b j Go))). let e = sym g.1 ∙ is in absurd (cc))
+        (λ (r : ((comes (statement script b j) ≡ true) × (write_deed script b j ≡ Landed (message b j Back))) ⊎ ((is_store (statement script b j) ≡ true) × (write_deed script b j ≡ Issued b j))).
         ⊎_elim
-        (λ (c : (comes (statement script b j) ≡ true) × (written script b j ≡ Landed (message b j Back))). let e = sym c.1 ∙ is in absurd (cc))
-        (λ (k : (is_store (statement script b j) ≡ true) × (written script b j ≡ Issued b j)).
+        (λ (c : (comes (statement script b j) ≡ true) × (write_deed script b j ≡ Landed (message b j Back))). let e = sym c.1 ∙ is in absurd (cc))
+        (λ (k : (is_store (statement script b j) ≡ true) × (write_deed script b j ≡ Issued b j)).
         let e = sym k.1 ∙ is in
         let p : b ≡ a = cc in
         let q : j ≡ i = cc in
@@ -543,27 +543,27 @@ module _ (script : Script) (rules : Rules) where
         (written-by b j t x w)
 
     -- nor does a landing by another leg than that of the data
-    land-other : (a i : ℕ) (leg : Leg) (t x : ℕ) → (IsDataLeg (statement script a i) leg → ⊥) → (b j : ℕ) → Has script b j → is_written script b j t x ≡ true → written script b j ≡ Landed (message a i leg) → ⊥
+    land-other : (a i : ℕ) (leg : Leg) (t x : ℕ) → (IsDataLeg (statement script a i) leg → ⊥) → (b j : ℕ) → Has script b j → is_written script b j t x ≡ true → write_deed script b j ≡ Landed (message a i leg) → ⊥
     unfolding IsDataLeg
     land-other a i leg t x not b j has w is =
         ⊎_elim
-        (λ (g : (goes (statement script b j) ≡ true) × (written script b j ≡ Landed (message b j Go))).
+        (λ (g : (goes (statement script b j) ≡ true) × (write_deed script b j ≡ Landed (message b j Go))).
         let e = sym g.1 ∙ is in
         let names : message b j Go ≡ message a i leg = cc in
         let p = ap (λ (m : MsgName). m.origin) names in
         let q = ap (λ (m : MsgName). m.statement) names in
         let l = ap (λ (m : MsgName). m.leg) names in
         not (subst (IsDataLeg (statement script a i)) l (subst (λ y. goes (statement script y i) ≡ true) p (subst (λ y. goes (statement script b y) ≡ true) q g.0))))
-        (λ (r : ((comes (statement script b j) ≡ true) × (written script b j ≡ Landed (message b j Back))) ⊎ ((is_store (statement script b j) ≡ true) × (written script b j ≡ Issued b j))).
+        (λ (r : ((comes (statement script b j) ≡ true) × (write_deed script b j ≡ Landed (message b j Back))) ⊎ ((is_store (statement script b j) ≡ true) × (write_deed script b j ≡ Issued b j))).
         ⊎_elim
-        (λ (c : (comes (statement script b j) ≡ true) × (written script b j ≡ Landed (message b j Back))).
+        (λ (c : (comes (statement script b j) ≡ true) × (write_deed script b j ≡ Landed (message b j Back))).
         let e = sym c.1 ∙ is in
         let names : message b j Back ≡ message a i leg = cc in
         let p = ap (λ (m : MsgName). m.origin) names in
         let q = ap (λ (m : MsgName). m.statement) names in
         let l = ap (λ (m : MsgName). m.leg) names in
         not (subst (IsDataLeg (statement script a i)) l (subst (λ y. comes (statement script y i) ≡ true) p (subst (λ y. comes (statement script b y) ≡ true) q c.0))))
-        (λ (k : (is_store (statement script b j) ≡ true) × (written script b j ≡ Issued b j)). let e = sym k.1 ∙ is in absurd (cc))
+        (λ (k : (is_store (statement script b j) ≡ true) × (write_deed script b j ≡ Issued b j)). let e = sym k.1 ∙ is in absurd (cc))
         r)
         (written-by b j t x w)
 
@@ -626,7 +626,7 @@ module _ (script : Script) (rules : Rules) where
         silent (Land m) J t x
         (cond-false (is_am s) _ _ f.4 ∙ cond-false (is_rmw s) _ _ f.1 ∙ cond-true (has_back s) [] _ f.2)
         (land-other a i Go t x (λ g. both_ways _ f.0 g)))
-        (data-cases s both.1 (st.plain a i has))
+        (data-cases s both.1 (st.only_moves a i has))
     landed J t x a i Back k h carries =
         let s = statement script a i in
         let v = values script rules J in
@@ -634,7 +634,7 @@ module _ (script : Script) (rules : Rules) where
         let both = and_parts _ _ k.there in
         let has = has-of script rules a i both.0 in
         let copied = (list_all-each (λ y. done y J) (needs script rules (Landed m)) k.after).0 in
-        let c = back-comes s both.1 (st.plain a i has) in
+        let c = back-comes s both.1 (st.only_moves a i has) in
         let f = comes-facts s c in
         let to : a ≡ writes_to script a i = sym (cond-false (goes s) (target script a i) a f.0) in
         let places : at_origin script rules a i ≡ writes_at script a i = ap (spans script (target script a i)) (sym (cond-false (goes s) (target_pieces s) _ f.0 ∙ cond-true (comes s || is_store s) (origin_pieces s) [] (or-first (comes s) (is_store s) c))) in
@@ -647,7 +647,7 @@ module _ (script : Script) (rules : Rules) where
     landed J t x a i Echo k h carries =
         let both = and_parts _ _ k.there in
         let has = has-of script rules a i both.0 in
-        absurd (both_ways (is_am (statement script a i)) (or_parts (is_am (statement script a i)) (is_rmw (statement script a i)) (st.plain a i has)).0 (answer-am a i both.1))
+        absurd (both_ways (is_am (statement script a i)) (or_parts (is_am (statement script a i)) (is_rmw (statement script a i)) (st.only_moves a i has)).0 (answer-am a i both.1))
     landed J t x a i (Join d) k h carries = silent (Land (message a i (Join d))) J t x refl (land-other a i (Join d) t x (λ g. g))
 
     outcome : (e : Event) (J : List Event) (t x : ℕ) → Atomic script rules (e ∷ J) → Carries J → Same e J t x ⊎ New e J t x
@@ -663,28 +663,28 @@ module _ (script : Script) (rules : Rules) where
         let is = and_parts (has_message script rules n) (leg_eq n.leg Go && is_am (statement script n.origin n.statement)) (and_parts (has_message script rules n && (leg_eq n.leg Go && is_am (statement script n.origin n.statement))) _ (Atomic-head script rules (End n u w) J h).there).0 in
         let has = has-of script rules n.origin n.statement (and_parts (has_statement script rules n.origin n.statement) _ is.0).0 in
         let am = (and_parts (leg_eq n.leg Go) (is_am (statement script n.origin n.statement)) is.1).1 in
-        absurd (both_ways (is_am (statement script n.origin n.statement)) (or_parts (is_am (statement script n.origin n.statement)) (is_rmw (statement script n.origin n.statement)) (st.plain n.origin n.statement has)).0 am)
+        absurd (both_ways (is_am (statement script n.origin n.statement)) (or_parts (is_am (statement script n.origin n.statement)) (is_rmw (statement script n.origin n.statement)) (st.only_moves n.origin n.statement has)).0 am)
 
     -- ---- all events
 
     all-known : (J : List Event) → Atomic script rules J → ((t x : ℕ) → Known J t x) × Carries J
     unfolding Known Carries values memory_of
-    all-known [] h = (λ t x. inl (record { is_zero = refl; none = λ b j has w. done-nil (written script b j) }), λ a i leg data_leg d. absurd (both_ways _ (done-nil (Copied (message a i leg))) d))
+    all-known [] h = (λ t x. inl (record { is_zero = refl; none = λ b j has w. done-nil (write_deed script b j) }), λ a i leg data_leg d. absurd (both_ways _ (done-nil (Copied (message a i leg))) d))
     all-known (e ∷ J) h =
         let old = all-known J (Atomic-tail script rules e J h) in
         (λ t x. known-step e J t x h (old.0 t x) (outcome e J t x h old.1), carries-step e J h old.0 old.1)
 
-    pub settled-is : (J : List Event) (k t x : ℕ) → Atomic script rules J → IsSettled script rules J k t x → (values script rules J).memory t x ≡ M k t x
+    pub staged-is : (J : List Event) (k t x : ℕ) → Atomic script rules J → IsAtStage script rules J k t x → (values script rules J).memory t x ≡ M k t x
     unfolding memory_of
-    settled-is J k t x h settled = settled-known J k t x ((all-known J h).0 t x) settled
+    staged-is J k t x h staged = staged-known J k t x ((all-known J h).0 t x) staged
 
 -- the laws, of every atomic journal
-pub settled-are : HoldsOfAtomic SettledAreStages
-settled-are script rules J h = λ M st k t x settled. settled-is script rules M st J k t x h settled
+pub staged-are : HoldsOfAtomic BytesAreStages
+staged-are script rules J h = λ M st k t x staged. staged-is script rules M st J k t x h staged
 
 pub ends-are : HoldsOfAtomic EndsAreStages
 ends-are script rules J h = λ M st n all below past t x.
-    settled-is script rules M st J n t x h (λ a i has w.
+    staged-is script rules M st J n t x h (λ a i has w.
     let l = below a i t x has w in
     let e = all a has.0 in
     over-written script rules M st J a i t x h has w (epochs-wait script rules J h a (length (statements script a)) a i (let p = past a has.0 in omega arith) has (writes-no_pass script rules a i t x w).1 (omega arith))

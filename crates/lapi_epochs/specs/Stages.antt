@@ -64,15 +64,15 @@ module _ (script : Script) where
   is_written a i t x = (t == writes_to a i) && covers (writes_at a i) x
 
   -- what stands in the journal once it has
-  abbrev pub written : (a i : ℕ) → Deed
-  written a i = cond (goes (statement script a i)) (Landed (message a i Go)) (cond (comes (statement script a i)) (Landed (message a i Back)) (Issued a i))
+  abbrev pub write_deed : (a i : ℕ) → Deed
+  write_deed a i = cond (goes (statement script a i)) (Landed (message a i Go)) (cond (comes (statement script a i)) (Landed (message a i Back)) (Issued a i))
 
 module _ (script : Script) (rules : Rules) where
   -- M k is what the memories hold after k epochs.
   pub record AreStages (M : ℕ → Memories) : Type 0 where
     -- no statement is an active message or a read-modify-write, and none is refused
-    pub plain : (a i : ℕ) → Has script a i → (is_am (statement script a i) || is_rmw (statement script a i)) ≡ false
-    pub kept : (J : List Event) (a i : ℕ) → Has script a i → why script rules J a i ≡ None
+    pub only_moves : (a i : ℕ) → Has script a i → (is_am (statement script a i) || is_rmw (statement script a i)) ≡ false
+    pub none_refused : (J : List Event) (a i : ℕ) → Has script a i → why script rules J a i ≡ None
     -- zeros at first; and what an epoch writes nowhere stays
     pub start : (t x : ℕ) → M 0 t x ≡ 0
     pub stays : (k t x : ℕ) → ((a i : ℕ) → Has script a i → epoch script a i ≡ k → is_written script a i t x ≡ false) → M (suc k) t x ≡ M k t x
@@ -85,12 +85,12 @@ module _ (script : Script) (rules : Rules) where
         (is_store (statement script b j) ≡ true) × (b ≡ a) × (j < i)
 
   -- of the statements that write byte x of task t, exactly those of the first k epochs have done so
-  abbrev pub IsSettled : List Event → (k t x : ℕ) → Type 0
-  IsSettled J k t x = (a i : ℕ) → Has script a i → is_written script a i t x ≡ true → done (written script a i) J ≡ nat_lt (epoch script a i) k
+  abbrev pub IsAtStage : List Event → (k t x : ℕ) → Type 0
+  IsAtStage J k t x = (a i : ℕ) → Has script a i → is_written script a i t x ≡ true → done (write_deed script a i) J ≡ nat_lt (epoch script a i) k
 
-  -- a settled byte is that of its stage
-  abbrev pub SettledAreStages : List Event → Type 0
-  SettledAreStages J = (M : ℕ → Memories) → AreStages M → (k t x : ℕ) → IsSettled J k t x → (values script rules J).memory t x ≡ M k t x
+  -- a staged byte is that of its stage
+  abbrev pub BytesAreStages : List Event → Type 0
+  BytesAreStages J = (M : ℕ → Memories) → AreStages M → (k t x : ℕ) → IsAtStage J k t x → (values script rules J).memory t x ≡ M k t x
 
   -- where every task is past its last statement, and each has n global fences, none of whose statements after them writes, all memories are those of the last stage
   abbrev pub EndsAreStages : List Event → Type 0

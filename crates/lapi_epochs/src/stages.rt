@@ -1,12 +1,12 @@
 //! What the memories of a script hold after each epoch.
 ghost use Rattle.lapi_base.specs.Headline.{HoldsOfAtomic, HoldsOfJournals};
-ghost use Rattle.lapi_epochs.specs.Stages.{SettledAreStages, EndsAreStages};
+ghost use Rattle.lapi_epochs.specs.Stages.{BytesAreStages, EndsAreStages};
 
 /// Where operations read nothing that another of their epoch writes, a byte is that of its stage once the statements
 /// that write it are over, and at the end all memories are those of the last stage.
 pub fn memories_are_stages()
-    ensures settled { HoldsOfAtomic SettledAreStages }
+    ensures bytes { HoldsOfAtomic BytesAreStages }
     ensures ends { HoldsOfAtomic EndsAreStages }
-    ensures settled_runs { HoldsOfJournals SettledAreStages }
+    ensures bytes_of_runs { HoldsOfJournals BytesAreStages }
     ensures ends_of_runs { HoldsOfJournals EndsAreStages }
 {}

@@ -201,7 +201,7 @@ module _ (script : Script) (rules : Rules) where
         (λ (x : done (Issued a i) J ≡ true). x)
         (λ (y : (done (Refused a i) J ≡ true) ⊎ (done (Passed a i) J ≡ true)).
         ⊎_elim
-        (λ (x : done (Refused a i) J ≡ true). let k = kind script rules (Refused a i) J h x in absurd (let e : None ≡ Some k.1 = sym (f.kept k.0 a i has) ∙ k.2 in cc))
+        (λ (x : done (Refused a i) J ≡ true). let k = kind script rules (Refused a i) J h x in absurd (let e : None ≡ Some k.1 = sym (f.none_refused k.0 a i has) ∙ k.2 in cc))
         (λ (x : done (Passed a i) J ≡ true). absurd (both_ways _ (data-not_passed (statement script a i) d).0 (kind script rules (Passed a i) J h x)))
         y)
         (taken script rules J h a i l)
@@ -213,7 +213,7 @@ module _ (script : Script) (rules : Rules) where
         (λ (x : done (Issued a i) J ≡ true). absurd (both_ways _ e.1 (kind script rules (Issued a i) J h x)))
         (λ (y : (done (Refused a i) J ≡ true) ⊎ (done (Passed a i) J ≡ true)).
         ⊎_elim
-        (λ (x : done (Refused a i) J ≡ true). let k = kind script rules (Refused a i) J h x in absurd (let q : None ≡ Some k.1 = sym (f.kept k.0 a i has) ∙ k.2 in cc))
+        (λ (x : done (Refused a i) J ≡ true). let k = kind script rules (Refused a i) J h x in absurd (let q : None ≡ Some k.1 = sym (f.none_refused k.0 a i has) ∙ k.2 in cc))
         (λ (x : done (Passed a i) J ≡ true). passed-entered J a i h e.0 x)
         y)
         (taken script rules J h a i l)
@@ -228,8 +228,8 @@ module _ (script : Script) (rules : Rules) where
         let go = go-complete r s sound a i has (back-data (statement script a i) leg) l in
         let stand = owes.lands (message a i Go) (s.landed (message a i Go) go) in
         (subst (λ x. Stand r.journal (cond x (Copy (message a i Back) ∷ []) (cond (has_completion script rules a i) [] (note_of script rules (message a i Go))))) leg stand).0
-    complete r s sound owes a i Note has leg l = absurd (false≢true (ap is_some (sym (f.none a i has).0) ∙ (and_parts (is_some (cmpl_counter (statement script a i))) (not (answers script rules a i)) leg).0))
-    complete r s sound owes a i Echo has leg l = absurd (both_ways _ (f.none a i has).1 leg)
+    complete r s sound owes a i Note has leg l = absurd (false≢true (ap is_some (sym (f.no_notes a i has).0) ∙ (and_parts (is_some (cmpl_counter (statement script a i))) (not (answers script rules a i)) leg).0))
+    complete r s sound owes a i Echo has leg l = absurd (both_ways _ (f.no_notes a i has).1 leg)
     complete r s sound owes a i (Join d) has leg l =
         let parts = and_parts (has_join (statement script a i)) _ leg in
         ready-join script rules r.journal (λ m. done (Copied m) r.journal) a i d (list_all-at (λ m. done (Copied m) r.journal) (ready script r.journal a) (s.copied a has.0)) has.1 leg (join-entered r.journal a i sound.atomic has parts.0 l)
@@ -245,8 +245,8 @@ module _ (script : Script) (rules : Rules) where
         come : (g : Leg) → has_leg script (answers script rules a i) a g (statement script a i) ≡ true → done (Copied (message a i g)) K ≡ true → i ≤ next K a
         come Go q d = let l : i < next K a = behind script rules (Issued a i) K h (needed-go script rules K a i Go h d (inl refl)) in omega arith
         come Back q d = let l : i < next K a = behind script rules (Issued a i) K h (needed-go script rules K a i Back h d (inr refl)) in omega arith
-        come Note q d = absurd (false≢true (ap is_some (sym (f.none a i (has-of script rules a i (and_parts (has_statement script rules a i) _ (there script rules (Copied (message a i Note)) K h d)).0)).0) ∙ (and_parts (is_some (cmpl_counter (statement script a i))) (not (answers script rules a i)) q).0))
-        come Echo q d = absurd (both_ways _ (f.none a i (has-of script rules a i (and_parts (has_statement script rules a i) _ (there script rules (Copied (message a i Echo)) K h d)).0)).1 q)
+        come Note q d = absurd (false≢true (ap is_some (sym (f.no_notes a i (has-of script rules a i (and_parts (has_statement script rules a i) _ (there script rules (Copied (message a i Note)) K h d)).0)).0) ∙ (and_parts (is_some (cmpl_counter (statement script a i))) (not (answers script rules a i)) q).0))
+        come Echo q d = absurd (both_ways _ (f.no_notes a i (has-of script rules a i (and_parts (has_statement script rules a i) _ (there script rules (Copied (message a i Echo)) K h d)).0)).1 q)
         come (Join x) q d = let l : i ≤ next K a = behind script rules (Entered a i) K h (closed script rules (Copied (message a i (Join x))) K h d).0 in l
 
     module _ (k : ℕ) (lk : k < rounds) (r : Run) (sound : SoundRun script rules r) (paid : IsPaid script rules r) (owes : Owes script rules r.journal) (at : IsAtRound script rules begin k r) where
@@ -301,7 +301,7 @@ module _ (script : Script) (rules : Rules) where
           let high = o.1 in
           let now = c.part l in
           let inside : i < fence k n = omega arith in
-          let s = issue-step u n i (sym now) (let q : i < length (statements script n) = omega arith in q) (f.kept u.journal n i (l, let q : i < length (statements script n) = omega arith in q)) (f.issues k n i lk l (let q : begin k n ≤ i = omega arith in q) inside) in
+          let s = issue-step u n i (sym now) (let q : i < length (statements script n) = omega arith in q) (f.none_refused u.journal n i (l, let q : i < length (statements script n) = omega arith in q)) (f.issues k n i lk l (let q : begin k n ≤ i = omega arith in q) inside) in
           let v = step script rules u n in
           let J = u.journal in record {
             u_sound = step-sound script rules u n l c.u_sound;
@@ -378,7 +378,7 @@ module _ (script : Script) (rules : Rules) where
           let w = (f.few k a b lk la lb).2 in
           let e = ap (λ L. length (out script L a b)) g.since.1 in
           omega arith in
-          let z = settles script rules u f.none tops room g.f_sound g.f_paid g.f_owes (λ a b la lb. (calm a b la lb, let q : length (out script u.journal a b) ≤ length (out script u.journal a b) = omega arith in q)) in
+          let z = settles script rules u f.no_notes tops room g.f_sound g.f_paid g.f_owes (λ a b la lb. (calm a b la lb, let q : length (out script u.journal a b) ≤ length (out script u.journal a b) = omega arith in q)) in
           let adds = z.3 in (
             z.0,
             record {
@@ -420,7 +420,7 @@ module _ (script : Script) (rules : Rules) where
             let has : Has script n j = (l, let q : j < length (statements script n) = omega arith in q) in
             let come : j < next s.journal n = omega arith in
             let copied = go-complete s settled g.f_sound n j has d come in
-            let ends = ends-there script rules f.none s.journal n j Go g.f_sound.atomic copied in
+            let ends = ends-there script rules f.no_notes s.journal n j Go g.f_sound.atomic copied in
             let b = receiver script (message n j Go) in
             cond_both (has_back (statement script n j)) (done (Landed (message n j Back)) u.journal) (done (Copied (message n j Go)) u.journal && all_numbers script (out script u.journal n b) (message n j Go) (is_acked u n b)) (λ y. y ≡ true)
             (λ back. steps-done s u (Landed (message n j Back)) x (settled.landed (message n j Back) (complete s settled g.f_sound g.f_owes n j Back has back come)))
@@ -440,7 +440,7 @@ module _ (script : Script) (rules : Rules) where
             let at_place = c.e_place n l in
             let high = o.1 in
             let is = (f.fences k n lk l).0 in
-            let none = f.kept u.journal n i (l, high) in
+            let none = f.none_refused u.journal n i (l, high) in
             let what : unless_refused script rules u n (next u.journal n) (why script rules u.journal n (next u.journal n)) ≡ Some (Enter n i) =
             subst (λ j. unless_refused script rules u n j (why script rules u.journal n j) ≡ Some (Enter n i)) (sym at_place)
             (ap (unless_refused script rules u n i) none
@@ -540,7 +540,7 @@ module _ (script : Script) (rules : Rules) where
             let at_place = c.here n l (let q : n ≤ n = omega arith in q) in
             let high = (f.order k n lk l).1 in
             let is = (f.fences k n lk l).0 in
-            let none = f.kept u.journal n i (l, high) in
+            let none = f.none_refused u.journal n i (l, high) in
             let what : unless_refused script rules u n (next u.journal n) (why script rules u.journal n (next u.journal n)) ≡ Some (Pass n i) =
             subst (λ j. unless_refused script rules u n j (why script rules u.journal n j) ≡ Some (Pass n i)) (sym at_place)
             (ap (unless_refused script rules u n i) none

@@ -35,8 +35,8 @@ module _ (script : Script) (rules : Rules) where
   -- In each of so many rounds task a calls its statements from `begin k a` on, stores, puts and gets, and then the global fence
   -- `fence k a`. None is refused, none names a completion counter, and on each link the messages of a round have no more numbers than the window.
   pub record IsFenced (rounds : ℕ) (begin fence : (round task : ℕ) → ℕ) : Type 0 where
-    pub none : HasNoNotes script rules
-    pub kept : (J : List Event) (a i : ℕ) → Has script a i → why script rules J a i ≡ None
+    pub no_notes : HasNoNotes script rules
+    pub none_refused : (J : List Event) (a i : ℕ) → Has script a i → why script rules J a i ≡ None
     pub first : (a : ℕ) → a < script.tasks → begin 0 a ≡ 0
     pub order : (k a : ℕ) → k < rounds → a < script.tasks → (begin k a ≤ fence k a) × (fence k a < length (statements script a)) × (begin (suc k) a ≡ suc (fence k a))
     pub issues : (k a i : ℕ) → k < rounds → a < script.tasks → begin k a ≤ i → i < fence k a → (is_store (statement script a i) || (goes (statement script a i) || comes (statement script a i))) ≡ true
