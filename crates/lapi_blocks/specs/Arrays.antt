@@ -1,4 +1,5 @@
--- What the tasks of a compiled plan hold in the end: the plain array, and the patches that were got. This is the project's own.
+-- What the tasks of a compiled plan hold in the end: the plain array, and the patches that were got. This is the
+-- project's own.
 use Rattle.std.specs.Prelude.{◌≡◌, ℕ, ◌+◌, ◌-◌, ◌*◌, ◌/◌, ◌%◌, ◌<◌, map, Bool, List, length, slice_get, Some}
 use Rattle.std.specs.List.{AllByRecursion}
 use Rattle.lapi_base.specs.declared.script.Script.{Script}
@@ -20,7 +21,8 @@ use Rattle.lapi_blocks.specs.Plans.{Patch, patch_of, Table, ValidPlan, byte_at, 
 
 -- the bytes of a patch of an array, row after row
 abbrev pub patch_bytes : Table → Patch → List ℕ
-patch_bytes table p = map (λ z. table (p.row + z / 4 / p.cols) (p.col + (z / 4) % p.cols) (z % 4)) (upto (4 * (p.rows * p.cols)))
+patch_bytes table p =
+    map (λ z. table (p.row + z / 4 / p.cols) (p.col + (z / 4) % p.cols) (z % 4)) (upto (4 * (p.rows * p.cols)))
 
 -- every task is past its last statement
 abbrev pub IsPast : Script → List Event → Type 0
@@ -31,24 +33,35 @@ module _ (plan : Plan) (rules : Rules) (J : List Event) where
   abbrev pub BlocksArePlain : Type 0
   BlocksArePlain = (r c b : ℕ) → r < plan.p * plan.height → c < plan.q * plan.width → b < 4 →
       let w = owner plan r c in
-      memory_at (compiled plan) rules J w (byte_at plan.width (r - block_row plan w) (c - block_col plan w) b) ≡ plain plan.ops (length plan.ops) r c b
+      memory_at (compiled plan) rules J w (byte_at plan.width (r - block_row plan w) (c - block_col plan w) b)
+      ≡ plain plan.ops (length plan.ops) r c b
 
   -- and the area of a get has the words of its patch as the operations before it left them
   abbrev pub GotArePlain : Type 0
-  GotArePlain = (k task row col rows cols u v b : ℕ) → slice_get plan.ops k ≡ Some (Get task row col rows cols) → u < rows → v < cols → b < 4 →
+  GotArePlain =
+      (k task row col rows cols u v b : ℕ)
+      → slice_get plan.ops k ≡ Some (Get task row col rows cols) → u < rows → v < cols → b < 4 →
       memory_at (compiled plan) rules J task (area k + byte_at cols u v b) ≡ plain plan.ops k (row + u) (col + v) b
 
   -- the same of the bytes of the area, in order
   abbrev pub GotBytesArePlain : Type 0
-  GotBytesArePlain = (k task row col rows cols : ℕ) → slice_get plan.ops k ≡ Some (Get task row col rows cols) →
-      gathered (values (compiled plan) rules J).memory task (one_span (area k) (4 * (rows * cols))) ≡ patch_bytes (plain plan.ops k) (patch_of (Get task row col rows cols))
+  GotBytesArePlain =
+      (k task row col rows cols : ℕ) → slice_get plan.ops k ≡ Some (Get task row col rows cols) →
+      gathered (values (compiled plan) rules J).memory task (one_span (area k) (4 * (rows * cols)))
+      ≡ patch_bytes (plain plan.ops k) (patch_of (Get task row col rows cols))
 
--- this holds of each atomic journal of a valid plan's script after which every task is past its last statement
+-- this holds of each atomic journal of a valid plan's script by which every task is past its last statement
 abbrev pub HoldsOfPlans : (Plan → Rules → List Event → Type 0) → Type 0
-HoldsOfPlans P = (plan : Plan) → ValidPlan plan → (rules : Rules) (J : List Event) → Atomic (compiled plan) rules J → IsPast (compiled plan) J → P plan rules J
+HoldsOfPlans P =
+    (plan : Plan) → ValidPlan plan → (rules : Rules) (J : List Event)
+    → Atomic (compiled plan) rules J → IsPast (compiled plan) J
+    → P plan rules J
 
--- and this of each run of it
+-- and this of each run of it by which they are
 abbrev pub HoldsOfPlanRuns : (Plan → Rules → List Event → Type 0) → Type 0
-HoldsOfPlanRuns P = (plan : Plan) → ValidPlan plan → (rules : Rules) (spells : List ℕ → Bool) (size : Packet → ℕ) (refusal : List ℕ → Bad) (acts : List Act) → AllByRecursion (ValidAct (compiled plan) spells) acts →
+HoldsOfPlanRuns P =
+    (plan : Plan) → ValidPlan plan
+    → (rules : Rules) (spells : List ℕ → Bool) (size : Packet → ℕ) (refusal : List ℕ → Bad) (acts : List Act)
+    → AllByRecursion (ValidAct (compiled plan) spells) acts →
     let J = (run_of (compiled plan) rules size refusal acts).journal in
     IsPast (compiled plan) J → P plan rules J

@@ -1,10 +1,11 @@
+//! Plans: a grid of tasks, the size of their blocks, and operations on patches of the array.
 use lapi_base::Bytes;
 use std::marker::Model;
 
-/// One operation of a task on a patch of the array: `rows` by `cols` words from a row and a column on.
+/// One operation of a task on a patch of the array: `rows` by `cols` words from row `row` and column `col` on.
 #[derive(Debug, Drop)]
 pub enum Op {
-    /// Writes the patch, row after row.
+    /// Writes the patch: four bytes for each word, row after row.
     Set {
         task: u32,
         row: u32,
@@ -38,13 +39,18 @@ impl Model for Ops {
     ghost view = { λ list. list.items.items };
 }
 
-/// An array of 32-bit words over a grid of `p` by `q` tasks, of which each has a block of `height` by `width` words, and
-/// what is done with it.
+/// An array of 32-bit words over a grid of `p` by `q` tasks, of which each has a block of `height` by `width` words,
+/// and what is done with it. Task `i * q + j` has row `i` and column `j` of the grid.
 #[derive(Debug, Drop)]
 pub struct Plan {
+    /// The rows of the grid.
     pub p: u32,
+    /// Its columns.
     pub q: u32,
+    /// The rows of a block.
     pub height: u32,
+    /// Its columns, in words.
     pub width: u32,
+    /// What is done, in order; a global fence follows each operation.
     pub ops: Ops,
 }

@@ -1,5 +1,5 @@
-//! What the global fences of a script order: the statements between two of them are an epoch of their task, and memories
-//! at the ends of epochs. Each law is the contract of a function without a body.
+//! What the global fences of a script order: the statements between two of them are an epoch of their task. And what
+//! the memories hold at the ends of epochs. Each law is the contract of a function without a body.
 #![tactic(auto)]
 
 mod epochs;

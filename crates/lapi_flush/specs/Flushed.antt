@@ -1,5 +1,5 @@
--- A flush of a task: a Poll of it, and then a served part for each of its links that the Poll added data packets to. This is the
--- project's own.
+-- A flush of a task: a Poll of it, and then a served part for each of its links that the Poll added data packets to.
+-- This is the project's own.
 use Rattle.std.specs.Prelude.{◌≡◌, ℕ, zero, suc, ◌+◌, ◌-◌, ◌*◌, ◌<◌, ◌≤◌, nat_lt, true, false, List, [], ◌∷◌, ◌++◌, length}
 use Rattle.lapi_base.specs.declared.script.Script.{Script}
 use Rattle.lapi_base.specs.declared.rule.Rules.{Rules}
@@ -44,12 +44,12 @@ module _ (script : Script) (rules : Rules) where
   abbrev pub polled : Run → (t : ℕ) → List Event
   polled r t = copy_each r.journal (ready script r.journal t)
 
-  -- entries from first on, of which there are so many
+  -- a served part of so many entries from first on, and no line where there are none
   abbrev pub part_acts : Run → (a b first count : ℕ) → List Act
   part_acts r a b first zero = []
   part_acts r a b first (suc last) = served r a b first last
 
-  -- after a Poll of t: what it added to the wires from t to the first n tasks
+  -- after a Poll of t: served parts of what it added to the wires from t to the first n tasks
   unfoldable pub link_acts : Run → (t n : ℕ) → List Act
   link_acts r t zero = []
   link_acts r t (suc b) =
@@ -57,19 +57,22 @@ module _ (script : Script) (rules : Rules) where
       let now = after script rules packet_size refusal (poll script rules r t) acts in
       acts ++ part_acts now t b (length (r.wire t b)) (length ((poll script rules r t).wire t b) - length (r.wire t b))
 
+  -- the lines of a flush of task t
   abbrev pub flush : Run → (t : ℕ) → List Act
   flush r t = Poll t ∷ link_acts r t script.tasks
 
-  -- Where the links of t are calm, and a Poll adds to each no more numbers than the window has: after it they are calm with
-  -- all numbers that they had by the Poll, each message of t that it found has landed, and calm links of others still are.
+  -- What a flush of t leaves: the links of t are calm with all numbers that they had by its Poll, each message of t
+  -- that was copied by then has landed, and calm links of others still are.
   pub record IsFlushed (r s : Run) (t : ℕ) : Type 0 where
     pub own : (b : ℕ) → b < script.tasks → IsCalm s t b (length (out script (polled r t) t b))
     pub others : (a b top : ℕ) → (a ≡ t → ⊥) → IsCalm r a b top → IsCalm s a b top
-    pub landed : (m : MsgName) → sender script m ≡ t → receiver script m < script.tasks → Happened (Copied m) (polled r t) → Happened (Landed m) s.journal
+    pub landed : (m : MsgName) → sender script m ≡ t → receiver script m < script.tasks
+        → Happened (Copied m) (polled r t) → Happened (Landed m) s.journal
     pub events : AddsEvents (polled r t) s.journal
     -- it has no more than two lines for each data packet that it adds, and one
     pub lines : length (flush r t) + 2 * all_data script.tasks r ≤ 1 + 2 * all_data script.tasks s
 
+  -- where acknowledgements go out at once, the links of t are calm, and a Poll adds to each no more than the window has
   abbrev pub FlushesAreFlushed : Run → Type 0
   FlushesAreFlushed r = holds_back script ≡ false → (t : ℕ) (tops : ℕ → ℕ)
       → t < script.tasks

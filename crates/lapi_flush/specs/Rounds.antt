@@ -1,5 +1,5 @@
--- Scripts whose tasks call stores, puts and gets between global fences, and lines that lead from one fence to the next. This is
--- the project's own.
+-- Rounds: a script's tasks call stores, puts and gets, and then a global fence, again and again; and lines that lead
+-- from one round to the next. This is the project's own.
 use Rattle.std.specs.Prelude.{◌≡◌, ◌⊎◌, ℕ, zero, suc, ◌+◌, ◌-◌, ◌<◌, ◌≤◌, true, false, ◌||◌, List, [], ◌∷◌, ◌++◌, length, None}
 use Rattle.lapi_base.specs.declared.script.Script.{Script}
 use Rattle.lapi_base.specs.declared.rule.Rules.{Rules}
@@ -32,20 +32,30 @@ weigh script [] = 0
 weigh script (m ∷ ms) = fragment_count script m + weigh script ms
 
 module _ (script : Script) (rules : Rules) where
-  -- In each of so many rounds task a calls its statements from `begin k a` on, stores, puts and gets, and then the global fence
-  -- `fence k a`. None is refused, none names a completion counter, and on each link the messages of a round have no more numbers than the window.
+  -- In round k of so many, task a calls its statements from `begin k a` on, stores, puts and gets, and then the global
+  -- fence `fence k a`, which ends epoch k. None is refused, none notifies, and on each link the messages of a round
+  -- have no more numbers than the window.
   pub record IsFenced (rounds : ℕ) (begin fence : (round task : ℕ) → ℕ) : Type 0 where
     pub no_notes : HasNoNotes script rules
     pub none_refused : (J : List Event) (a i : ℕ) → Has script a i → why script rules J a i ≡ None
     pub first : (a : ℕ) → a < script.tasks → begin 0 a ≡ 0
-    pub order : (k a : ℕ) → k < rounds → a < script.tasks → (begin k a ≤ fence k a) × (fence k a < length (statements script a)) × (begin (suc k) a ≡ suc (fence k a))
-    pub issues : (k a i : ℕ) → k < rounds → a < script.tasks → begin k a ≤ i → i < fence k a → (is_store (statement script a i) || (goes (statement script a i) || comes (statement script a i))) ≡ true
-    pub fences : (k a : ℕ) → k < rounds → a < script.tasks → (statement script a (fence k a) ≡ Gfence) × (epoch script a (fence k a) ≡ k)
+    pub order : (k a : ℕ) → k < rounds → a < script.tasks
+        → (begin k a ≤ fence k a) × (fence k a < length (statements script a)) × (begin (suc k) a ≡ suc (fence k a))
+    pub issues : (k a i : ℕ) → k < rounds → a < script.tasks → begin k a ≤ i → i < fence k a
+        → (is_store (statement script a i) || (goes (statement script a i) || comes (statement script a i))) ≡ true
+    pub fences : (k a : ℕ) → k < rounds → a < script.tasks
+        → (statement script a (fence k a) ≡ Gfence) × (epoch script a (fence k a) ≡ k)
     pub few : (k a b : ℕ) → k < rounds → a < script.tasks → b < script.tasks →
-        (ms : List MsgName) × ((m : MsgName) → Has script m.origin m.statement → has_leg script (answers script rules m.origin m.statement) m.origin m.leg (statement script m.origin m.statement) ≡ true → begin k m.origin ≤ m.statement → m.statement ≤ fence k m.origin → sender script m ≡ a → receiver script m ≡ b → In ms m)
+        (ms : List MsgName)
+        × ((m : MsgName) → Has script m.origin m.statement
+            → has_leg script (answers script rules m.origin m.statement) m.origin m.leg
+              (statement script m.origin m.statement) ≡ true
+            → begin k m.origin ≤ m.statement → m.statement ≤ fence k m.origin
+            → sender script m ≡ a → receiver script m ≡ b
+            → In ms m)
         × (weigh script ms ≤ window_of script)
 
-  -- between rounds nothing is under way, and no fence was entered that wasn't passed
+  -- the record is at the beginning of round k: nothing is under way, and every fence that was entered was passed
   pub record IsAtRound (begin : (round task : ℕ) → ℕ) (k : ℕ) (r : Run) : Type 0 where
     pub settled : IsSettled script rules r
     pub place : (a : ℕ) → a < script.tasks → next r.journal a ≡ begin k a
@@ -73,7 +83,17 @@ module _ (script : Script) (rules : Rules) where
   -- a round: all calls, two sweeps, all fences are entered, two sweeps, and all are passed
   abbrev pub round_acts : (begin fence : (round task : ℕ) → ℕ) → (k : ℕ) → Run → List Act
   round_acts begin fence k r =
-      and_after r (and_after r (and_after r (and_after r (calls_to begin fence k script.tasks) (two_sweeps script rules)) (λ s. steps_to script.tasks)) (two_sweeps script rules)) (λ s. steps_to script.tasks)
+      and_after r
+      (and_after r
+      (and_after r
+      (and_after r (calls_to begin fence k script.tasks) (two_sweeps script rules))
+      (λ s. steps_to script.tasks))
+      (two_sweeps script rules))
+      (λ s. steps_to script.tasks)
 
+  -- where acknowledgements go out at once, the lines of round k lead from its beginning to that of the next
   abbrev pub RoundsGoOn : Run → Type 0
-  RoundsGoOn r = holds_back script ≡ false → (rounds : ℕ) (begin fence : (round task : ℕ) → ℕ) → IsFenced rounds begin fence → (k : ℕ) → k < rounds → IsAtRound begin k r → IsAtRound begin (suc k) (after script rules packet_size refusal r (round_acts begin fence k r))
+  RoundsGoOn r =
+      holds_back script ≡ false → (rounds : ℕ) (begin fence : (round task : ℕ) → ℕ) → IsFenced rounds begin fence
+      → (k : ℕ) → k < rounds → IsAtRound begin k r
+      → IsAtRound begin (suc k) (after script rules packet_size refusal r (round_acts begin fence k r))

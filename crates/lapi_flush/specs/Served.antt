@@ -1,5 +1,5 @@
--- A served part of a schedule: it delivers some entries of a wire, and then the last acknowledgement that they added to the wire
--- back. This is the project's own.
+-- A served part of a schedule: it delivers some entries of a wire, and then the last acknowledgement that they added to
+-- the wire back. This is the project's own.
 use Rattle.std.specs.Prelude.{◌≡◌, ◌⊎◌, ℕ, zero, suc, ◌+◌, ◌<◌, ◌≤◌, true, false, List, [], ◌∷◌, ◌++◌, length, slice_get, Some}
 use Rattle.std.specs.List.{AllByRecursion}
 use Rattle.lapi_base.specs.declared.script.Script.{Script}
@@ -20,15 +20,16 @@ use Rattle.lapi_base.specs.Written.{packet_size}
 use Rattle.lapi_base.specs.Record.{Run, out, is_sent, is_acked, perform, after}
 use Rattle.lapi_base.specs.Headline.{Happened}
 
--- entries first, first + 1 .. of the wire from a to b
+-- so many lines that deliver entries first, first + 1 .. of the wire from a to b
 unfoldable pub delivers : (a b first count : ℕ) → List Act
 delivers a b first zero = []
 delivers a b first (suc n) = delivers a b first n ++ Deliver a b (first + n) ∷ []
 
--- entries first to first + last, and the acknowledgement that the last of them adds
+-- lines that deliver entries first to first + last, and the acknowledgement that the last of them adds
 abbrev pub served : Run → (a b first last : ℕ) → List Act
 served r a b first last = delivers a b first (suc last) ++ Deliver b a (length (r.wire b a) + last) ∷ []
 
+-- a packet that acknowledges
 abbrev pub IsAck : Packet → Type 0
 IsAck (Data p) = ⊥
 IsAck (Ack from to base bits) = Unit {0}
@@ -49,20 +50,24 @@ IsOfMessage _ = Unit {0}
 abbrev pub AddsEvents : List Event → List Event → Type 0
 AddsEvents old new = (later : List Event) × (new ≡ later ++ old) × AllByRecursion IsOfMessage later
 
--- Entries first to first + last of the wire from a to b are data packets; each number below `top`, and all that were sent are
--- such, was acknowledged before or is one of theirs.
+-- Entries first to first + last of the wire from a to b are data packets; each number below `top`, and all that were
+-- sent are such, was acknowledged before or is one of theirs.
 pub record IsPart (r : Run) (a b first last top : ℕ) : Type 0 where
   pub entries : (i : ℕ) → i ≤ last → (p : DataPacket) × (slice_get (r.wire a b) (first + i) ≡ Some (Data p))
-  pub numbers : (m : ℕ) → m < top → (is_acked r a b m ≡ true) ⊎ ((i : ℕ) × (i ≤ last) × (p : DataPacket) × (slice_get (r.wire a b) (first + i) ≡ Some (Data p)) × (p.seq ≡ m))
+  pub numbers : (m : ℕ) → m < top
+      → (is_acked r a b m ≡ true)
+      ⊎ ((i : ℕ) × (i ≤ last) × (p : DataPacket) × (slice_get (r.wire a b) (first + i) ≡ Some (Data p)) × (p.seq ≡ m))
   pub sent : (m : ℕ) → is_sent r a b m ≡ true → m < top
 
 module _ (script : Script) (rules : Rules) where
-  -- After it, all numbers that were sent on the link are acknowledged, as are those of other links that were before; each message
-  -- all of whose numbers were sent has landed; and no wire has a data packet more.
+  -- After it, all numbers that were sent on the link are acknowledged, as are those of other links that were before;
+  -- each message all of whose numbers were sent has landed; and no wire has a data packet more.
   pub record IsServed (r s : Run) (a b : ℕ) : Type 0 where
     pub acked : (m : ℕ) → is_sent s a b m ≡ true → is_acked s a b m ≡ true
     pub stays : (x y m : ℕ) → is_acked r x y m ≡ true → is_acked s x y m ≡ true
-    pub landed : (m : MsgName) → sender script m ≡ a → receiver script m ≡ b → Happened (Copied m) r.journal → ((n j : ℕ) → slice_get (out script r.journal a b) n ≡ Some (m, j) → is_sent r a b n ≡ true) → Happened (Landed m) s.journal
+    pub landed : (m : MsgName) → sender script m ≡ a → receiver script m ≡ b → Happened (Copied m) r.journal
+        → ((n j : ℕ) → slice_get (out script r.journal a b) n ≡ Some (m, j) → is_sent r a b n ≡ true)
+        → Happened (Landed m) s.journal
     pub wires : (x y : ℕ) → AddsAcks (r.wire x y) (s.wire x y)
     pub events : AddsEvents r.journal s.journal
 
@@ -73,11 +78,13 @@ module _ (script : Script) (rules : Rules) where
   IsNamed r (Deliver a b k) = (a < script.tasks) × (b < script.tasks) × (k < length (r.wire a b))
   IsNamed r _ = ⊥
 
-  -- each line, at the record that it comes to
+  -- each of these lines is such, at the record that it comes to
   abbrev pub AllNamed : Run → List Act → Type 0
   AllNamed r [] = Unit {0}
   AllNamed r (act ∷ acts) = IsNamed r act × AllNamed (perform script rules packet_size refusal r act) acts
 
-  -- where acknowledgements go out at once
+  -- where acknowledgements go out at once, a part that keeps what `IsPart` says leaves what `IsServed` says
   abbrev pub PartsAreServed : Run → Type 0
-  PartsAreServed r = holds_back script ≡ false → (a b first last top : ℕ) → IsPart r a b first last top → IsServed r (after script rules packet_size refusal r (served r a b first last)) a b
+  PartsAreServed r =
+      holds_back script ≡ false → (a b first last top : ℕ) → IsPart r a b first last top
+      → IsServed r (after script rules packet_size refusal r (served r a b first last)) a b
