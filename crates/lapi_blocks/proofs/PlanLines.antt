@@ -9,8 +9,7 @@ use Rattle.std.proofs.Common.{◌++◌}
 use Rattle.lapi_base.specs.Below.{below}
 use Rattle.lapi_base.specs.declared.rule.Rules.{Rules}
 use Rattle.lapi_base.specs.declared.statement.Statement.{Statement}
-use Rattle.lapi_base.specs.declared.statement.Statement.TheVariants.{Store, Putv, Getv, Fence, Gfence}
-use Rattle.lapi_base.specs.declared.statement.Statement.TheVariants as statements_of
+use Rattle.lapi_base.specs.declared.statement.Statement.TheVariants.{Store, Fence, Gfence}
 use Rattle.lapi_base.specs.declared.message.Leg.{Leg}
 use Rattle.lapi_base.specs.declared.message.Leg.TheVariants.{Go, Back, Note, Echo, Join}
 use Rattle.lapi_base.specs.declared.message.MsgName.{MsgName}
@@ -25,7 +24,7 @@ use Rattle.lapi_laws.proofs.Deeds.{done-nil}
 use Rattle.lapi_laws.proofs.Lines.{SoundRun, all-flat_map, all-any}
 use Rattle.lapi_laws.proofs.Runs.{start-sound}
 use Rattle.lapi_laws.proofs.Follows.{Owes, after-owes}
-use Rattle.lapi_base.specs.Operations.{upto, statements, statement, is_am, target_of, sender, receiver, is_data, has_back, has_join, has_leg, cmpl_counter, length_by, message_length, fragment_count}
+use Rattle.lapi_base.specs.Operations.{upto, statements, statement, is_am, target_of, sender, receiver, is_data, has_join, has_leg, cmpl_counter, length_by, message_length, fragment_count}
 use Rattle.lapi_laws.proofs.Places.{place-below}
 use Rattle.lapi_laws.proofs.Still.{back-data}
 use Rattle.lapi_parts.proofs.SentFront.{get-some}

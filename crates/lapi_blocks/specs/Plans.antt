@@ -73,9 +73,9 @@ in_patch p r c = (nat_le p.row r && nat_lt r (p.row + p.rows)) && (nat_le p.col 
 abbrev pub after_op : Option Op → Table → Table
 after_op (Some (Set task row col rows cols values)) table =
     λ r c b.
-        cond (in_patch (record { task = task; row = row; col = col; rows = rows; cols = cols }) r c)
-        (slice_index values (byte_at cols (r - row) (c - col) b))
-        (table r c b)
+    cond (in_patch (record { task = task; row = row; col = col; rows = rows; cols = cols }) r c)
+    (slice_index values (byte_at cols (r - row) (c - col) b))
+    (table r c b)
 after_op _ table = table
 
 -- the plain array after the first k operations, from zeros

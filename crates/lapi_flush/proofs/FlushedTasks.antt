@@ -1,10 +1,9 @@
 -- What a flush of a task leaves.
-use Rattle.std.proofs.Common.{◌≡◌, ℕ, zero, suc, ◌+◌, ◌-◌, ◌*◌, ◌<◌, ◌≤◌, ◌==◌, Bool, true, false, not, ◌&&◌, ◌||◌, List, [], ◌∷◌, ◌++◌, length, Option, Some, None, refl, sym, ap, ◌∙◌, subst, ⊎_elim, inl, inr, append_assoc, arith}
+use Rattle.std.proofs.Common.{◌≡◌, ℕ, zero, suc, ◌+◌, ◌-◌, ◌*◌, ◌<◌, ◌≤◌, ◌==◌, Bool, true, false, not, ◌&&◌, List, [], ◌∷◌, ◌++◌, length, Option, Some, None, refl, sym, ap, ◌∙◌, subst, ⊎_elim, inl, inr, append_assoc, arith}
 use Rattle.std.specs.Prelude.{nat_lt, slice_get}
 use Rattle.std.specs.List.{AllByRecursion, list_any, flat_map}
-use Rattle.std.proofs.lemmas.Bool.{false≢true, and_from, both_ways, cond-true, cond-false, cond_both, cases_lt, lt-ltb, le-ltb, and_left, or_left, or_right, or_cases, eqb-true, eq-eqb, ne_eqb, false_from_ne_true}
+use Rattle.std.proofs.lemmas.Bool.{false≢true, and_from, both_ways, cond-true, cond-false, cond_both, cases_lt, lt-ltb, le-ltb, and_left, or_left, or_right, or_cases, eqb-true, ne_eqb, false_from_ne_true}
 use Rattle.std.proofs.lemmas.List.{append-nil, length-append, length_push}
-use Rattle.std.proofs.lemmas.List.Folds.{list_any-append}
 use Rattle.std.proofs.lemmas.List.Concat.{flat_map-cons}
 use Rattle.lapi_base.specs.declared.script.Script.{Script}
 use Rattle.lapi_base.specs.declared.rule.Rules.{Rules}
@@ -20,7 +19,6 @@ use Rattle.lapi_base.specs.Names.{Copied, Landed, done}
 use Rattle.lapi_base.specs.Operations.{sender, receiver}
 use Rattle.lapi_base.specs.Spelling.{refusal}
 use Rattle.lapi_base.specs.Written.{packet_size}
-use Rattle.lapi_base.specs.Packets.{data_packet}
 use Rattle.lapi_base.specs.Record.{Run, out, base, is_number, has_number, is_sent, is_acked, is_delivered, packet_of, packets, fresh, poll, perform, after}
 use Rattle.lapi_base.specs.Atomic.{Atomic}
 use Rattle.lapi_base.specs.Seen.{HoldsOfRecords}
@@ -29,7 +27,7 @@ use Rattle.lapi_laws.proofs.Deeds.{eqb-refl}
 use Rattle.lapi_laws.proofs.Out.{get-front, all-get}
 use Rattle.lapi_laws.proofs.Places.{get-right}
 use Rattle.lapi_laws.proofs.Sound.{Fits, known, number-known, acked-delivered}
-use Rattle.lapi_laws.proofs.Lines.{SoundRun, poll-sound, all-flat_map, all-any}
+use Rattle.lapi_laws.proofs.Lines.{SoundRun, poll-sound}
 use Rattle.lapi_laws.proofs.Told.{IsData, packets-data}
 use Rattle.lapi_parts.proofs.Records.{record-sound}
 use Rattle.lapi_parts.proofs.Replay.{done-later-all}

@@ -1,14 +1,13 @@
 -- Where nothing is under way, and no message is an active one, a record is quiet.
-use Rattle.std.proofs.Common.{◌≡◌, ℕ, zero, suc, ◌+◌, ◌<◌, ◌==◌, Bool, true, false, ◌&&◌, not, [], ◌∷◌, ◌++◌, length, Some, None, refl, ap, ◌∙◌, subst, arith}
+use Rattle.std.proofs.Common.{◌≡◌, ℕ, ◌+◌, ◌<◌, ◌==◌, true, false, ◌&&◌, not, [], ◌∷◌, length, Some, None, refl, ap, ◌∙◌, subst}
 use Rattle.std.specs.Prelude.{nat_lt}
 use Rattle.std.specs.List.{AllByRecursion}
-use Rattle.std.proofs.lemmas.Bool.{and_parts, and_left, both_ways, cond-false, lt-ltb}
+use Rattle.std.proofs.lemmas.Bool.{and_parts, and_left, both_ways, lt-ltb}
 use Rattle.lapi_base.specs.declared.script.Script.{Script}
 use Rattle.lapi_base.specs.declared.rule.Rules.{Rules}
 use Rattle.lapi_base.specs.declared.message.MsgName.{MsgName}
 use Rattle.lapi_base.specs.declared.message.Leg.TheVariants.{Go}
 use Rattle.lapi_base.specs.Layout.{window_of}
-use Rattle.lapi_base.specs.Below.{below}
 use Rattle.lapi_base.specs.Names.{leg_eq, Copied, Landed, Begun, done}
 use Rattle.lapi_base.specs.Operations.{statement, receiver, is_am}
 use Rattle.lapi_base.specs.Handlers.{has_completion}

@@ -5,8 +5,6 @@ use Rattle.std.specs.List.{AllByRecursion, list_all}
 use Rattle.std.proofs.lemmas.Bool.{false≢true, and_parts, and_from, and_left, both_ways, cond-true, cond-false, cond_both, cases_lt, ltb-true, eqb-true, false_from_ne_true}
 use Rattle.std.proofs.lemmas.List.{length-append, length-map}
 use Rattle.lapi_base.specs.declared.script.Script.{Script}
-use Rattle.lapi_base.specs.declared.statement.Statement.{Statement}
-use Rattle.lapi_base.specs.declared.statement.Statement.TheVariants.{Get, Getv, Rmw}
 use Rattle.lapi_base.specs.declared.rule.Rules.{Rules}
 use Rattle.lapi_base.specs.declared.message.Leg.{Leg}
 use Rattle.lapi_base.specs.declared.message.Leg.TheVariants.{Go, Back, Note, Echo, Join}
@@ -14,7 +12,7 @@ use Rattle.lapi_base.specs.declared.message.MsgName.{MsgName}
 use Rattle.lapi_base.specs.declared.event.Event.{Event}
 use Rattle.lapi_base.specs.declared.event.Event.TheVariants.{Issue, Refuse, Enter, Pass, Copy, Head, Land, Begin, End}
 use Rattle.lapi_base.specs.Names.{message, Issued, Entered, Copied, Landed, Begun, Ended, done}
-use Rattle.lapi_base.specs.Operations.{upto, statements, statement, target, sender, receiver, fragments, fragment_count, is_data, has_back, has_join, has_leg, cmpl_counter}
+use Rattle.lapi_base.specs.Operations.{upto, statements, statement, sender, receiver, fragments, fragment_count, is_data, has_back, has_join, has_leg, cmpl_counter}
 use Rattle.lapi_base.specs.Handlers.{has_completion, answers}
 use Rattle.lapi_base.specs.Spelling.{refusal}
 use Rattle.lapi_base.specs.Written.{packet_size}

@@ -48,11 +48,11 @@ module _ (script : Script) (rules : Rules) where
     pub few : (k a b : ℕ) → k < rounds → a < script.tasks → b < script.tasks →
         (ms : List MsgName)
         × ((m : MsgName) → Has script m.origin m.statement
-            → has_leg script (answers script rules m.origin m.statement) m.origin m.leg
-              (statement script m.origin m.statement) ≡ true
-            → begin k m.origin ≤ m.statement → m.statement ≤ fence k m.origin
-            → sender script m ≡ a → receiver script m ≡ b
-            → In ms m)
+        → has_leg script (answers script rules m.origin m.statement) m.origin m.leg
+        (statement script m.origin m.statement) ≡ true
+        → begin k m.origin ≤ m.statement → m.statement ≤ fence k m.origin
+        → sender script m ≡ a → receiver script m ≡ b
+        → In ms m)
         × (weigh script ms ≤ window_of script)
 
   -- the record is at the beginning of round k: nothing is under way, and every fence that was entered was passed

@@ -43,6 +43,6 @@ module _ (script : Script) (rules : Rules) where
   abbrev pub TwoSweepsSettle : Run → Type 0
   TwoSweepsSettle r = holds_back script ≡ false → HasNoNotes → (tops : ℕ → ℕ → ℕ)
       → ((a b : ℕ) → a < script.tasks → b < script.tasks
-          → IsCalm r a b (tops a b) × (tops a b ≤ length (out script r.journal a b)))
+      → IsCalm r a b (tops a b) × (tops a b ≤ length (out script r.journal a b)))
       → HasRoom script rules r tops
       → IsSettled (after script rules packet_size refusal r (two_sweeps r))
