@@ -6,4 +6,5 @@ pub mod UnwrittenStays
 pub mod NeverRefused
 pub mod PlainArrays
 pub mod SmallPlan
+pub mod PlanLimits
 pub mod PlanLines

@@ -11,9 +11,14 @@ use Rattle.lapi_base.specs.Final.{is_settled, is_idle, is_quiet}
 use Rattle.lapi_laws.proofs.Rows.{Row, builtin, run, bytes_of}
 use Rattle.lapi_blocks.specs.declared.plan.Op.TheVariants.{Set, Get}
 use Rattle.lapi_blocks.specs.declared.plan.Plan.{Plan}
+use Rattle.lapi_flush.specs.Served.{delivers}
+use Rattle.lapi_flush.specs.Flushed.{link_acts}
+use Rattle.lapi_flush.specs.Swept.{sweep_to}
+use Rattle.lapi_flush.specs.Rounds.{steps_of, steps_to, calls_to}
 use Rattle.lapi_blocks.specs.Plans.{plain, owners, first_statements, compiled}
+use Rattle.lapi_blocks.specs.PlanRuns.{plan_acts}
 
-small : Plan
+unfoldable pub small : Plan
 small = record { p = 1; q = 2; height = 2; width = 2; ops = Set 0 0 1 2 2 (0 ∷ 0 ∷ 0 ∷ 1 ∷ 0 ∷ 0 ∷ 0 ∷ 2 ∷ 0 ∷ 0 ∷ 0 ∷ 3 ∷ 0 ∷ 0 ∷ 0 ∷ 4 ∷ []) ∷ Get 1 1 1 1 2 ∷ [] }
 
 -- the statements of both tasks
@@ -69,3 +74,21 @@ small-blocks = refl
 small-got : take 8 (bytes_of small-row 1 17408) ≡ 0 ∷ 0 ∷ 0 ∷ 3 ∷ 0 ∷ 0 ∷ 0 ∷ 4 ∷ []
 unfolding run small owners first_statements
 small-got = refl
+
+-- The lines of its two operations: for each the calls, sweeps that bring all parts home, and the fence. The answers of
+-- the get go out in the second sweep.
+small-lines : plan_acts small builtin 2
+    ≡ Step 0 ∷ Step 0 ∷ Step 0
+    ∷ Poll 0 ∷ Deliver 0 0 0 ∷ Deliver 0 0 1 ∷ Deliver 0 1 0 ∷ Deliver 1 0 0 ∷ Poll 1 ∷ Poll 0 ∷ Poll 1
+    ∷ Step 0 ∷ Step 1
+    ∷ Poll 0 ∷ Deliver 0 1 1 ∷ Deliver 1 0 1 ∷ Poll 1 ∷ Deliver 1 0 2 ∷ Deliver 0 1 2 ∷ Poll 0 ∷ Poll 1
+    ∷ Step 0 ∷ Step 1
+    ∷ Step 1 ∷ Step 1
+    ∷ Poll 0 ∷ Poll 1 ∷ Deliver 1 0 3 ∷ Deliver 0 1 3 ∷ Deliver 1 1 0 ∷ Deliver 1 1 1
+    ∷ Poll 0 ∷ Deliver 0 1 4 ∷ Deliver 1 0 4 ∷ Poll 1 ∷ Deliver 1 1 2 ∷ Deliver 1 1 3
+    ∷ Step 0 ∷ Step 1
+    ∷ Poll 0 ∷ Deliver 0 1 5 ∷ Deliver 1 0 5 ∷ Poll 1 ∷ Deliver 1 0 6 ∷ Deliver 0 1 6 ∷ Poll 0 ∷ Poll 1
+    ∷ Step 0 ∷ Step 1
+    ∷ []
+unfolding run small owners first_statements plan_acts calls_to steps_of steps_to sweep_to link_acts delivers
+small-lines = refl

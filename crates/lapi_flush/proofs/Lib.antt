@@ -6,3 +6,4 @@ pub mod SettledRecords
 pub mod CalledRounds
 pub mod QuietRecords
 pub mod ValidLines
+pub mod SmallFlushes
