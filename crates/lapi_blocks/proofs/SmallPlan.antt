@@ -15,7 +15,7 @@ use Rattle.lapi_flush.specs.Served.{delivers}
 use Rattle.lapi_flush.specs.Flushed.{link_acts}
 use Rattle.lapi_flush.specs.Swept.{sweep_to}
 use Rattle.lapi_flush.specs.Rounds.{steps_of, steps_to, calls_to}
-use Rattle.lapi_blocks.specs.Plans.{plain, owners, first_statements, compiled}
+use Rattle.lapi_blocks.specs.Plans.{plain, block_row, block_col, owner, owners, first_statements, compiled}
 use Rattle.lapi_blocks.specs.PlanRuns.{plan_acts}
 
 unfoldable pub small : Plan
@@ -37,6 +37,20 @@ small-compiled : (compiled small).lists
     ∷ []
 unfolding small owners first_statements below upto
 small-compiled = refl
+
+-- who owns what in a grid of two by three blocks of two by four words
+abbrev wide : Plan
+wide = record { p = 2; q = 3; height = 2; width = 4; ops = [] }
+
+wide-owners : map (λ r. map (owner wide r) (0 ∷ 3 ∷ 4 ∷ 8 ∷ 11 ∷ [])) (0 ∷ 1 ∷ 2 ∷ 3 ∷ [])
+    ≡ (0 ∷ 0 ∷ 1 ∷ 2 ∷ 2 ∷ []) ∷ (0 ∷ 0 ∷ 1 ∷ 2 ∷ 2 ∷ []) ∷ (3 ∷ 3 ∷ 4 ∷ 5 ∷ 5 ∷ []) ∷ (3 ∷ 3 ∷ 4 ∷ 5 ∷ 5 ∷ []) ∷ []
+wide-owners = refl
+
+wide-rows : map (block_row wide) (0 ∷ 1 ∷ 2 ∷ 3 ∷ 4 ∷ 5 ∷ []) ≡ 0 ∷ 0 ∷ 0 ∷ 2 ∷ 2 ∷ 2 ∷ []
+wide-rows = refl
+
+wide-cols : map (block_col wide) (0 ∷ 1 ∷ 2 ∷ 3 ∷ 4 ∷ 5 ∷ []) ≡ 0 ∷ 4 ∷ 8 ∷ 0 ∷ 4 ∷ 8 ∷ []
+wide-cols = refl
 
 -- the last byte of each word of the array
 small-plain : map (λ r. map (λ c. plain small.ops 2 r c 3) (0 ∷ 1 ∷ 2 ∷ 3 ∷ [])) (0 ∷ 1 ∷ []) ≡ (0 ∷ 1 ∷ 2 ∷ 0 ∷ []) ∷ (0 ∷ 3 ∷ 4 ∷ 0 ∷ []) ∷ []
