@@ -5,6 +5,7 @@ pub mod StagesAreMade
 pub mod UnwrittenStays
 pub mod NeverRefused
 pub mod PlainArrays
-pub mod SmallPlan
-pub mod PlanLimits
 pub mod PlanLines
+pub mod ScriptLimits
+pub mod PlanLimits
+pub mod SmallPlan

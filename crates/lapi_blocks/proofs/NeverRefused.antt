@@ -77,13 +77,13 @@ stride-total b block s n = total-of (λ (k : ℕ). let p : Piece = record { at =
 -- ---- statements that the table passes
 
 -- two strides of the same pieces that lie within the memory
-record Good (script : Script) (w b1 s1 b2 s2 block n : ℕ) : Type 0 where
-  task : w < script.tasks
-  first : (k : ℕ) → k < n → b1 + k * s1 + block ≤ script.memory
-  second : (k : ℕ) → k < n → b2 + k * s2 + block ≤ script.memory
-  short : n * block ≤ 16384
-  apart1 : block ≤ s1
-  apart2 : block ≤ s2
+pub record Good (script : Script) (w b1 s1 b2 s2 block n : ℕ) : Type 0 where
+  pub task : w < script.tasks
+  pub first : (k : ℕ) → k < n → b1 + k * s1 + block ≤ script.memory
+  pub second : (k : ℕ) → k < n → b2 + k * s2 + block ≤ script.memory
+  pub short : n * block ≤ 16384
+  pub apart1 : block ≤ s1
+  pub apart2 : block ≤ s2
 
 not-below : (a b : ℕ) → a < b → not (nat_lt a b) ≡ false
 not-below a b l = ap not (lt-ltb a b l)
@@ -199,7 +199,7 @@ module _ (plan : Plan) (valid : ValidPlan plan) where
       let last = h (base + k * stride + (block - 1)) (covers-strided base block stride n k (block - 1) l (omega arith)) in
       omega arith
 
-  part-less : (row rows low size : ℕ) → (min (row + rows) (low + size) - max row low ≤ rows) × (min (row + rows) (low + size) - max row low ≤ size)
+  pub part-less : (row rows low size : ℕ) → (min (row + rows) (low + size) - max row low ≤ rows) × (min (row + rows) (low + size) - max row low ≤ size)
   part-less row rows low size = (omega arith, omega arith)
 
   four : (a b : ℕ) → a ≤ b → 4 * a ≤ 4 * b
@@ -211,11 +211,11 @@ module _ (plan : Plan) (valid : ValidPlan plan) where
   up-to : (n m : ℕ) → n ≤ 16384 → n ≤ 65536
   up-to n m l = omega arith
 
-  good : (rules : Rules) (k : ℕ) (op : Op) (w : ℕ) → slice_get plan.ops k ≡ Some op → w < tasks_of plan → is_nonempty (part_of plan (patch_of op) w) ≡ true →
+  pub good : (k : ℕ) (op : Op) (w : ℕ) → slice_get plan.ops k ≡ Some op → w < tasks_of plan → is_nonempty (part_of plan (patch_of op) w) ≡ true →
       let p = patch_of op in
       let part = part_of plan p w in
       Good (compiled plan) w (byte_at plan.width (part.row - block_row plan w) (part.col - block_col plan w) 0) (4 * plan.width) (area k + byte_at p.cols (part.row - p.row) (part.col - p.col) 0) (4 * p.cols) (4 * part.cols) part.rows
-  good rules k op w e l full =
+  good k op w e l full =
       let p = patch_of op in
       let part = part_of plan p w in
       let inside = within plan valid k op e in
@@ -238,8 +238,8 @@ module _ (plan : Plan) (valid : ValidPlan plan) where
       fewer r c n h m = let e : r * (4 * c) ≡ 4 * (r * c) = grind arith in omega arith
 
   move-kept : (rules : Rules) (J : List Event) (a i k : ℕ) (op : Op) (w : ℕ) → slice_get plan.ops k ≡ Some op → w < tasks_of plan → is_nonempty (part_of plan (patch_of op) w) ≡ true → statement (compiled plan) a i ≡ moves plan k op (part_of plan (patch_of op) w) → why (compiled plan) rules J a i ≡ None
-  move-kept rules J a i k (Set task row col rows cols values) w e l full s = putv-kept (compiled plan) rules J a i w _ _ _ _ _ _ (good rules k (Set task row col rows cols values) w e l full) s
-  move-kept rules J a i k (Get task row col rows cols) w e l full s = getv-kept (compiled plan) rules J a i w _ _ _ _ _ _ (good rules k (Get task row col rows cols) w e l full) s
+  move-kept rules J a i k (Set task row col rows cols values) w e l full s = putv-kept (compiled plan) rules J a i w _ _ _ _ _ _ (good k (Set task row col rows cols values) w e l full) s
+  move-kept rules J a i k (Get task row col rows cols) w e l full s = getv-kept (compiled plan) rules J a i w _ _ _ _ _ _ (good k (Get task row col rows cols) w e l full) s
 
   set-kept : (rules : Rules) (J : List Event) (a i k : ℕ) (op : Op) → slice_get plan.ops k ≡ Some op → is_set op ≡ true → statement (compiled plan) a i ≡ Store (area k) (values_of op) → why (compiled plan) rules J a i ≡ None
   set-kept rules J a i k op e set s =

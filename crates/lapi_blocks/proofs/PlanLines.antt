@@ -89,7 +89,7 @@ call-no_join Gfence h = absurd (false≢true h)
 call-no_join (Statement.Addr at) h = absurd (false≢true h)
 call-no_join _ h = refl
 
-below-count : (n : ℕ) (p : ℕ → Bool) → length (below n p) ≤ n
+pub below-count : (n : ℕ) (p : ℕ → Bool) → length (below n p) ≤ n
 unfolding below
 below-count zero p = omega arith
 below-count (suc n) p =

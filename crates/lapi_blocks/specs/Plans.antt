@@ -9,8 +9,8 @@ use Rattle.lapi_base.specs.declared.statement.Statement.{Statement}
 use Rattle.lapi_base.specs.declared.statement.Statement.TheVariants.{Store, Putv, Getv, Gfence}
 use Rattle.lapi_base.specs.declared.script.Script.{Script}
 use Rattle.lapi_base.specs.Below.{below}
-use Rattle.lapi_base.specs.Operations.{upto}
-use Rattle.lapi_base.specs.Valid.{IsByte}
+use Rattle.lapi_base.specs.Operations.{upto, statements}
+use Rattle.lapi_base.specs.Valid.{IsByte, ValidScript}
 use Rattle.lapi_blocks.specs.declared.plan.Op.{Op}
 use Rattle.lapi_blocks.specs.declared.plan.Op.TheVariants.{Set, Get}
 use Rattle.lapi_blocks.specs.declared.plan.Plan.{Plan}
@@ -180,3 +180,13 @@ compiled plan = record {
   workers = 1;
   lists = map (first_statements plan (length plan.ops)) (upto (tasks_of plan));
 }
+
+-- the script of a valid plan is valid,
+abbrev pub ScriptsAreValid : Type 0
+ScriptsAreValid = (plan : Plan) → ValidPlan plan → ValidScript (compiled plan)
+
+-- and short: no task has more than ten statements for each operation
+abbrev pub ScriptsAreShort : Type 0
+ScriptsAreShort =
+    (plan : Plan) → ValidPlan plan → (t : ℕ) → t < tasks_of plan
+    → length (statements (compiled plan) t) ≤ 10 * length plan.ops

@@ -5,7 +5,9 @@
 mod arrays;
 mod plan;
 mod runs;
+mod scripts;
 
 pub use arrays::arrays_are_plain;
 pub use plan::{Op, Ops, Plan};
 pub use runs::plans_run;
+pub use scripts::scripts_are_valid;
