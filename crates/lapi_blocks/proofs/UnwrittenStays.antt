@@ -128,7 +128,7 @@ module _ (plan : Plan) (valid : ValidPlan plan) where
       let S = subst (λ x. Sides plan valid p.task there.0 k p (part_of plan p w) x) s (sides plan valid p.task there.0 k op (part_of plan p w) there.3) in
       let place : area k + byte_at p.cols (r - p.row) (c - p.col) (y % 4) ≡ area k + y =
       ap (λ i. area k + byte_at p.cols i (c - p.col) (y % 4)) (back p.row u) ∙ ap (λ j. area k + byte_at p.cols u j (y % 4)) (back p.col v) ∙ ap (λ n. area k + n) (sym words.3) in
-      both_ways _ (none p.task there.0 there.1 there.2)
+      both_ways (is_written (compiled plan) p.task there.0 p.task (area k + y)) (none p.task there.0 there.1 there.2)
       (written-from p.task there.0 p.task (area k + y) p.task (area_spans plan valid k p (part_of plan p w)) S.to S.wrote refl (subst (λ x. covers (area_spans plan valid k p (part_of plan p w)) x ≡ true) place (area-covered plan valid k p w r c (y % 4) lies (byte-lies plan valid y))))
     where
       turned : (y w h : ℕ) → y < 4 * (w * h) → y < 4 * (h * w)

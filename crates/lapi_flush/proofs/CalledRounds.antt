@@ -52,6 +52,10 @@ use Rattle.lapi_flush.proofs.ServedParts.{named-append, after-more, place-below}
 use Rattle.lapi_flush.proofs.SweptTasks.{done-before, same-next, same-entered, kept-done}
 use Rattle.lapi_flush.proofs.FlushedTasks.{after-join}
 
+-- what two stretches of events add, one after the other
+regroup : (J K L : List Event) (ys xs : List Event) → L ≡ ys ++ K → K ≡ xs ++ J → L ≡ (ys ++ xs) ++ J
+regroup J K L ys xs p q = p ∙ ap (λ M. ys ++ M) q ∙ sym (append_assoc ys xs J)
+
 -- ---- lines that add events of statements alone
 
 abbrev pub IsOfCall : Event → Type 0
@@ -135,7 +139,7 @@ module _ (script : Script) (rules : Rules) where
     wires = λ a b. y.wires a b ∙ x.wires a b;
     hands = λ a b. y.hands a b ∙ x.hands a b;
     later = y.later ++ x.later;
-    journal = y.journal ∙ ap (λ L. y.later ++ L) x.journal ∙ sym (append_assoc y.later x.later r.journal);
+    journal = regroup _ _ _ y.later x.later y.journal x.journal;
     calls = all-append IsOfCall y.later x.later y.calls x.calls;
   }
 
@@ -372,7 +376,7 @@ module _ (script : Script) (rules : Rules) where
       swept-fences u g calm =
           let tops = λ (a b : ℕ). length (out script u.journal a b) in
           let room : HasRoom script rules u tops = λ K h x a b la lb.
-          let whole : K ≡ (x.0 ++ g.since.0) ++ r.journal = x.1 ∙ ap (λ L. x.0 ++ L) g.since.1 ∙ sym (append_assoc x.0 g.since.0 r.journal) in
+          let whole : K ≡ (x.0 ++ g.since.0) ++ r.journal = regroup _ _ _ x.0 g.since.0 x.1 g.since.1 in
           let up = room-of K (x.0 ++ g.since.0) whole h (λ c lc. same-next u.journal K c x ∙ g.f_place c lc) a b la lb in
           let low = grows-on script rules g.since.0 r.journal a b in
           let w = (f.few k a b lk la lb).2 in
@@ -385,7 +389,7 @@ module _ (script : Script) (rules : Rules) where
               f_sound = z.1;
               f_paid = after-paid script rules (two_sweeps script rules u) u g.f_paid;
               f_owes = z.2;
-              since = (adds.0 ++ g.since.0, adds.1 ∙ ap (λ L. adds.0 ++ L) g.since.1 ∙ sym (append_assoc adds.0 g.since.0 r.journal));
+              since = (adds.0 ++ g.since.0, regroup _ _ _ adds.0 g.since.0 adds.1 g.since.1);
               f_place = λ a la. same-next u.journal (after script rules packet_size refusal u (two_sweeps script rules u)).journal a adds ∙ g.f_place a la;
             },
             adds,
@@ -596,7 +600,7 @@ module _ (script : Script) (rules : Rules) where
           let new = λ (a : ℕ) (la : a < script.tasks). not-yet u1 u2 a la c z2.2 in
           let n = subst (λ u. Enters u2 z2.0 z2.1 new u script.tasks) (sym e3) (all-enter u2 z2.0 z2.1 new script.tasks (omega arith)) in
           let paid3 = subst (IsPaid script rules) (sym e3) (after-paid script rules (steps_to script rules script.tasks) u2 z2.1.f_paid) in
-          let g3 : AtFences u3 = record { f_sound = n.e_sound; f_paid = paid3; f_owes = n.e_owes; since = (n.e_steps.later ++ z2.1.since.0, n.e_steps.journal ∙ ap (λ L. n.e_steps.later ++ L) z2.1.since.1 ∙ sym (append_assoc n.e_steps.later z2.1.since.0 r.journal)); f_place = n.e_place } in
+          let g3 : AtFences u3 = record { f_sound = n.e_sound; f_paid = paid3; f_owes = n.e_owes; since = (n.e_steps.later ++ z2.1.since.0, regroup r.journal u2.journal u3.journal n.e_steps.later z2.1.since.0 n.e_steps.journal z2.1.since.1); f_place = n.e_place } in
           let z4 = subst (λ u. IsSettled script rules u × AtFences u × AddsEvents u3.journal u.journal × (length (two_sweeps script rules u3) + 2 * all_data script.tasks u3 ≤ 2 * script.tasks + 2 * all_data script.tasks u) × AllNamed script rules u3 (two_sweeps script rules u3)) (sym e4) (swept-fences u3 g3 (calm-steps u2 u3 n.e_steps z2.0.calm)) in
           let entered = λ (a : ℕ) (la : a < script.tasks). kept-done u3.journal u4.journal (Entered a (fence k a)) z4.2 (n.inside a la la) in
           let p = subst (λ u. Passes u4 z4.0 z4.1 entered u script.tasks) (sym e5) (all-pass u4 z4.0 z4.1 entered script.tasks (omega arith)) in (
