@@ -21,6 +21,9 @@ use Rattle.lapi_blocks.proofs.CompiledStatements.{is_set, values_of}
 
 -- ---- numbers
 
+pub back : (a b : ℕ) → a + b - a ≡ b
+back a b = omega arith
+
 -- a part's rows, or its columns, lie in the patch and in the block
 pub part-lies : (row rows low size k : ℕ) → k < min (row + rows) (low + size) - max row low →
     (max row low - row + k < rows) × (max row low - low + k < size) × (row + (max row low - row + k) ≡ max row low + k) × (low + (max row low - low + k) ≡ max row low + k)

@@ -44,7 +44,7 @@ use Rattle.lapi_flush.proofs.FlushedTasks.{sum-le, after-join}
 use Rattle.lapi_flush.proofs.CalledRounds.{round-done}
 use Rattle.lapi_blocks.specs.PlanRuns.{op_begin, op_fence, plan_acts, PlansRun, PlansAreShort, PlansAreValid}
 use Rattle.lapi_blocks.proofs.CompiledStatements.{is_set, all-nth, nth-of_get, all-map, body, begin, round, count, begin-more, begin-zero, round-length, at-place, in-body, at-fence, epoch-is, statements-are, stand, IsStored, IsMoved}
-use Rattle.lapi_blocks.proofs.ArrayStages.{within}
+use Rattle.lapi_blocks.proofs.ArrayStages.{back, within}
 use Rattle.lapi_blocks.proofs.PlainArrays.{all-plain}
 use Rattle.std.proofs.Common.{◌^◌}
 use Rattle.lapi_flush.proofs.ValidLines.{all-exceeds, named-valid}
@@ -471,9 +471,6 @@ module _ (plan : Plan) (valid : ValidPlan plan) (rules : Rules) where
       omega arith) in
       omega arith
     where
-      back : (a b : ℕ) → a + b - a ≡ b
-      back a b = omega arith
-
       one-task : (x : Bool) (ss : List Statement) → length ss ≤ 9 → length (cond x ss []) ≤ 0 + cond x 9 0
       one-task true ss l = omega arith
       one-task false ss l = omega arith

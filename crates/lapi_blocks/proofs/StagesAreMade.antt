@@ -21,7 +21,7 @@ use Rattle.lapi_blocks.specs.Plans.{patch_of, tasks_of, ValidPlan, HasValues, by
 use Rattle.lapi_epochs.proofs.GatheredPieces.{line-same}
 use Rattle.lapi_blocks.proofs.StridedPieces.{place-split}
 use Rattle.lapi_blocks.proofs.CompiledStatements.{is_set, values_of, begin, stand, IsStored, IsMoved}
-use Rattle.lapi_blocks.proofs.ArrayStages.{area_byte, stage, stage-block, stage-area, within, has-values, at-area, sides-agree, area-high, block-low, Sides, sides, fence-writes, moves-no_store, plain-set, in_patch-at, byte-lies}
+use Rattle.lapi_blocks.proofs.ArrayStages.{back, area_byte, stage, stage-block, stage-area, within, has-values, at-area, sides-agree, area-high, block-low, Sides, sides, fence-writes, moves-no_store, plain-set, in_patch-at, byte-lies}
 
 list-again : (xs : List ℕ) (n : ℕ) → n ≤ length xs → map (λ z. slice_index xs z) (upto n) ≡ take n xs
 unfolding upto below
@@ -66,9 +66,6 @@ module _ (plan : Plan) (valid : ValidPlan plan) where
   pub set-length : (op : Op) → HasValues op → is_set op ≡ true → length (values_of op) ≡ 4 * ((patch_of op).rows * (patch_of op).cols)
   set-length (Set task row col rows cols values) h s = h.0
   set-length (Get task row col rows cols) h s = absurd (false≢true s)
-
-  back : (a b : ℕ) → a + b - a ≡ b
-  back a b = omega arith
 
   -- byte z of a patch lies in one of its words
   pub in-words : (rows cols z : ℕ) → 1 ≤ rows * cols → z < 4 * (rows * cols) → (0 < cols) × (z / 4 / cols < rows) × ((z / 4) % cols < cols) × (z ≡ byte_at cols (z / 4 / cols) ((z / 4) % cols) (z % 4))

@@ -13,8 +13,14 @@ use Rattle.lapi_blocks.specs.Plans.{patch_of, tasks_of, ValidPlan, byte_at, in_p
 use Rattle.lapi_epochs.proofs.GatheredPieces.{in_piece-at, covers-cons}
 use Rattle.lapi_blocks.proofs.StridedPieces.{by_rows, place-split}
 use Rattle.lapi_blocks.proofs.CompiledStatements.{is_set, values_of, begin, store-there, move-there}
-use Rattle.lapi_blocks.proofs.ArrayStages.{area_byte, block_byte, stage, stage-block, stage-area, within, has-values, area_spans, block_spans, Sides, sides, store-sides, plain-none, plain-get, plain-other, in_patch-of, Lies, lies-nonempty, block-covered, area-covered, byte-lies, owned}
+use Rattle.lapi_blocks.proofs.ArrayStages.{back, area_byte, block_byte, stage, stage-block, stage-area, within, has-values, area_spans, block_spans, Sides, sides, store-sides, plain-none, plain-get, plain-other, in_patch-of, Lies, lies-nonempty, block-covered, area-covered, byte-lies, owned}
 use Rattle.lapi_blocks.proofs.StagesAreMade.{set-length, in-words}
+
+from : (a u : ℕ) → a ≤ a + u
+from a u = omega arith
+
+to : (a u h : ℕ) → u < h → a + u < a + h
+to a u h l = omega arith
 
 module _ (plan : Plan) (valid : ValidPlan plan) where
   -- no statement of operation k writes byte x of task t
@@ -53,15 +59,6 @@ module _ (plan : Plan) (valid : ValidPlan plan) where
             (λ (outside : in_patch (patch_of op) r c ≡ false). plain-other plan valid k op r c b e outside)
             (cases_Bool (in_patch (patch_of op) r c))
       ] refl
-    where
-      from : (a u : ℕ) → a ≤ a + u
-      from a u = omega arith
-
-      to : (a u h : ℕ) → u < h → a + u < a + h
-      to a u h l = omega arith
-
-      back : (a u : ℕ) → a + u - a ≡ u
-      back a u = omega arith
 
   block-stays : (k t x : ℕ) → IsUnwritten k t x → block_byte plan (suc k) t x ≡ block_byte plan k t x
   block-stays k t x none =
@@ -136,15 +133,6 @@ module _ (plan : Plan) (valid : ValidPlan plan) where
 
       fits : (a u n m : ℕ) → u < n → a + n ≤ m → a + u < m
       fits a u n m l h = omega arith
-
-      from : (a u : ℕ) → a ≤ a + u
-      from a u = omega arith
-
-      to : (a u h : ℕ) → u < h → a + u < a + h
-      to a u h l = omega arith
-
-      back : (a u : ℕ) → a + u - a ≡ u
-      back a u = omega arith
 
   area-stays : (k n t y : ℕ) (o : Option Op) → slice_get plan.ops n ≡ o → IsUnwritten k t (area n + y) → area_byte plan (suc k) n o t y ≡ area_byte plan k n o t y
   area-stays k n t y None e none = refl
