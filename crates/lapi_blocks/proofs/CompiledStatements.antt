@@ -23,6 +23,16 @@ use Rattle.lapi_epochs.proofs.GatheredPieces.{upto-nth}
 
 -- ---- lists
 
+below-count : (n : ℕ) (p : ℕ → Bool) → length (below n p) ≤ n
+unfolding below
+below-count zero p = omega arith
+below-count (suc n) p =
+    let old = below-count n p in
+    cond_both (p n) (below n p ++ n ∷ []) (below n p) (λ xs. length xs ≤ suc n) (λ _. let len = length_push (below n p) n in more (length (below n p ++ n ∷ [])) (length (below n p)) n len old) (λ _. omega arith)
+  where
+    more : (m l n : ℕ) → m ≡ l + 1 → l ≤ n → m ≤ suc n
+    more m l n a b = omega arith
+
 pub all-nth : {X : Type 0} (P : X → Type 0) (xs : List X) (i : ℕ) (d : X) → AllByRecursion P xs → i < length xs → P (get_or xs i d)
 all-nth P [] i d h l = absurd (omega arith)
 all-nth P (x ∷ xs) zero d h l = h.0
@@ -306,3 +316,17 @@ module _ (plan : Plan) where
       let o = own-place k op j.0 j.1 in
       let r = own-there k o.0 op e t o.1 in
       (begin k a + o.0, r.0, r.1, r.2 ∙ o.2 ∙ ap (λ x. moves plan k op (part_of plan (patch_of op) x)) j.2)
+
+  -- how many an operation has: a store, and a move for each block
+  pub own-few : (k : ℕ) (op : Op) → length (own_statements plan k op) ≤ 1 + tasks_of plan
+  unfolding owners
+  own-few k (Set task row col rows cols values) =
+      let op = Set task row col rows cols values in
+      let len = length-map (owners plan (patch_of op)) (λ t. moves plan k op (part_of plan (patch_of op) t)) in
+      let few = below-count (tasks_of plan) (λ t. is_nonempty (part_of plan (patch_of op) t)) in
+      omega arith
+  own-few k (Get task row col rows cols) =
+      let op = Get task row col rows cols in
+      let len = length-map (owners plan (patch_of op)) (λ t. moves plan k op (part_of plan (patch_of op) t)) in
+      let few = below-count (tasks_of plan) (λ t. is_nonempty (part_of plan (patch_of op) t)) in
+      omega arith

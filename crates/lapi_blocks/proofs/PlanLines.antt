@@ -4,9 +4,8 @@ use Rattle.std.specs.Prelude.{nat_lt, slice_get, is_some, unwrap_or, filter, max
 use Rattle.std.specs.List.{AllByRecursion}
 use Rattle.std.proofs.lemmas.Bool.{or_parts, false≢true, and_parts, both_ways, cond_both, cond-true, cond-false, ne_eqb, cases_eq, eqb-true, eq-eqb, cases_lt, le-ltb, lt-ltb}
 use Rattle.std.proofs.lemmas.Nat.{mul-le}
-use Rattle.std.proofs.lemmas.List.{length-append, length_push, get_or-map, length-map, get_or_past}
+use Rattle.std.proofs.lemmas.List.{length-append, get_or-map, length-map, get_or_past}
 use Rattle.std.proofs.Common.{◌++◌}
-use Rattle.lapi_base.specs.Below.{below}
 use Rattle.lapi_base.specs.declared.rule.Rules.{Rules}
 use Rattle.lapi_base.specs.declared.statement.Statement.{Statement}
 use Rattle.lapi_base.specs.declared.statement.Statement.TheVariants.{Store, Fence, Gfence}
@@ -43,7 +42,7 @@ use Rattle.lapi_flush.proofs.ServedParts.{named-append}
 use Rattle.lapi_flush.proofs.FlushedTasks.{sum-le, after-join}
 use Rattle.lapi_flush.proofs.CalledRounds.{round-done}
 use Rattle.lapi_blocks.specs.PlanRuns.{op_begin, op_fence, plan_acts, PlansRun, PlansAreShort, PlansAreValid}
-use Rattle.lapi_blocks.proofs.CompiledStatements.{is_set, all-nth, nth-of_get, all-map, body, begin, round, count, begin-more, begin-zero, round-length, at-place, in-body, at-fence, epoch-is, statements-are, stand, IsStored, IsMoved}
+use Rattle.lapi_blocks.proofs.CompiledStatements.{own-few, is_set, all-nth, nth-of_get, all-map, body, begin, round, count, begin-more, begin-zero, round-length, at-place, in-body, at-fence, epoch-is, statements-are, stand, IsStored, IsMoved}
 use Rattle.lapi_blocks.proofs.ArrayStages.{back, within}
 use Rattle.lapi_blocks.proofs.PlainArrays.{all-plain}
 use Rattle.std.proofs.Common.{◌^◌}
@@ -88,16 +87,6 @@ unfolding is_call
 call-no_join Gfence h = absurd (false≢true h)
 call-no_join (Statement.Addr at) h = absurd (false≢true h)
 call-no_join _ h = refl
-
-pub below-count : (n : ℕ) (p : ℕ → Bool) → length (below n p) ≤ n
-unfolding below
-below-count zero p = omega arith
-below-count (suc n) p =
-    let old = below-count n p in
-    cond_both (p n) (below n p ++ n ∷ []) (below n p) (λ xs. length xs ≤ suc n) (λ _. let len = length_push (below n p) n in more (length (below n p ++ n ∷ [])) (length (below n p)) n len old) (λ _. omega arith)
-  where
-    more : (m l n : ℕ) → m ≡ l + 1 → l ≤ n → m ≤ suc n
-    more m l n a b = omega arith
 
 spike : (n t c y : ℕ) (f : ℕ → ℕ) → ((k : ℕ) → k < n → f k ≤ y + cond (k == t) c 0) → sum_to n f ≤ n * y + cond (nat_lt t n) c 0
 unfolding sum_to
@@ -442,19 +431,6 @@ module _ (plan : Plan) (valid : ValidPlan plan) (rules : Rules) where
   links_of : Run → ℕ
   links_of r = sum_to (tasks_of plan) (λ a. sum_to (tasks_of plan) (λ b. length (out (compiled plan) r.journal a b)))
 
-  own-few : (k : ℕ) (op : Op) → length (own_statements plan k op) ≤ 1 + tasks_of plan
-  unfolding owners
-  own-few k (Set task row col rows cols values) =
-      let op = Set task row col rows cols values in
-      let len = length-map (owners plan (patch_of op)) (λ t. moves plan k op (part_of plan (patch_of op) t)) in
-      let few = below-count (tasks_of plan) (λ t. is_nonempty (part_of plan (patch_of op) t)) in
-      omega arith
-  own-few k (Get task row col rows cols) =
-      let op = Get task row col rows cols in
-      let len = length-map (owners plan (patch_of op)) (λ t. moves plan k op (part_of plan (patch_of op) t)) in
-      let few = below-count (tasks_of plan) (λ t. is_nonempty (part_of plan (patch_of op) t)) in
-      omega arith
-
   calls-few : (k : ℕ) → k < count plan → sum_to (tasks_of plan) (λ a. op_fence plan k a - op_begin plan k a) ≤ 9
   calls-few k lk =
       let got = get-some plan.ops k lk in
@@ -465,7 +441,7 @@ module _ (plan : Plan) (valid : ValidPlan plan) (rules : Rules) where
       let sum = spike-sum T t 9 0 (λ a. op_fence plan k a - op_begin plan k a) (λ a la.
       let same : op_fence plan k a - op_begin plan k a ≡ length (op_statements plan k (slice_get plan.ops k) a) = back (op_begin plan k a) (length (op_statements plan k (slice_get plan.ops k) a)) in
       let e = ap (λ x. length (op_statements plan k x a)) got.1 in
-      let own = own-few k op in
+      let own = own-few plan k op in
       let most_own : length (own_statements plan k op) ≤ 9 = omega arith in
       let here : length (op_statements plan k (Some op) a) ≤ 0 + cond (a == t) 9 0 = one-task (a == t) (own_statements plan k op) most_own in
       omega arith) in

@@ -16,12 +16,11 @@ use Rattle.lapi_blocks.specs.declared.plan.Op.{Op}
 use Rattle.lapi_blocks.specs.declared.plan.Op.TheVariants.{Set, Get}
 use Rattle.lapi_blocks.specs.declared.plan.Plan.{Plan}
 use Rattle.lapi_epochs.specs.Epochs.{Has}
-use Rattle.lapi_blocks.specs.Plans.{patch_of, tasks_of, ValidPlan, HasValues, byte_at, block_row, block_col, area, part_of, is_nonempty, moves, owners, own_statements, op_statements, first_statements, compiled, ScriptsAreValid, ScriptsAreShort}
-use Rattle.lapi_blocks.proofs.CompiledStatements.{is_set, values_of, nth-of_get, statements-are, stand, IsStored, IsMoved}
+use Rattle.lapi_blocks.specs.Plans.{patch_of, tasks_of, ValidPlan, HasValues, byte_at, block_row, block_col, area, part_of, is_nonempty, moves, own_statements, op_statements, first_statements, compiled, ScriptsAreValid, ScriptsAreShort}
+use Rattle.lapi_blocks.proofs.CompiledStatements.{own-few, is_set, values_of, nth-of_get, statements-are, stand, IsStored, IsMoved}
 use Rattle.lapi_blocks.proofs.ArrayStages.{within, has-values}
 use Rattle.lapi_blocks.proofs.StagesAreMade.{set-length}
 use Rattle.lapi_blocks.proofs.NeverRefused.{good, part-less}
-use Rattle.lapi_blocks.proofs.PlanLines.{below-count}
 
 -- ---- numbers and lists
 
@@ -49,24 +48,9 @@ cols-few (suc r) cols l m = let e : suc r * cols ≡ cols + r * cols = grind ari
 module _ (plan : Plan) (valid : ValidPlan plan) where
   -- ---- how many
 
-  own-few : (k : ℕ) (op : Op) → length (own_statements plan k op) ≤ 9
-  unfolding owners
-  own-few k (Set task row col rows cols values) =
-      let op = Set task row col rows cols values in
-      let len = length-map (owners plan (patch_of op)) (λ t. moves plan k op (part_of plan (patch_of op) t)) in
-      let few = below-count (tasks_of plan) (λ t. is_nonempty (part_of plan (patch_of op) t)) in
-      let most = valid.tasks.1 in
-      omega arith
-  own-few k (Get task row col rows cols) =
-      let op = Get task row col rows cols in
-      let len = length-map (owners plan (patch_of op)) (λ t. moves plan k op (part_of plan (patch_of op) t)) in
-      let few = below-count (tasks_of plan) (λ t. is_nonempty (part_of plan (patch_of op) t)) in
-      let most = valid.tasks.1 in
-      omega arith
-
   op-few : (k : ℕ) (o : Option Op) (t : ℕ) → length (op_statements plan k o t) ≤ 9
   op-few k None t = omega arith
-  op-few k (Some op) t = cond_both (t == (patch_of op).task) (own_statements plan k op) [] (λ xs. length xs ≤ 9) (λ _. own-few k op) (λ _. omega arith)
+  op-few k (Some op) t = cond_both (t == (patch_of op).task) (own_statements plan k op) [] (λ xs. length xs ≤ 9) (λ _. let own = own-few plan k op in let most = valid.tasks.1 in omega arith) (λ _. omega arith)
 
   first-few : (n t : ℕ) → length (first_statements plan n t) ≤ 10 * n
   unfolding first_statements
