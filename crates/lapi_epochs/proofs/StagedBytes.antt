@@ -368,7 +368,7 @@ module _ (script : Script) (rules : Rules) where
     Carries : List Event → Type 0
     Carries J = (a i : ℕ) (leg : Leg) → IsDataLeg (statement script a i) leg → done (Copied (message a i leg)) J ≡ true → carried script rules J (message a i leg) ≡ gathered (M (suc (epoch script a i))) (writes_to script a i) (writes_at script a i)
 
-    -- where a message is copied, the bytes that it reads are staged
+    -- where a message is copied, the bytes that it reads are at the stage after its epoch
     copy-staged : (J : List Event) (a i : ℕ) (leg : Leg) (y : ℕ) → Atomic script rules J → Has script a i → IsDataLeg (statement script a i) leg → covers (reads_at script a i) y ≡ true → done (Issued a i) J ≡ true → done (Copied (message a i leg)) J ≡ false → IsAtStage script rules J (suc (epoch script a i)) (reads_from script a i) y
     copy-staged J a i leg y h has data_leg covered issued new = λ b j hasb w.
         let t = reads_from script a i in
