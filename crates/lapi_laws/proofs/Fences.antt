@@ -20,7 +20,7 @@ use Rattle.lapi_laws.proofs.Places.{place-below}
 use Rattle.lapi_laws.proofs.Once.{keeps-at}
 
 -- the test of a global fence
-gfence-is : (s : Statement) → is_gfence s ≡ true → s ≡ Gfence
+pub gfence-is : (s : Statement) → is_gfence s ≡ true → s ≡ Gfence
 gfence-is Gfence h = refl
 gfence-is _ h = absurd (false≢true h)
 

@@ -48,7 +48,7 @@ below-empty (suc n) p h = cond-false (p n) (below n p ++ n ∷ []) (below n p) (
 below-none : (n : ℕ) (p : ℕ → Bool) (k : ℕ) → below n p ≡ [] → k < n → p k ≡ true → ⊥
 below-none n p k e l h = false≢true (ap is_some (subst (λ xs. slice_get xs (length (filter (λ j. nat_lt j k) (below n p))) ≡ Some k) e (below-place n p k l h)))
 
-back-data : (s : Statement) → has_back s ≡ true → is_data s ≡ true
+pub back-data : (s : Statement) → has_back s ≡ true → is_data s ≡ true
 back-data (Get target from to len tgt org) h = refl
 back-data (Getv target from to tgt org) h = refl
 back-data (Rmw target op at in1 in2 prev org) h = refl

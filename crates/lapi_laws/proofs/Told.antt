@@ -30,7 +30,7 @@ use Rattle.lapi_laws.proofs.Lines.{SoundRun, all-flat_map, all-any}
 use Rattle.lapi_laws.proofs.Sound.{Fits, known}
 use Rattle.lapi_laws.proofs.Runs.{perform-sound}
 
-abbrev IsData : Packet → Type 0
+abbrev pub IsData : Packet → Type 0
 IsData (Data p) = Unit {0}
 IsData (Ack from to base bits) = ⊥
 
@@ -67,7 +67,7 @@ module _ (script : Script) (rules : Rules) where
   abbrev pub ToldRun : Run → Type 0
   ToldRun r = (a b : ℕ) → r.owed a b ≡ false → LastTells (r.wire b a) (has_number (r.handed a b))
 
-  packets-data : (J : List Event) (a b : ℕ) (numbers : List ℕ) → AllByRecursion IsData (packets script rules J a b numbers)
+  pub packets-data : (J : List Event) (a b : ℕ) (numbers : List ℕ) → AllByRecursion IsData (packets script rules J a b numbers)
   unfolding packets data_packet
   packets-data J a b numbers =
       all-flat_map (λ _. Unit {0}) IsData (λ n. packet_of script rules J n (slice_get (out script J a b) n)) numbers (all-any numbers)

@@ -30,13 +30,17 @@ pub holds-nothing : (script : Script) → ValidScript script → holds_back scri
 unfolding holds_back
 holds-nothing script valid = ap (λ n. waits_for_poll (layout_of n)) valid.layout
 
+-- where acknowledgements go out at once, one that is told goes out
+pub told-now : (script : Script) (rules : Rules) (p : Packet) → holds_back script ≡ false → at_once script rules p ≡ p ∷ []
+unfolding at_once
+told-now script rules p now = cond-false (holds_back script) [] (p ∷ []) now
+
 module _ (script : Script) (rules : Rules) (valid : ValidScript script) where
   record-told : (r : Run) → IsRecord script rules r → TellsAtOnce script rules r
   record-told = of-runs TellsAtOnce run-told script rules
 
   pub told-at-once : (p : Packet) → at_once script rules p ≡ p ∷ []
-  unfolding at_once
-  told-at-once p = cond-false (holds_back script) [] (p ∷ []) (holds-nothing script valid)
+  told-at-once p = told-now script rules p (holds-nothing script valid)
 
   pub none-owed : (r : Run) → IsRecord script rules r → (a b : ℕ) → r.owed a b ≡ false
   none-owed r is = (record-told r is (holds-nothing script valid)).0

@@ -35,6 +35,11 @@ use Rattle.lapi_parts.proofs.WholeMessages.{assembled-bytes}
 
 -- ---- what has landed came whole
 
+-- what happened stands in all that comes after
+pub done-later-all : (later J : List Event) (d : Deed) → done d J ≡ true → done d (later ++ J) ≡ true
+done-later-all [] J d h = h
+done-later-all (e ∷ later) J d h = done-later d e (later ++ J) (done-later-all later J d h)
+
 module _ (script : Script) (rules : Rules) where
   pub landed-whole : (r : Run) → SoundRun script rules r → (m : MsgName) → done (Landed m) r.journal ≡ true → is_whole script (r.handed (sender script m) (receiver script m)) m ≡ true
   unfolding is_whole whole_by has_fragment has_number
@@ -285,10 +290,6 @@ module _ (script : Script) (rules : Rules) where
   suffix-atomic : (later J : List Event) → Atomic script rules (later ++ J) → Atomic script rules J
   suffix-atomic [] J h = h
   suffix-atomic (e ∷ later) J h = suffix-atomic later J (Atomic-tail script rules e (later ++ J) h)
-
-  done-later-all : (later J : List Event) (d : Deed) → done d J ≡ true → done d (later ++ J) ≡ true
-  done-later-all [] J d h = h
-  done-later-all (e ∷ later) J d h = done-later d e (later ++ J) (done-later-all later J d h)
 
   -- what came is what the message carried when it landed
   came-then : (r : Run) → SoundRun script rules r → ExactRun script rules r → (t : ℕ) (m : MsgName) (later J : List Event) → r.journal ≡ later ++ Land m ∷ J → receiver script m ≡ t → came r t m ≡ carried script rules J m

@@ -33,17 +33,17 @@ use Rattle.lapi_parts.proofs.Receivable.{sent-numbers}
 
 -- ---- sets of numbers that packets have
 
-number-append : (xs ys : List Packet) (n : ℕ) → has_number (xs ++ ys) n ≡ (has_number xs n || has_number ys n)
+pub number-append : (xs ys : List Packet) (n : ℕ) → has_number (xs ++ ys) n ≡ (has_number xs n || has_number ys n)
 unfolding has_number
 number-append xs ys n = list_any-append (is_number n) xs ys
 
-get-some : {X : Type 0} (xs : List X) (n : ℕ) → n < length xs → (x : X) × (slice_get xs n ≡ Some x)
+pub get-some : {X : Type 0} (xs : List X) (n : ℕ) → n < length xs → (x : X) × (slice_get xs n ≡ Some x)
 get-some [] n l = absurd (omega arith)
 get-some (x ∷ xs) zero l = (x, refl)
 get-some (x ∷ xs) (suc n) l = get-some xs n (let q : n < length xs = omega arith in q)
 
 -- a number among those below a bound that pass
-below-has : (n : ℕ) (p : ℕ → Bool) (k : ℕ) → k < n → p k ≡ true → list_any (λ x. x == k) (below n p) ≡ true
+pub below-has : (n : ℕ) (p : ℕ → Bool) (k : ℕ) → k < n → p k ≡ true → list_any (λ x. x == k) (below n p) ≡ true
 unfolding below
 below-has zero p k l h = absurd (omega arith)
 below-has (suc n) p k l h =
@@ -70,7 +70,7 @@ module _ (script : Script) (rules : Rules) where
   packet-there J n None x e = absurd (cc)
   packet-there J n (Some pair) x e = or_left (n == n) false (eq-eqb n n refl)
 
-  packets-have : (J : List Event) (a b : ℕ) (numbers : List ℕ) (k : ℕ) → list_any (λ x. x == k) numbers ≡ true → k < length (out script J a b) → has_number (packets script rules J a b numbers) k ≡ true
+  pub packets-have : (J : List Event) (a b : ℕ) (numbers : List ℕ) (k : ℕ) → list_any (λ x. x == k) numbers ≡ true → k < length (out script J a b) → has_number (packets script rules J a b numbers) k ≡ true
   unfolding packets
   packets-have J a b [] k h l = absurd (false≢true h)
   packets-have J a b (n ∷ ns) k h l =

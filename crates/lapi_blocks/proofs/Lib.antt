@@ -1,0 +1,11 @@
+pub mod StridedPieces
+pub mod CompiledStatements
+pub mod ArrayStages
+pub mod StagesAreMade
+pub mod UnwrittenStays
+pub mod NeverRefused
+pub mod PlainArrays
+pub mod PlanLines
+pub mod ScriptLimits
+pub mod PlanLimits
+pub mod SmallPlan

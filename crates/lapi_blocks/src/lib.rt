@@ -1,0 +1,13 @@
+//! Two-dimensional arrays of words in blocks over a grid of tasks: plans of sets and gets, the script that does them,
+//! the plain array that it leaves, and lines that run it. Each law is the contract of a function without a body.
+#![tactic(auto)]
+
+mod arrays;
+mod plan;
+mod runs;
+mod scripts;
+
+pub use arrays::arrays_are_plain;
+pub use plan::{Op, Ops, Plan};
+pub use runs::plans_run;
+pub use scripts::scripts_are_valid;

@@ -1,0 +1,4 @@
+pub mod EpochOrder
+pub mod GatheredPieces
+pub mod StagedBytes
+pub mod SmallEpochs

@@ -1,0 +1,5 @@
+pub mod Served
+pub mod Flushed
+pub mod Swept
+pub mod Settled
+pub mod Rounds
