@@ -13,6 +13,7 @@ use Rattle.lapi_base.specs.declared.head.Head.TheVariants as heads
 use Rattle.lapi_base.specs.declared.packet.Packet.{Packet}
 use Rattle.lapi_base.specs.declared.packet.Packet.TheVariants.{Data, Ack}
 use Rattle.lapi_base.specs.declared.packet.DataPacket.{DataPacket}
+use Rattle.lapi_base.specs.Fragments.{fragments_in}
 use Rattle.lapi_base.specs.Layout.{unit_of, window_of}
 use Rattle.lapi_base.specs.Below.{every_below, least_missing, bits_of}
 use Rattle.lapi_base.specs.Names.{message, name_eq, leg_eq}
@@ -76,7 +77,7 @@ arrival_of script rules packets p m =
 -- The same by the packet alone.
 -- the fragments of a message with so many bytes
 unfoldable pub count_of : Script → (length : ℕ) → ℕ
-count_of script length = max 1 ((length + (unit_of script - 1)) / unit_of script)
+count_of script length = fragments_in (unit_of script) length
 
 abbrev pub is_active : PacketHead → Bool
 is_active (heads.Am handler tgt cmpl header) = true

@@ -10,14 +10,10 @@ use Rattle.lapi_base.specs.declared.packet.Packet.{Packet}
 use Rattle.lapi_base.specs.Layout.{window_of, holds_back}
 use Rattle.lapi_base.specs.Below.{least_missing}
 use Rattle.lapi_base.specs.Names.{name_eq}
-use Rattle.lapi_base.specs.Record.{Run, out, base, is_sent, is_delivered, is_acked, packets, fresh, at_once, sends}
+use Rattle.lapi_base.specs.Record.{Run, out, least_undelivered, base, is_sent, is_delivered, is_acked, packets, fresh, at_once, sends}
 use Rattle.lapi_base.specs.Valid.{ValidScript}
 
 module _ (script : Script) (rules : Rules) where
-  -- the least number of the link from a to b that wasn't delivered
-  abbrev pub least_undelivered : Run → (from to : ℕ) → ℕ
-  least_undelivered r a b = least_missing (length (out script r.journal a b)) (is_delivered r a b)
-
   -- what is acknowledged was delivered
   abbrev pub AckedAreDelivered : Run → Type 0
   AckedAreDelivered r = (a b n : ℕ) → is_acked r a b n ≡ true → is_delivered r a b n ≡ true
@@ -46,7 +42,7 @@ module _ (script : Script) (rules : Rules) where
 
   -- every number on a wire is below the least that wasn't delivered, plus the window
   abbrev pub StaysInWindow : Run → Type 0
-  StaysInWindow r = (a b n : ℕ) → is_sent r a b n ≡ true → n < least_undelivered r a b + window_of script
+  StaysInWindow r = (a b n : ℕ) → is_sent r a b n ≡ true → n < least_undelivered script r a b + window_of script
 
   -- on each link at most as many different messages are partly delivered as the window has numbers
   abbrev pub FewArePartial : Run → Type 0

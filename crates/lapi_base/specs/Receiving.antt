@@ -10,6 +10,7 @@ use Rattle.lapi_base.specs.declared.head.Head.TheVariants as heads
 use Rattle.lapi_base.specs.declared.packet.Packet.{Packet}
 use Rattle.lapi_base.specs.declared.packet.Packet.TheVariants.{Data}
 use Rattle.lapi_base.specs.declared.packet.DataPacket.{DataPacket}
+use Rattle.lapi_base.specs.Fragments.{IsPayload}
 use Rattle.lapi_base.specs.Layout.{unit_of, window_of}
 use Rattle.lapi_base.specs.Names.{name_eq, Landed, done}
 use Rattle.lapi_base.specs.Operations.{statements}
@@ -93,7 +94,7 @@ module _ (script : Script) (rules : Rules) where
     pub statement : p.name.statement < length (statements script p.name.origin)
     pub head : HeadFits script rules p.length p.head
     pub fragment : p.fragment < count_of script p.length
-    pub payload : length p.payload ≡ min (unit_of script) (p.length - unit_of script * p.fragment)
+    pub payload : IsPayload (unit_of script) p.length p.fragment p.payload
 
   abbrev pub PacketsFitScript : Run → Type 0
   PacketsFitScript r = ValidScript script → ValidRules rules → (a b k : ℕ) (p : DataPacket) → slice_get (r.wire a b) k ≡ Some (Data p) → FitsScript p

@@ -80,6 +80,10 @@ module _ (script : Script) where
   unfoldable pub base : Run → (from to : ℕ) → ℕ
   base r a b = least_missing (length (out script r.journal a b)) (is_acked r a b)
 
+  -- the least number of the link from a to b that wasn't delivered
+  abbrev pub least_undelivered : Run → (from to : ℕ) → ℕ
+  least_undelivered r a b = least_missing (length (out script r.journal a b)) (is_delivered r a b)
+
   -- the pair with number n is of message m
   abbrev pub is_of : MsgName → Option (MsgName × ℕ) → Bool
   is_of m None = false
@@ -146,7 +150,7 @@ module _ (script : Script) (rules : Rules) where
   -- the acknowledgement of what was delivered on the link from a to b, and the one that b owes to a, if it owes one
   unfoldable pub ack : Run → (from to : ℕ) → Packet
   ack r a b =
-      let least = least_missing (length (out script r.journal a b)) (is_delivered r a b) in
+      let least = least_undelivered script r a b in
       Ack b a least (bits_of (window_of script) (λ i. is_delivered r a b (least + i)))
 
   unfoldable pub owed_ack : Run → (from to : ℕ) → List Packet

@@ -10,6 +10,7 @@ use Rattle.lapi_base.specs.declared.message.MsgName.{MsgName}
 use Rattle.lapi_base.specs.declared.packet.Packet.{Packet}
 use Rattle.lapi_base.specs.declared.packet.Packet.TheVariants as packets
 use Rattle.lapi_base.specs.Form.{Form, Done, ◌>>=◌, field, any, bytes_form, IsSpelled, IsRefused, answer, One, Two, Four}
+use Rattle.lapi_base.specs.Fragments.{fragments_in, fragment_length}
 use Rattle.lapi_base.specs.Layout.{Layout, is_version, layout_of, unit, longest, bits_size}
 use Rattle.lapi_base.specs.Heads.{operation_form, head_form}
 
@@ -76,16 +77,8 @@ is_length layout (Join _) op n = n == 0
 unfoldable pub length_form : Layout → Leg → ℕ → Form ℕ
 length_form layout leg op = field Four reasons.Field (is_length layout leg op)
 
--- how many fragments a message has, an empty one too
-abbrev pub fragments : Layout → ℕ → ℕ
-fragments layout size = max (div_ceil size (unit layout)) 1
-
 unfoldable pub fragment_form : Layout → ℕ → Form ℕ
-fragment_form layout size = field Two reasons.Field (λ n. nat_lt n (fragments layout size))
-
--- how many of a message's bytes a fragment has
-abbrev pub fragment_size : Layout → ℕ → ℕ → ℕ
-fragment_size layout size fragment = min (unit layout) (size - unit layout * fragment)
+fragment_form layout size = field Two reasons.Field (λ n. nat_lt n (fragments_in (unit layout) size))
 
 unfoldable pub data_form : Layout → ℕ → ℕ → Form Packet
 data_form layout from to = do
@@ -95,7 +88,7 @@ data_form layout from to = do
   size ← length_form layout name.leg op
   fragment ← fragment_form layout size
   head ← head_form layout name.leg op size
-  payload ← bytes_form (fragment_size layout size fragment)
+  payload ← bytes_form (fragment_length (unit layout) size fragment)
   Done (packets.Data (record { from = from; to = to; seq = seq; name = name; head = head; length = size; fragment = fragment; payload = payload }))
 
 unfoldable pub packet_form : Form Packet

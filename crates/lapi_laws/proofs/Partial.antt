@@ -11,11 +11,11 @@ use Rattle.lapi_base.specs.declared.event.Event.{Event}
 use Rattle.lapi_base.specs.declared.event.Event.TheVariants.{Copy}
 use Rattle.lapi_base.specs.Names.{name_eq, Copied, done}
 use Rattle.lapi_base.specs.Operations.{sender, receiver, fragments, fragment_count}
-use Rattle.lapi_base.specs.Record.{Run, out, is_delivered, run_of}
+use Rattle.lapi_base.specs.Record.{Run, out, is_delivered, run_of, least_undelivered}
 use Rattle.lapi_base.specs.Atomic.{Atomic}
 use Rattle.lapi_base.specs.Headline.{HoldsOfRuns}
 use Rattle.lapi_base.specs.Layout.{window_of}
-use Rattle.lapi_base.specs.Links.{least_undelivered, IsNumberOf, IsPartlyDelivered, FewArePartial}
+use Rattle.lapi_base.specs.Links.{IsNumberOf, IsPartlyDelivered, FewArePartial}
 use Rattle.lapi_laws.proofs.NumberLaws.{any-all, least_missing-below, window-positive}
 use Rattle.lapi_laws.proofs.Deeds.{name_eq-refl}
 use Rattle.lapi_laws.proofs.Out.{get-front, out-copied}
@@ -58,10 +58,10 @@ module _ (script : Script) (rules : Rules) where
   between (e ∷ J) a b n i k m f g h p q low high = between J a b n i k m f g (Atomic-tail script rules e J h) p q low high
 
   -- A link whose delivered numbers stay in the window.
-  module _ (r : Run) (a b : ℕ) (h : Atomic script rules r.journal) (reach : (n : ℕ) → is_delivered r a b n ≡ true → n < least_undelivered script rules r a b + window_of script) where
+  module _ (r : Run) (a b : ℕ) (h : Atomic script rules r.journal) (reach : (n : ℕ) → is_delivered r a b n ≡ true → n < least_undelivered script r a b + window_of script) where
     -- the least number that wasn't delivered
     abbrev pub least : ℕ
-    least = least_undelivered script rules r a b
+    least = least_undelivered script r a b
 
     -- a message that is partly delivered has a number in the window
     pub inside : (m : MsgName) → IsPartlyDelivered script rules r a b m → (i : ℕ) × (i < window_of script) × IsNumberOf script rules r a b m (least + i)

@@ -16,10 +16,10 @@ use Rattle.lapi_base.specs.Operations.{statements}
 use Rattle.lapi_base.specs.Refusals.{next, why}
 use Rattle.lapi_base.specs.Jobs.{queue, runs}
 use Rattle.lapi_base.specs.Valid.{ValidAct}
-use Rattle.lapi_base.specs.Record.{Run, start, out, is_number, has_number, is_delivered, is_acked, ready, copy_each, packets, sends, poll, stale, tick, with_handed, hand_over, deliver, deliver_entry, unless_refused, add_event, reply_with, step, begin_first, begin_at, begin, end_at, end, cut_entry, perform, after, run_of}
+use Rattle.lapi_base.specs.Record.{Run, start, out, is_number, has_number, is_delivered, is_acked, ready, copy_each, packets, sends, poll, stale, tick, with_handed, hand_over, deliver, deliver_entry, unless_refused, add_event, reply_with, step, begin_first, begin_at, begin, end_at, end, cut_entry, perform, after, run_of, least_undelivered}
 use Rattle.lapi_base.specs.Headline.{HoldsOfRuns}
 use Rattle.lapi_base.specs.Layout.{window_of}
-use Rattle.lapi_base.specs.Links.{least_undelivered, StaysInWindow}
+use Rattle.lapi_base.specs.Links.{StaysInWindow}
 use Rattle.lapi_laws.proofs.NumberLaws.{least_missing-grows, any-get}
 use Rattle.lapi_laws.proofs.Sound.{Lists, acked-delivered}
 use Rattle.lapi_laws.proofs.Runs.{run-sound}
@@ -107,5 +107,5 @@ module _ (script : Script) (rules : Rules) where
     run-sent acts = after-sent acts start (λ a b n h. absurd (false≢true h))
 
     -- what was delivered is below the least number that wasn't, plus the window
-    pub delivered-reach : (acts : List Act) → AllByRecursion (ValidAct script spells) acts → (a b n : ℕ) → is_delivered (run_of script rules size refusal acts) a b n ≡ true → n < least_undelivered script rules (run_of script rules size refusal acts) a b + window_of script
+    pub delivered-reach : (acts : List Act) → AllByRecursion (ValidAct script spells) acts → (a b n : ℕ) → is_delivered (run_of script rules size refusal acts) a b n ≡ true → n < least_undelivered script (run_of script rules size refusal acts) a b + window_of script
     delivered-reach acts v a b n d = sent-reach script rules spells size refusal acts v a b n (run-sent acts a b n d)

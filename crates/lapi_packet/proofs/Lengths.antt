@@ -10,10 +10,11 @@ use Rattle.lapi_base.specs.declared.message.Leg.{Leg}
 use Rattle.lapi_base.specs.declared.message.Leg.TheVariants.{Go, Back, Note, Echo, Join}
 use Rattle.lapi_base.specs.declared.head.NoteOp.{NoteOp}
 use Rattle.lapi_base.specs.Form.{Form, Done, ◌>>=◌, bytes_form, IsSpelled, reading}
-use Rattle.lapi_base.specs.Layout.{Layout, First, longest}
+use Rattle.lapi_base.specs.Fragments.{fragment_length}
+use Rattle.lapi_base.specs.Layout.{Layout, First, longest, unit}
 use Rattle.lapi_base.specs.Parts.{counter_form, range_form, word_form, count_form, span_form, within_span, covering_span, matching_span, left_behind, behind, within_form, covering_form, matching_form}
 use Rattle.lapi_base.specs.Heads.{put_form, get_go_form, get_back_form, putv_form, getv_go_form, getv_back_form, update_form, rmw_go_form, rmw_back_form, header_count_form, am_form, note_of, note_form, echo_form, round_form, gfence_form, addr_form, operation_form, head_form}
-use Rattle.lapi_base.specs.Spelling.{task_form, kind_form, front_form, acknowledgement_form, leg_form, name_form, is_length, length_form, fragment_form, fragment_size, data_form, packet_form}
+use Rattle.lapi_base.specs.Spelling.{task_form, kind_form, front_form, acknowledgement_form, leg_form, name_form, is_length, length_form, fragment_form, data_form, packet_form}
 use Rattle.lapi_packet.proofs.Forms.{AtMost, at_most_more, at_most_bind, at_most_spelling, at_most_place, always_spelled, read_cases, done, failed, pair_is}
 use Rattle.lapi_packet.proofs.Numbers.{IsBytes}
 use Rattle.lapi_packet.proofs.Lists.{at_most_bytes, at_most_repeated, count_repeated}
@@ -187,7 +188,7 @@ unfolding name_form leg_form
 at_most_name from to = (omega arith, λ n l k. (omega arith, λ n l k. (omega arith, λ n l k. tt)))
 
 -- The longest head has no payload behind it.
-head_and_payload : (leg : Leg) (op size fragment : ℕ) → is_length First leg op size ≡ true → head_most leg op + (fragment_size First size fragment + 0) ≤ 387
+head_and_payload : (leg : Leg) (op size fragment : ℕ) → is_length First leg op size ≡ true → head_most leg op + (fragment_length (unit First) size fragment + 0) ≤ 387
 head_and_payload Go op size fragment e =
     elim (cases_Bool (op == 4)) [
       | inl is_four ↦
@@ -215,7 +216,7 @@ at_most_data from to = (
             omega arith,
             λ fragment l k.
                 let most = head_most name.leg op in
-                let count = fragment_size First size fragment in
+                let count = fragment_length (unit First) size fragment in
                 at_most_more (head_form First name.leg op size >>= λ head. bytes_form count >>= λ payload. Done _) (most + (count + 0)) 387 (head_and_payload name.leg op size fragment sized)
                 (at_most_bind (head_form First name.leg op size) (λ head. bytes_form count >>= λ payload. Done _) most (count + 0) (at_most_head First name.leg op size)
                 (λ head bytes' s'. at_most_bind (bytes_form count) (λ payload. Done _) count 0 (at_most_bytes count) (λ payload bytes'' s''. tt))),

@@ -10,10 +10,11 @@ use Rattle.lapi_base.specs.declared.packet.Packet.{Packet}
 use Rattle.lapi_base.specs.declared.message.Leg.{Leg}
 use Rattle.lapi_base.specs.declared.message.Leg.TheVariants.{Go, Back, Note, Echo, Join}
 use Rattle.lapi_base.specs.Form.{Form, Done, ◌>>=◌, bytes_form}
-use Rattle.lapi_base.specs.Layout.{Layout, First, longest}
+use Rattle.lapi_base.specs.Fragments.{fragment_length}
+use Rattle.lapi_base.specs.Layout.{Layout, First, longest, unit}
 use Rattle.lapi_base.specs.Parts.{counter_form, range_form, word_form, count_form, span_form, within_span, covering_span, matching_span, left_behind, behind, within_form, covering_form, matching_form}
 use Rattle.lapi_base.specs.Heads.{put_form, get_go_form, get_back_form, putv_form, getv_go_form, getv_back_form, update_of, update_form, rmw_go_form, rmw_back_form, header_count_form, am_form, note_of, note_form, echo_form, round_form, gfence_form, addr_form, is_operation, operation_form, head_form}
-use Rattle.lapi_base.specs.Spelling.{task_form, kind_form, front_form, acknowledgement_form, is_leg, leg_of, leg_form, name_form, length_form, fragment_form, fragment_size, data_form, packet_form, Spells}
+use Rattle.lapi_base.specs.Spelling.{task_form, kind_form, front_form, acknowledgement_form, is_leg, leg_of, leg_form, name_form, length_form, fragment_form, data_form, packet_form, Spells}
 use Rattle.lapi_base.specs.Written.{leg_number, head_number, note_number, update_number}
 use Rattle.lapi_base.specs.Written as written
 use Rattle.lapi_packet.proofs.Forms.{Written, written_bind, written_spelling, Always, always_bind, always_spelled}
@@ -305,7 +306,7 @@ unfolding data_form operation_form length_form fragment_form
 written_data from to front e = λ seq _ _.
     written_bind (name_form from to) (λ name. _) _ written.name written.packet (written_name from to)
     (λ name bytes s. λ op _ known size _ _ fragment _ _.
-    let count = fragment_size First size fragment in
+    let count = fragment_length (unit First) size fragment in
     written_bind (head_form First name.leg op size) (λ head. bytes_form count >>= λ payload. Done _) _ written.head written.packet (written_head First name.leg op size)
     (λ head bytes' s'. written_bind (bytes_form count) (λ payload. Done _) _ as_is written.packet (written_bytes count)
     (λ payload bytes'' s''.

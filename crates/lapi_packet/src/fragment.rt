@@ -12,8 +12,9 @@
 
 ghost use Rattle.std.specs.Prelude.{◌≡◌, ◌≤◌};
 ghost use Rattle.lapi_base.specs.Form.{bytes_form};
-ghost use Rattle.lapi_base.specs.Layout.{First};
-ghost use Rattle.lapi_base.specs.Spelling.{length_form, fragment_form, is_length, fragments, fragment_size};
+ghost use Rattle.lapi_base.specs.Fragments.{fragments_in, fragment_length};
+ghost use Rattle.lapi_base.specs.Layout.{First, unit};
+ghost use Rattle.lapi_base.specs.Spelling.{length_form, fragment_form, is_length};
 ghost use Rattle.lapi_packet.specs.Codes.{operation_number};
 ghost use Rattle.lapi_packet.specs.Reader.{Reads};
 
@@ -72,14 +73,14 @@ pub(crate) fn read_number(length: u32, bytes: &[u8]) -> Result<(u32, &[u8]), Fau
 
 /// How many fragments a message has.
 fn fragments(length: u32) -> u32
-    ensures { result ≡ fragments First length }
+    ensures { result ≡ fragments_in (unit First) length }
 {
     length.div_ceil(UNIT).max(1)
 }
 
 /// How many bytes a fragment of a message has.
 fn size_of(length: u32, fragment: u32) -> usize
-    ensures size { result ≡ fragment_size First length fragment }
+    ensures size { result ≡ fragment_length (unit First) length fragment }
     ensures bounded { result ≤ 256 }
 {
     UNIT.min(length.saturating_sub(fragment.saturating_mul(UNIT))) as usize
@@ -91,7 +92,7 @@ pub(crate) fn read_payload(
     fragment: u32,
     bytes: &[u8],
 ) -> Result<(Payload, &[u8]), Fault>
-    ensures { Reads (bytes_form (fragment_size First length fragment)) bytes.now result }
+    ensures { Reads (bytes_form (fragment_length (unit First) length fragment)) bytes.now result }
 {
     let size = size_of(length, fragment);
     if bytes.len() < size {

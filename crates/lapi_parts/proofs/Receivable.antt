@@ -24,10 +24,10 @@ use Rattle.lapi_base.specs.Names.{name_eq, Copied}
 use Rattle.lapi_base.specs.Operations.{statements, statement, target, address, spans, pieces_of, sender, receiver, has_leg, length_by, message_length, cmpl_counter, is_am}
 use Rattle.lapi_base.specs.Refusals.{round_of}
 use Rattle.lapi_base.specs.Packets.{head_by, data_packet}
-use Rattle.lapi_base.specs.Record.{Run, out, covers, is_number, has_number, is_sent, is_delivered}
+use Rattle.lapi_base.specs.Record.{Run, out, covers, is_number, has_number, is_sent, is_delivered, least_undelivered}
 use Rattle.lapi_base.specs.Atomic.{Atomic}
 use Rattle.lapi_base.specs.Valid.{ValidScript}
-use Rattle.lapi_base.specs.Links.{IsPartlyDelivered, least_undelivered, StaysInWindow}
+use Rattle.lapi_base.specs.Links.{IsPartlyDelivered, StaysInWindow}
 use Rattle.lapi_base.specs.Seen.{HoldsOfRecords}
 use Rattle.lapi_base.specs.Entries.{carried}
 use Rattle.lapi_base.specs.Arrived.{is_fragment, has_some, has_fragment, count_of}
@@ -170,9 +170,9 @@ module _ (script : Script) (rules : Rules) where
   in-part r s a b [] h = tt
   in-part r s a b (m ∷ ms) h = (part-delivered script rules r s a b m h.0, in-part r s a b ms h.1)
 
-  have-room : (r : Run) (a b : ℕ) (p : DataPacket) (ms : List MsgName) → SoundRun script rules r → ((n : ℕ) → is_delivered r a b n ≡ true → n < least_undelivered script rules r a b + window_of script) → p.seq < least_undelivered script rules r a b + window_of script → Fits script rules r.journal r.handed a b (Data p) → is_delivered r a b p.seq ≡ false → has_some (r.handed a b) p.name ≡ false → IsDistinct name_eq ms → AllByRecursion (IsThereInPart script rules (r.handed a b)) ms → length ms < window_of script
+  have-room : (r : Run) (a b : ℕ) (p : DataPacket) (ms : List MsgName) → SoundRun script rules r → ((n : ℕ) → is_delivered r a b n ≡ true → n < least_undelivered script r a b + window_of script) → p.seq < least_undelivered script r a b + window_of script → Fits script rules r.journal r.handed a b (Data p) → is_delivered r a b p.seq ≡ false → has_some (r.handed a b) p.name ≡ false → IsDistinct name_eq ms → AllByRecursion (IsThereInPart script rules (r.handed a b)) ms → length ms < window_of script
   have-room r a b p ms s reach near f d none apart all =
-      let low = least_undelivered script rules r a b in
+      let low = least_undelivered script r a b in
       let window = window_of script in
       let partial = in-part r s a b ms all in
       let places = offsets script rules r a b s.atomic reach ms partial in

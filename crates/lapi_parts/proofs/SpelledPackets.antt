@@ -18,10 +18,10 @@ use Rattle.lapi_base.specs.declared.head.Head.TheVariants as heads
 use Rattle.lapi_base.specs.declared.head.NoteOp.TheVariants as notes
 use Rattle.lapi_base.specs.declared.event.Event.{Event}
 use Rattle.lapi_base.specs.Form.{Done, ◌>>=◌, bytes_form, IsSpelled}
-use Rattle.lapi_base.specs.Fragments.{fragments_in}
-use Rattle.lapi_base.specs.Layout.{First, unit_of, longest_of, window_of}
+use Rattle.lapi_base.specs.Fragments.{fragments_in, fragment_length}
+use Rattle.lapi_base.specs.Layout.{First, unit_of, longest_of, window_of, unit}
 use Rattle.lapi_base.specs.Heads.{is_operation, operation_form, head_form}
-use Rattle.lapi_base.specs.Spelling.{task_form, kind_form, front_form, acknowledgement_form, is_leg, leg_of, leg_form, name_form, is_length, length_form, fragments, fragment_form, fragment_size, data_form, packet_form, Spells}
+use Rattle.lapi_base.specs.Spelling.{task_form, kind_form, front_form, acknowledgement_form, is_leg, leg_of, leg_form, name_form, is_length, length_form, fragment_form, data_form, packet_form, Spells}
 use Rattle.lapi_base.specs.Written as written
 use Rattle.lapi_base.specs.Names.{Copied, done}
 use Rattle.lapi_base.specs.Operations.{statements, statement, target, from_by, to_by, sender, receiver, has_join, has_leg, message_length, fragment_count}
@@ -120,7 +120,7 @@ name-spelled from to m f t s one leg is small low = (
   ),
 )
 
-pub data-spelled : (d : DataPacket) → d.from ≤ 7 → d.to ≤ 7 → d.seq < 2 ^ 32 → IsSpelled (name_form d.from d.to) d.name (written.name d.name) → is_operation d.name.leg (written.head_number d.head) ≡ true → written.head_number d.head < 256 → is_length First d.name.leg (written.head_number d.head) d.length ≡ true → d.length < 2 ^ 32 → d.fragment < fragments First d.length → d.fragment < 2 ^ 16 → IsSpelled (head_form First d.name.leg (written.head_number d.head) d.length) d.head (written.head d.head) → length d.payload ≡ fragment_size First d.length d.fragment → AllBytes d.payload → Spells (Data d) (written.packet (Data d))
+pub data-spelled : (d : DataPacket) → d.from ≤ 7 → d.to ≤ 7 → d.seq < 2 ^ 32 → IsSpelled (name_form d.from d.to) d.name (written.name d.name) → is_operation d.name.leg (written.head_number d.head) ≡ true → written.head_number d.head < 256 → is_length First d.name.leg (written.head_number d.head) d.length ≡ true → d.length < 2 ^ 32 → d.fragment < fragments_in (unit First) d.length → d.fragment < 2 ^ 16 → IsSpelled (head_form First d.name.leg (written.head_number d.head) d.length) d.head (written.head d.head) → length d.payload ≡ fragment_length (unit First) d.length d.fragment → AllBytes d.payload → Spells (Data d) (written.packet (Data d))
 unfolding packet_form front_form kind_form task_form data_form operation_form length_form fragment_form
 data-spelled d f t n name op op-small size size-small j j-small head count bytes =
     let number = written.head_number d.head in (
@@ -175,10 +175,10 @@ data-spelled d f t n name op op-small size size-small j j-small head count bytes
                       d.fragment,
                       written.head d.head ++ d.payload,
                       j-small,
-                      lt-ltb d.fragment (fragments First d.length) j,
+                      lt-ltb d.fragment (fragments_in (unit First) d.length) j,
                       refl,
-                      spelled-bind (head_form First d.name.leg number d.length) (λ head. bytes_form (fragment_size First d.length d.fragment) >>= λ payload. Done (Data (record { from = d.from; to = d.to; seq = d.seq; name = d.name; head = head; length = d.length; fragment = d.fragment; payload = payload }))) d.head (Data d) (written.head d.head) d.payload head
-                          (spelled-last (bytes_form (fragment_size First d.length d.fragment)) (λ payload. Data (record { from = d.from; to = d.to; seq = d.seq; name = d.name; head = d.head; length = d.length; fragment = d.fragment; payload = payload })) d.payload d.payload
+                      spelled-bind (head_form First d.name.leg number d.length) (λ head. bytes_form (fragment_length (unit First) d.length d.fragment) >>= λ payload. Done (Data (record { from = d.from; to = d.to; seq = d.seq; name = d.name; head = head; length = d.length; fragment = d.fragment; payload = payload }))) d.head (Data d) (written.head d.head) d.payload head
+                          (spelled-last (bytes_form (fragment_length (unit First) d.length d.fragment)) (λ payload. Data (record { from = d.from; to = d.to; seq = d.seq; name = d.name; head = d.head; length = d.length; fragment = d.fragment; payload = payload })) d.payload d.payload
                           (subst (λ (k : ℕ). IsSpelled (bytes_form k) d.payload d.payload) count (bytes-spelled d.payload bytes))),
                     ),
                   ),
@@ -245,9 +245,9 @@ operation-small (heads.Gfence round) = omega arith
 operation-small (heads.Addr round at) = omega arith
 
 -- the count of a message's fragments, told twice
-counts-same : (script : Script) → ValidScript script → (m : MsgName) → fragment_count script m ≡ fragments First (message_length script m)
+counts-same : (script : Script) → ValidScript script → (m : MsgName) → fragment_count script m ≡ fragments_in (unit First) (message_length script m)
 unfolding fragment_count
-counts-same script valid m = let n = message_length script m in let e : max 1 ((n + 255) / 256) ≡ max (n / 256 + min 1 (n % 256)) 1 = omega arith in ap (λ u. fragments_in u n) (first-unit script valid) ∙ e
+counts-same script valid m = ap (λ u. fragments_in u (message_length script m)) (first-unit script valid)
 
 ends-small : (script : Script) (answers : Bool) (a d : ℕ) (leg : Leg) (s : Statement) → a < script.tasks → d < script.tasks → has_leg script answers a leg s ≡ true → (from_by a d leg < script.tasks) × (to_by a d leg < script.tasks)
 ends-small script ans a d Go s la ld h = (la, ld)
