@@ -1,7 +1,4 @@
 pub mod NotedLaws
-pub mod Words
-pub mod LayoutLaws
-pub mod SettingLaws
 pub mod OrderLaws
 pub mod RoundLaws
 pub mod CellLaws
@@ -15,4 +12,3 @@ pub mod KnownLaws
 pub mod StepLaws
 pub mod BoundLaws
 pub mod JournalLaws
-pub mod ReasonLaws

@@ -11,7 +11,7 @@ use Rattle.lapi_base.specs.declared.event.Event.{Event}
 use Rattle.lapi_base.specs.declared.event.Event.TheVariants.{Issue, Pass, Copy, Land, End}
 use Rattle.lapi_base.specs.Operations.{has_back, tgt_counter, org_counter, cmpl_counter}
 use Rattle.lapi_base.specs.Counters.{count}
-use Rattle.lapi_audit.specs.Setting.{completes, target_by}
+use Rattle.lapi_calls.specs.Setting.{completes, target_by}
 
 abbrev pub value : List (List ℕ) → (task counter : ℕ) → ℕ
 value tasks t c = slice_index_or (slice_index_or tasks t []) c 0

@@ -7,6 +7,7 @@ use Rattle.lapi_base.specs.declared.event.Event.{Event}
 use Rattle.lapi_base.specs.declared.event.Event.TheVariants.{Issue, Refuse, Enter, Pass, Copy, Head, Land, Begin, End}
 use Rattle.lapi_base.specs.Names.{leg_eq, Deed, Issued, Refused, Entered, Passed, Copied, Headed, Landed, Begun, Ended, deed, done}
 use Rattle.lapi_base.specs.Operations.{statements}
+use Rattle.lapi_calls.specs.Places.{task_of, statement_of}
 use Rattle.lapi_audit.specs.declared.operation.Transit.{Transit}
 use Rattle.lapi_audit.specs.declared.operation.Operation.{Operation}
 
@@ -82,29 +83,6 @@ abbrev pub HasJoinBelow : Event → ℕ → Type 0
 HasJoinBelow (Copy m) n = JoinIsBelow m.leg n
 HasJoinBelow (Land m) n = JoinIsBelow m.leg n
 HasJoinBelow _ n = Unit {0}
-
--- the operation of a deed, by its task and its statement
-abbrev pub task_of : Deed → ℕ
-task_of (Issued a i) = a
-task_of (Refused a i) = a
-task_of (Entered a i) = a
-task_of (Passed a i) = a
-task_of (Copied m) = m.origin
-task_of (Headed m) = m.origin
-task_of (Landed m) = m.origin
-task_of (Begun m) = m.origin
-task_of (Ended m) = m.origin
-
-abbrev pub statement_of : Deed → ℕ
-statement_of (Issued a i) = i
-statement_of (Refused a i) = i
-statement_of (Entered a i) = i
-statement_of (Passed a i) = i
-statement_of (Copied m) = m.statement
-statement_of (Headed m) = m.statement
-statement_of (Landed m) = m.statement
-statement_of (Begun m) = m.statement
-statement_of (Ended m) = m.statement
 
 -- Tables: a list for each task, with something for each of its statements.
 abbrev pub operation : List (List Operation) → ℕ → ℕ → Operation

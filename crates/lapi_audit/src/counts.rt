@@ -2,11 +2,10 @@
 ghost use Rattle.std.specs.Prelude.{◌≡◌, ◌+◌, ◌^◌, ◌<◌, ◌≤◌, ℕ, [], length, map, replicate, slice_index_or, slice_set, IfOk};
 ghost use Rattle.lapi_base.specs.Valid.{ValidScript};
 ghost use Rattle.lapi_audit.specs.Counts as counts;
-ghost use Rattle.lapi_audit.specs.Setting.{rules_of};
+ghost use Rattle.lapi_calls.specs.Setting.{rules_of};
 
-use crate::setting::{Setting, target};
-use crate::statement::{completion_counter, has_back, origin_counter, target_counter};
-use lapi_base::{Event, Leg, Memory, Script, Statement};
+use lapi_base::{Event, Leg, Memory, MsgName, Script, Statement};
+use lapi_calls::{Setting, completion_counter, has_back, origin_counter, target, target_counter};
 use lapi_counters::Counters;
 use std::alloc::Global;
 
@@ -43,14 +42,24 @@ impl Counts {
         requires { (t c : ℕ) → counts.value self.old.tasks.items t c < 2 ^ 63 }
         ensures { self.new.tasks.items ≡ counts.after (rules_of setting.now) event.now statement.now self.old.tasks.items }
     {
-        match (event, statement) {
-            (Event::Issue { task, .. }, Statement::Set { counter, value }) => {
-                self.set(*task, *counter, *value);
+        match event {
+            Event::Issue { task, .. } => {
+                if let Statement::Set { counter, value } = statement {
+                    self.set(*task, *counter, *value);
+                }
             }
-            (Event::Pass { task, .. }, Statement::Wait { counter, value }) => {
-                self.take(*task, *counter, *value);
+            Event::Pass { task, .. } => {
+                if let Statement::Wait { counter, value } = statement {
+                    self.take(*task, *counter, *value);
+                }
             }
-            _ => {
+            Event::Refuse { .. }
+            | Event::Enter { .. }
+            | Event::Copy(_)
+            | Event::Head(_)
+            | Event::Land(_)
+            | Event::Begin { .. }
+            | Event::End { .. } => {
                 let (task, counter) = told(setting, event, statement);
                 self.announce(task, counter);
             }
@@ -124,25 +133,45 @@ fn announce(counters: &mut Counters, counter: u32)
     }
 }
 
-/// The task and the counter that the event tells.
+/// The task and the counter that an event tells, if it tells one.
 fn told(setting: &Setting<'_>, event: &Event, statement: &Statement) -> (u32, Option<u32>)
     ensures { (result.0, result.1) ≡ counts.told (rules_of setting.now) event.now statement.now }
 {
     match event {
-        Event::Copy(name) => match name.leg {
-            Leg::Go if !has_back(statement) => (name.origin, origin_counter(statement)),
-            Leg::Back => (target(*name, statement), target_counter(statement)),
-            _ => (name.origin, None),
-        },
-        Event::Land(name) => match name.leg {
-            Leg::Go if !has_back(statement) && !setting.has_completion(statement) => {
-                (target(*name, statement), target_counter(statement))
-            }
-            Leg::Back => (name.origin, origin_counter(statement)),
-            Leg::Note | Leg::Echo => (name.origin, completion_counter(statement)),
-            _ => (name.origin, None),
-        },
+        Event::Copy(name) => told_by_copy(*name, statement),
+        Event::Land(name) => told_by_land(setting, *name, statement),
         Event::End { task, .. } => (*task, target_counter(statement)),
-        _ => (0, None),
+        Event::Issue { .. }
+        | Event::Refuse { .. }
+        | Event::Enter { .. }
+        | Event::Pass { .. }
+        | Event::Head(_)
+        | Event::Begin { .. } => (0, None),
+    }
+}
+
+/// What the copy of a message tells: the origin, once its bytes are read; the target, once it has given them.
+fn told_by_copy(name: MsgName, statement: &Statement) -> (u32, Option<u32>)
+    ensures { (result.0, result.1) ≡ counts.told_copy name name.leg statement.now }
+{
+    match name.leg {
+        Leg::Go if has_back(statement) => (name.origin, None),
+        Leg::Go => (name.origin, origin_counter(statement)),
+        Leg::Back => (target(name, statement), target_counter(statement)),
+        Leg::Note | Leg::Echo | Leg::Join(_) => (name.origin, None),
+    }
+}
+
+/// What the landing of a message tells: the target, once the data are there and no completion is to
+/// follow; the origin, once it has what it asked for, or knows that all is done.
+fn told_by_land(setting: &Setting<'_>, name: MsgName, statement: &Statement) -> (u32, Option<u32>)
+    ensures { (result.0, result.1) ≡ counts.told_land (rules_of setting.now) name name.leg statement.now }
+{
+    match name.leg {
+        Leg::Go if has_back(statement) || setting.has_completion(statement) => (name.origin, None),
+        Leg::Go => (target(name, statement), target_counter(statement)),
+        Leg::Back => (name.origin, origin_counter(statement)),
+        Leg::Note | Leg::Echo => (name.origin, completion_counter(statement)),
+        Leg::Join(_) => (name.origin, None),
     }
 }

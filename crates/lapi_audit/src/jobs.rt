@@ -3,11 +3,10 @@ ghost use Rattle.std.specs.Prelude.{◌≡◌, ◌<◌, ◌&&◌, ◌∷◌, [],
 ghost use Rattle.lapi_base.specs.Names as names;
 ghost use Rattle.lapi_base.specs.Valid.{ValidScript};
 ghost use Rattle.lapi_audit.specs.Jobs as jobs;
-ghost use Rattle.lapi_audit.specs.Setting.{rules_of};
+ghost use Rattle.lapi_calls.specs.Setting.{rules_of};
 
-use crate::operation::is_go;
-use crate::setting::{Setting, receiver};
 use lapi_base::{Event, Leg, Memory, MsgName, Script, Statement};
+use lapi_calls::{Setting, is_go, receiver};
 use std::alloc::Global;
 use std::collections::VecDeque;
 use std::marker::Model;
@@ -130,7 +129,13 @@ impl Jobs {
             Event::End { name, task, worker } => {
                 is_name(*name, self.workers[*task as usize].get(*worker))
             }
-            _ => true,
+            Event::Issue { .. }
+            | Event::Refuse { .. }
+            | Event::Enter { .. }
+            | Event::Pass { .. }
+            | Event::Copy(_)
+            | Event::Head(_)
+            | Event::Land(_) => true,
         }
     }
 
@@ -156,7 +161,12 @@ impl Jobs {
                 self.workers[*task as usize].set(*worker, Some(*name));
             }
             Event::End { task, worker, .. } => self.workers[*task as usize].set(*worker, None),
-            _ => {}
+            Event::Issue { .. }
+            | Event::Refuse { .. }
+            | Event::Enter { .. }
+            | Event::Pass { .. }
+            | Event::Copy(_)
+            | Event::Head(_) => {}
         }
         Ok(())
     }
@@ -192,12 +202,14 @@ fn same_name(a: MsgName, b: MsgName) -> bool
 fn same_leg(a: Leg, b: Leg) -> bool
     ensures { result ≡ names.leg_eq a b }
 {
-    match (a, b) {
-        (Leg::Go, Leg::Go)
-        | (Leg::Back, Leg::Back)
-        | (Leg::Note, Leg::Note)
-        | (Leg::Echo, Leg::Echo) => true,
-        (Leg::Join(a), Leg::Join(b)) => a == b,
-        _ => false,
+    match a {
+        Leg::Go => is_go(b),
+        Leg::Back => matches!(b, Leg::Back),
+        Leg::Note => matches!(b, Leg::Note),
+        Leg::Echo => matches!(b, Leg::Echo),
+        Leg::Join(a) => match b {
+            Leg::Join(b) => a == b,
+            Leg::Go | Leg::Back | Leg::Note | Leg::Echo => false,
+        },
     }
 }

@@ -1,10 +1,10 @@
 //! The state of one operation.
 ghost use Rattle.std.specs.Prelude.{◌≡◌, ◌<◌, true, replicate, slice_index_or};
-ghost use Rattle.lapi_base.specs.Names.{leg_eq, deed};
-ghost use Rattle.lapi_base.specs.declared.message.Leg.TheVariants.{Go};
+ghost use Rattle.lapi_base.specs.Names.{deed};
 ghost use Rattle.lapi_audit.specs.Noted.{still, fresh, transit_of, with_transit, noted, after, JoinIsBelow, HasJoinBelow};
 
 use lapi_base::{Event, Leg};
+use lapi_calls::is_go;
 
 /// Which events of a message stood.
 #[derive(Clone, Copy, Debug)]
@@ -144,11 +144,4 @@ impl Operation {
             Event::End { .. } => self.ended = true,
         }
     }
-}
-
-/// Whether this is the leg Go.
-pub fn is_go(leg: Leg) -> bool
-    ensures { result ≡ leg_eq leg Go }
-{
-    matches!(leg, Leg::Go)
 }

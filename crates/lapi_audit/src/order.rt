@@ -6,13 +6,12 @@ ghost use Rattle.lapi_base.specs.Names.{deed};
 ghost use Rattle.lapi_base.specs.Valid.{ValidScript};
 ghost use Rattle.lapi_audit.specs.Noted.{stood, HasStates};
 ghost use Rattle.lapi_audit.specs.Order as order;
-ghost use Rattle.lapi_audit.specs.Setting.{rules_of};
+ghost use Rattle.lapi_calls.specs.Setting.{rules_of};
 
-use crate::operation::{Operation, is_go};
-use crate::setting::Setting;
-use crate::statement::is_message;
-use crate::table::{Table, place_of};
+use crate::operation::Operation;
+use crate::table::Table;
 use lapi_base::{Event, Leg};
+use lapi_calls::{Setting, is_go, is_message, place_of};
 
 impl Operation {
     /// Whether the data may land, by what stood.
@@ -48,7 +47,9 @@ impl Operation {
             Event::Head(name) => self.issued && self.transit(name.leg).copied,
             Event::Land(name) => match name.leg {
                 Leg::Go => self.may_land(is_message),
-                leg => self.transit(leg).copied && self.may_copy(is_message, completes, leg),
+                Leg::Back | Leg::Note | Leg::Echo | Leg::Join(_) => {
+                    self.transit(name.leg).copied && self.may_copy(is_message, completes, name.leg)
+                }
             },
             Event::Begin { name, .. } => {
                 self.transit(name.leg).landed && self.may_land(is_message)
@@ -58,7 +59,8 @@ impl Operation {
                     && self.transit(name.leg).landed
                     && self.may_land(is_message)
             }
-            _ => true,
+            Event::Issue { .. } | Event::Refuse { .. } | Event::Enter { .. } | Event::Pass { .. } =>
+                true,
         }
     }
 }
@@ -71,9 +73,7 @@ pub fn is_after(table: &Table, setting: &Setting<'_>, event: &Event) -> bool
     ensures { result ≡ list_all (stood table.now) (needs setting.now.script.now (rules_of setting.now) (deed event.now)) }
 {
     let (task, i) = place_of(event);
-    let Some(statement) = setting.statement(task, i) else {
-        return true;
-    };
+    let statement = setting.of(event);
     let operation = table.get(task, i);
     operation.is_after(
         is_message(statement),
