@@ -1,4 +1,5 @@
 pub mod NotedLaws
+pub mod NamedLaws
 pub mod OrderLaws
 pub mod RoundLaws
 pub mod CellLaws

@@ -68,6 +68,29 @@ after rules (Issue a i) s tasks = issued a s tasks
 after rules (Pass a i) s tasks = passed a s tasks
 after rules e s tasks = announced_at tasks (told rules e s)
 
+-- a counter is there
+abbrev pub HasCounter : List (List ℕ) → (task counter : ℕ) → Type 0
+HasCounter tasks t c = (t < length tasks) × (c < length (slice_index_or tasks t []))
+
+-- and so is one that may be named
+abbrev pub HasNamed : List (List ℕ) → (task : ℕ) → Option ℕ → Type 0
+HasNamed tasks t None = Unit {0}
+HasNamed tasks t (Some c) = HasCounter tasks t c
+
+abbrev pub HasIssued : List (List ℕ) → ℕ → Statement → Type 0
+HasIssued tasks a (Set c n) = HasCounter tasks a c
+HasIssued tasks a _ = Unit {0}
+
+abbrev pub HasPassed : List (List ℕ) → ℕ → Statement → Type 0
+HasPassed tasks a (Wait c n) = HasCounter tasks a c
+HasPassed tasks a _ = Unit {0}
+
+-- the counter that an event sets, takes from or tells is there
+abbrev pub IsWithin : Rules → Event → Statement → List (List ℕ) → Type 0
+IsWithin rules (Issue a i) s tasks = HasIssued tasks a s
+IsWithin rules (Pass a i) s tasks = HasPassed tasks a s
+IsWithin rules e s tasks = HasNamed tasks (told rules e s).0 (told rules e s).1
+
 -- they stand for the events so far
 pub record CountsStand (script : Script) (rules : Rules) (tasks : List (List ℕ)) (J : List Event) : Type 0 where
   pub task_count : length tasks ≡ script.tasks

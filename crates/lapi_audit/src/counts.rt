@@ -39,7 +39,8 @@ impl Counts {
 
     /// The event stands.
     pub fn note(&mut self, setting: &Setting<'_>, statement: &Statement, event: &Event)
-        requires { (t c : ℕ) → counts.value self.old.tasks.items t c < 2 ^ 63 }
+        requires small { (t c : ℕ) → counts.value self.old.tasks.items t c < 2 ^ 63 }
+        requires there { counts.IsWithin (rules_of setting.now) event.now statement.now self.old.tasks.items }
         ensures { self.new.tasks.items ≡ counts.after (rules_of setting.now) event.now statement.now self.old.tasks.items }
     {
         match event {
@@ -67,31 +68,27 @@ impl Counts {
     }
 
     fn set(&mut self, task: u32, counter: u32, value: u32)
+        requires { counts.HasCounter self.old.tasks.items task counter }
         ensures { self.new.tasks.items ≡ counts.with_value self.old.tasks.items task counter value }
     {
-        if (task as usize) < self.tasks.len() {
-            let counters = &mut self.tasks[task as usize];
-            set(counters, counter, value);
-        }
+        let counters = &mut self.tasks[task as usize];
+        counters.set(counter, value);
     }
 
     fn take(&mut self, task: u32, counter: u32, value: u32)
+        requires { counts.HasCounter self.old.tasks.items task counter }
         ensures { self.new.tasks.items ≡ counts.taken self.old.tasks.items task counter value }
     {
-        if (task as usize) < self.tasks.len() {
-            let counters = &mut self.tasks[task as usize];
-            take(counters, counter, value);
-        }
+        let counters = &mut self.tasks[task as usize];
+        take(counters, counter, value);
     }
 
     fn announce(&mut self, task: u32, counter: Option<u32>)
-        requires { (t c : ℕ) → counts.value self.old.tasks.items t c < 2 ^ 63 }
+        requires there { counts.HasNamed self.old.tasks.items task counter }
+        requires small { (t c : ℕ) → counts.value self.old.tasks.items t c < 2 ^ 63 }
         ensures { self.new.tasks.items ≡ counts.announced self.old.tasks.items task counter }
     {
-        let Some(counter) = counter else {
-            return;
-        };
-        if (task as usize) < self.tasks.len() {
+        if let Some(counter) = counter {
             let counters = &mut self.tasks[task as usize];
             announce(counters, counter);
         }
@@ -108,29 +105,19 @@ fn get(counters: &Counters, counter: u32) -> u64
     }
 }
 
-fn set(counters: &mut Counters, counter: u32, value: u32)
-    ensures { counters.new ≡ slice_set counters.old counter value }
-{
-    if (counter as usize) < counters.count() {
-        counters.set(counter, value);
-    }
-}
-
 fn take(counters: &mut Counters, counter: u32, value: u32)
+    requires { counter < length counters.old }
     ensures { counters.new ≡ slice_set counters.old counter (counts.less (slice_index_or counters.old counter 0) value) }
 {
-    if (counter as usize) < counters.count() {
-        counters.try_wait(counter, value);
-    }
+    counters.try_wait(counter, value);
 }
 
 fn announce(counters: &mut Counters, counter: u32)
-    requires { slice_index_or counters.old counter 0 < 2 ^ 63 }
+    requires there { counter < length counters.old }
+    requires small { slice_index_or counters.old counter 0 < 2 ^ 63 }
     ensures { counters.new ≡ slice_set counters.old counter (slice_index_or counters.old counter 0 + 1) }
 {
-    if (counter as usize) < counters.count() {
-        counters.announce(counter);
-    }
+    counters.announce(counter);
 }
 
 /// The task and the counter that an event tells, if it tells one.

@@ -146,7 +146,8 @@ impl Jobs {
         statement: &Statement,
         event: &Event,
     ) -> Result<(), Memory>
-        requires { jobs.IsWithin self.old.queues.items self.old.workers.items event.now }
+        requires workers { jobs.IsWithin self.old.queues.items self.old.workers.items event.now }
+        requires queue { jobs.HasQueue (rules_of setting.now) statement.now event.now self.old.queues.items }
         ensures queues { OnOk result (self.new.queues.items ≡ jobs.queues_after (rules_of setting.now) statement.now event.now self.old.queues.items) }
         ensures workers { OnOk result (self.new.workers.items ≡ jobs.workers_after event.now self.old.workers.items) }
     {
@@ -172,13 +173,11 @@ impl Jobs {
     }
 
     fn enqueue(&mut self, task: u32, name: MsgName) -> Result<(), Memory>
+        requires { task < length self.old.queues.items }
         ensures queues { OnOk result (self.new.queues.items ≡ jobs.enqueued task name self.old.queues.items) }
         ensures workers { self.new.workers ≡ self.old.workers }
     {
-        if (task as usize) < self.queues.len() {
-            self.queues[task as usize].push(name)?;
-        }
-        Ok(())
+        self.queues[task as usize].push(name)
     }
 }
 
