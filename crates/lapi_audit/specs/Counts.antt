@@ -1,5 +1,5 @@
 -- The counters, as they are kept: a list for each task.
-use Rattle.std.specs.Prelude.{◌≡◌, ℕ, ◌+◌, ◌-◌, ◌<◌, nat_le, Bool, cond, ◌||◌, List, [], length, slice_index_or, slice_set, Option, None, Some}
+use Rattle.std.specs.Prelude.{◌≡◌, ℕ, ◌+◌, ◌-◌, ◌<◌, nat_le, Bool, cond, ◌||◌, List, [], length, replicate, slice_index_or, slice_set, Option, None, Some}
 use Rattle.lapi_base.specs.declared.script.Script.{Script}
 use Rattle.lapi_base.specs.declared.statement.Statement.{Statement}
 use Rattle.lapi_base.specs.declared.statement.Statement.TheVariants.{Wait, Set}
@@ -16,12 +16,19 @@ use Rattle.lapi_calls.specs.Setting.{completes, target_by}
 abbrev pub value : List (List ℕ) → (task counter : ℕ) → ℕ
 value tasks t c = slice_index_or (slice_index_or tasks t []) c 0
 
+-- all counters are 0
+abbrev pub zeros : Script → List (List ℕ)
+zeros script = replicate script.tasks (replicate script.counters 0)
+
 abbrev pub with_value : List (List ℕ) → (task counter value : ℕ) → List (List ℕ)
 with_value tasks t c n = slice_set tasks t (slice_set (slice_index_or tasks t []) c n)
 
 -- what a wait leaves, where there is as much
 abbrev pub less : ℕ → ℕ → ℕ
 less n m = cond (nat_le m n) (n - m) n
+
+abbrev pub with_less : List ℕ → (counter value : ℕ) → List ℕ
+with_less counters c m = slice_set counters c (less (slice_index_or counters c 0) m)
 
 abbrev pub taken : List (List ℕ) → (task counter value : ℕ) → List (List ℕ)
 taken tasks t c m = with_value tasks t c (less (value tasks t c) m)
@@ -90,6 +97,9 @@ abbrev pub IsWithin : Rules → Event → Statement → List (List ℕ) → Type
 IsWithin rules (Issue a i) s tasks = HasIssued tasks a s
 IsWithin rules (Pass a i) s tasks = HasPassed tasks a s
 IsWithin rules e s tasks = HasNamed tasks (told rules e s).0 (told rules e s).1
+
+abbrev pub AreCounted : Rules → Event → Statement → (old new : List (List ℕ)) → Type 0
+AreCounted rules e s old new = new ≡ after rules e s old
 
 -- they stand for the events so far
 pub record CountsStand (script : Script) (rules : Rules) (tasks : List (List ℕ)) (J : List Event) : Type 0 where

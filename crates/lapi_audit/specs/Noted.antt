@@ -1,5 +1,5 @@
 -- The state of one operation, and of all: which deeds stand by it, and what an event makes of it.
-use Rattle.std.specs.Prelude.{◌≡◌, ℕ, ◌<◌, Bool, true, false, ◌&&◌, List, [], length, replicate, slice_index_or, slice_set}
+use Rattle.std.specs.Prelude.{◌≡◌, ℕ, ◌<◌, Bool, true, false, ◌&&◌, List, [], length, map, replicate, slice_index_or, slice_set}
 use Rattle.lapi_base.specs.declared.script.Script.{Script}
 use Rattle.lapi_base.specs.declared.message.Leg.{Leg}
 use Rattle.lapi_base.specs.declared.message.Leg.TheVariants.{Go, Back, Note, Echo, Join}
@@ -98,6 +98,14 @@ noted_in table e = with_operation table (task_of (deed e)) (statement_of (deed e
 -- whether a deed stands, by the states of all operations
 unfoldable pub stood : List (List Operation) → Deed → Bool
 stood table d = noted (operation table (task_of d) (statement_of d)) d
+
+-- no event of any operation stood
+abbrev pub all_fresh : Script → List (List Operation)
+all_fresh script = map (λ statements. replicate (length statements) fresh) script.lists
+
+-- the operation of an event is there
+abbrev pub HasOperation : List (List Operation) → Event → Type 0
+HasOperation table e = (task_of (deed e) < length table) × (statement_of (deed e) < length (slice_index_or table (task_of (deed e)) []))
 
 -- the table has a state for each operation
 pub record HasStates (script : Script) (table : List (List Operation)) : Type 0 where

@@ -18,7 +18,7 @@ pub struct Counts {
 impl Counts {
     /// All counters are 0.
     pub fn new(alloc: Global, script: &Script) -> Result<Counts, Memory>
-        ensures { IfOk result (λ made. made.tasks.items ≡ replicate script.now.tasks (replicate script.now.counters 0)) }
+        ensures { IfOk result (λ made. made.tasks.items ≡ counts.zeros script.now) }
     {
         let mut tasks = Vec::new(alloc);
         for _task in 0..script.tasks {
@@ -41,7 +41,7 @@ impl Counts {
     pub fn note(&mut self, setting: &Setting<'_>, statement: &Statement, event: &Event)
         requires small { (t c : ℕ) → counts.value self.old.tasks.items t c < 2 ^ 63 }
         requires there { counts.IsWithin (rules_of setting.now) event.now statement.now self.old.tasks.items }
-        ensures { self.new.tasks.items ≡ counts.after (rules_of setting.now) event.now statement.now self.old.tasks.items }
+        ensures { counts.AreCounted (rules_of setting.now) event.now statement.now self.old.tasks.items self.new.tasks.items }
     {
         match event {
             Event::Issue { task, .. } => {
@@ -107,7 +107,7 @@ fn get(counters: &Counters, counter: u32) -> u64
 
 fn take(counters: &mut Counters, counter: u32, value: u32)
     requires { counter < length counters.old }
-    ensures { counters.new ≡ slice_set counters.old counter (counts.less (slice_index_or counters.old counter 0) value) }
+    ensures { counters.new ≡ counts.with_less counters.old counter value }
 {
     counters.try_wait(counter, value);
 }

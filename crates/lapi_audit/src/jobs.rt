@@ -103,8 +103,8 @@ pub struct Jobs {
 impl Jobs {
     /// No job came yet.
     pub fn new(alloc: Global, script: &Script) -> Result<Jobs, Memory>
-        ensures queues { IfOk result (λ made. made.queues.items ≡ replicate script.now.tasks []) }
-        ensures workers { IfOk result (λ made. made.workers.items ≡ replicate script.now.tasks (replicate script.now.workers None)) }
+        ensures queues { IfOk result (λ made. made.queues.items ≡ jobs.no_queues script.now) }
+        ensures workers { IfOk result (λ made. made.workers.items ≡ jobs.idle script.now) }
     {
         let mut queues = Vec::new(alloc);
         let mut workers = Vec::new(alloc);
@@ -148,7 +148,7 @@ impl Jobs {
     ) -> Result<(), Memory>
         requires workers { jobs.IsWithin self.old.queues.items self.old.workers.items event.now }
         requires queue { jobs.HasQueue (rules_of setting.now) statement.now event.now self.old.queues.items }
-        ensures queues { OnOk result (self.new.queues.items ≡ jobs.queues_after (rules_of setting.now) statement.now event.now self.old.queues.items) }
+        ensures queues { OnOk result (jobs.AreQueued (rules_of setting.now) statement.now event.now self.old self.new) }
         ensures workers { OnOk result (self.new.workers.items ≡ jobs.workers_after event.now self.old.workers.items) }
     {
         match event {

@@ -2,11 +2,8 @@
 ghost use Rattle.std.specs.Prelude.{◌≡◌, ◌<◌, ℕ, length, Some, slice_get};
 ghost use Rattle.lapi_base.specs.Operations as operations;
 ghost use Rattle.lapi_base.specs.Operations.{statement, statements, table_rounds};
-ghost use Rattle.lapi_base.specs.Valid.{ValidScript};
-ghost use Rattle.lapi_calls.specs.Setting.{rules_of};
-ghost use Rattle.lapi_audit.specs.Noted.{stood, HasStates};
-ghost use Rattle.lapi_audit.specs.Rounds.{RoundsStand};
-ghost use Rattle.lapi_audit.specs.Turns as turns;
+ghost use Rattle.lapi_audit.specs.Known.{known_to};
+ghost use Rattle.lapi_audit.specs.Seen.{IsSeen};
 
 use crate::rounds::Call;
 use crate::waits::Seen;
@@ -21,9 +18,9 @@ pub struct Known<'a> {
 }
 
 impl Entries for Known<'_> {
-    ghost valid = { λ known. ValidScript known.seen.setting.script.now × HasStates known.seen.setting.script.now known.seen.table.now × RoundsStand known.seen.setting.script.now known.seen.rounds.now × (known.task < known.seen.setting.script.now.tasks) };
+    ghost valid = { λ known. IsSeen known.seen × (known.task < known.seen.setting.script.now.tasks) };
 
-    ghost is_known = { λ known. turns.knows known.seen.setting.script.now (rules_of known.seen.setting) (stood known.seen.table.now) known.task };
+    ghost is_known = { λ known. known_to known };
 
     ghost given = { λ known. operations.entry known.seen.setting.script.now };
 
@@ -42,8 +39,7 @@ impl Entries for Known<'_> {
 impl Seen<'_> {
     /// The statement of task `d` that is its address round of this number.
     fn table_round(&self, d: u32, round: u32) -> Option<u32>
-        requires valid { ValidScript self.now.setting.script.now }
-        requires rounds { RoundsStand self.now.setting.script.now self.now.rounds.now }
+        requires seen { IsSeen self.now }
         requires task { d < self.now.setting.script.now.tasks }
         ensures round { result ≡ slice_get (table_rounds self.now.setting.script.now d) round }
         ensures there { (j : ℕ) → result ≡ Some j → j < length (statements self.now.setting.script.now d) }
@@ -53,8 +49,7 @@ impl Seen<'_> {
 
     /// The address that task `d` gave in a round; 0 where it has no such round.
     fn entry(&self, round: u32, d: u32) -> u32
-        requires valid { ValidScript self.now.setting.script.now }
-        requires rounds { RoundsStand self.now.setting.script.now self.now.rounds.now }
+        requires seen { IsSeen self.now }
         ensures { result ≡ operations.entry self.now.setting.script.now round d }
     {
         if d >= self.setting.script.tasks {
@@ -68,7 +63,7 @@ impl Seen<'_> {
 
     /// The address that a statement gives to all tasks; 0 where it gives none.
     fn given(&self, d: u32, i: u32) -> u32
-        requires valid { ValidScript self.now.setting.script.now }
+        requires seen { IsSeen self.now }
         requires task { d < self.now.setting.script.now.tasks }
         requires there { i < length (statements self.now.setting.script.now d) }
         ensures { result ≡ operations.given_address (statement self.now.setting.script.now d i) }

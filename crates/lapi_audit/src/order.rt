@@ -6,7 +6,7 @@ ghost use Rattle.lapi_base.specs.Names.{deed};
 ghost use Rattle.lapi_base.specs.Valid.{ValidScript};
 ghost use Rattle.lapi_audit.specs.Noted.{stood, HasStates};
 ghost use Rattle.lapi_audit.specs.Order as order;
-ghost use Rattle.lapi_calls.specs.Setting.{rules_of};
+ghost use Rattle.lapi_calls.specs.Setting.{rules_of, IsThere};
 
 use crate::operation::Operation;
 use crate::table::Table;
@@ -69,8 +69,8 @@ impl Operation {
 pub fn is_after(table: &Table, setting: &Setting<'_>, event: &Event) -> bool
     requires valid { ValidScript setting.now.script.now }
     requires states { HasStates setting.now.script.now table.now }
-    requires there { is_there setting.now.script.now (rules_of setting.now) event.now ≡ true }
-    ensures { result ≡ list_all (stood table.now) (needs setting.now.script.now (rules_of setting.now) (deed event.now)) }
+    requires there { IsThere setting.now event.now }
+    ensures { result ≡ order.all_stood setting.now.script.now (rules_of setting.now) table.now event.now }
 {
     let (task, i) = place_of(event);
     let statement = setting.of(event);

@@ -1,5 +1,5 @@
 -- Why a statement is refused, by the statement.
-use Rattle.std.specs.Prelude.{ℕ, ◌+◌, ◌%◌, ◌==◌, nat_le, nat_lt, Bool, ◌&&◌, ◌||◌, not, List, [], ◌∷◌, length}
+use Rattle.std.specs.Prelude.{ℕ, ◌+◌, ◌%◌, ◌==◌, nat_le, nat_lt, Bool, ◌&&◌, ◌||◌, not, List, [], ◌∷◌, length, Option}
 use Rattle.std.specs.List.{list_any, zip}
 use Rattle.lapi_base.specs.declared.address.Addr.{Addr}
 use Rattle.lapi_base.specs.declared.piece.Piece.{Piece}
@@ -9,10 +9,13 @@ use Rattle.lapi_base.specs.declared.rule.Rules.{Rules}
 use Rattle.lapi_base.specs.declared.refusal.Refusal.{Refusal}
 use Rattle.lapi_base.specs.declared.refusal.Refusal.TheVariants.{BadTask, BadTargetRange, BadOriginRange, BadCounter, TooLong, NoTable, BadHandler, BadUserHeader, VecCount, VecLength, StrideBelowBlock, Misaligned}
 use Rattle.lapi_base.specs.Operations.{target_pieces, origin_pieces, is_rmw, target_of}
-use Rattle.lapi_base.specs.Refusals.{option_any, lies_within, counters_of, too_long, is_message, is_vector, stride_below_block, is_misaligned}
+use Rattle.lapi_base.specs.Refusals.{option_any, lies_within, counters_of, too_long, is_message, is_vector, stride_below_block, is_misaligned, why_by}
 use Rattle.lapi_base.specs.Handlers.{handler_of, user_header}
 use Rattle.lapi_base.specs.declared.statement.Statement.TheVariants.{Put, Get, Am}
 use Rattle.lapi_base.specs.Layout.{longest_of, longest_active_of}
+use Rattle.lapi_calls.specs.declared.setting.Setting.{Setting}
+use Rattle.lapi_calls.specs.Entries.{is_told}
+use Rattle.lapi_calls.specs.Setting.{rules_of}
 use Rattle.lapi_calls.specs.declared.reach.Reach.{Reach}
 use Rattle.lapi_calls.specs.Reaches.{total_of}
 
@@ -57,15 +60,24 @@ handler_missing rules s = is_message s && not (nat_lt (handler_of s) (length rul
 abbrev pub header_is_bad : Statement → Bool
 header_is_bad s = is_message s && (nat_lt 64 (length (user_header s)) || not (length (user_header s) % 4 == 0))
 
+abbrev pub lengths_differ : (to from : List Reach) → Statement → Bool
+lengths_differ to from s = is_vector s && list_any (λ (pq : Reach × Reach). not (pq.0.len == pq.1.len)) (zip to from)
+
+abbrev pub is_askew : List Reach → Bool
+is_askew reaches = list_any (λ (r : Reach). not (r.at % 4 == 0)) reaches
+
+abbrev pub is_misplaced : (to from : List Reach) → Statement → Bool
+is_misplaced to from s = is_rmw s && (is_askew to || is_askew from)
+
 -- the reasons after NoTable
 abbrev pub late_tests : Rules → (to from : List Reach) → Statement → List (Bool × Refusal)
 late_tests rules to from s =
     (handler_missing rules s, BadHandler)
     ∷ (header_is_bad s, BadUserHeader)
     ∷ (is_vector s && not (length to == length from), VecCount)
-    ∷ (is_vector s && list_any (λ (pq : Reach × Reach). not (pq.0.len == pq.1.len)) (zip to from), VecLength)
+    ∷ (lengths_differ to from s, VecLength)
     ∷ (stride_below_block s, StrideBelowBlock)
-    ∷ (is_rmw s && (list_any (λ (r : Reach). not (r.at % 4 == 0)) to || list_any (λ (r : Reach). not (r.at % 4 == 0)) from), Misaligned)
+    ∷ (is_misplaced to from s, Misaligned)
     ∷ []
 
 abbrev pub reach_tests : Script → Rules → (to from : List Reach) → Statement → List (Bool × Refusal)
@@ -77,3 +89,7 @@ reach_tests script rules to from s =
     ∷ (long_by script to from s, TooLong)
     ∷ (list_any (λ (r : Reach). not r.known) to, NoTable)
     ∷ late_tests rules to from s
+
+-- why a statement is refused, if it is, where these rounds are known
+abbrev pub why_told : Setting → (known : ℕ → Bool) → (task i : ℕ) → Option Refusal
+why_told setting known a i = why_by setting.script.now (rules_of setting) (is_told known) a i

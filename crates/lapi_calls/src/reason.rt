@@ -7,9 +7,10 @@ ghost use Rattle.lapi_base.specs.Operations as operations;
 ghost use Rattle.lapi_base.specs.Refusals as refusals;
 ghost use Rattle.lapi_base.specs.Refusals.{option_any, counters_of};
 ghost use Rattle.lapi_base.specs.Valid.{ValidScript};
-ghost use Rattle.lapi_calls.specs.Entries.{is_told, AreGiven};
+ghost use Rattle.lapi_calls.specs.Entries.{AreGiven};
 ghost use Rattle.lapi_calls.specs.Reasons as reasons;
-ghost use Rattle.lapi_calls.specs.Setting.{rules_of};
+ghost use Rattle.lapi_calls.specs.Reasons.{why_told};
+ghost use Rattle.lapi_calls.specs.Setting.{rules_of, HasStatement};
 
 use crate::entries::Entries;
 use crate::layout::{longest, longest_active};
@@ -30,10 +31,10 @@ pub fn why_refused<E: Entries>(
     i: u32,
 ) -> Option<Refusal>
     requires script { ValidScript setting.now.script.now }
-    requires there { has_statement setting.now.script.now (rules_of setting.now) task i ≡ true }
+    requires there { HasStatement setting.now task i }
     requires asked { E.valid entries.now }
     requires given { AreGiven setting.now.script.now (E.is_known entries.now) (E.given entries.now) }
-    ensures { result ≡ refusals.why_by setting.now.script.now (rules_of setting.now) (is_told (E.is_known entries.now)) task i }
+    ensures { result ≡ why_told setting.now (E.is_known entries.now) task i }
 {
     let statement = setting.at(task, i);
     let target = target_or(task, statement);
@@ -175,7 +176,7 @@ fn counts_differ(statement: &Statement, to: &Reaches, from: &Reaches) -> bool
 
 /// Whether two pieces that belong together have different lengths.
 fn lengths_differ(statement: &Statement, to: &Reaches, from: &Reaches) -> bool
-    ensures { result ≡ (refusals.is_vector statement.now && list_any (λ pq. not (pq.0.len == pq.1.len)) (zip to.now from.now)) }
+    ensures { result ≡ reasons.lengths_differ to.now from.now statement.now }
 {
     is_vector(statement) && to.differs(from)
 }
@@ -213,7 +214,7 @@ fn is_stride_short(statement: &Statement) -> bool
 
 /// Whether a word that is read and modified, or the place for its old value, isn't at a multiple of 4.
 fn is_misaligned(statement: &Statement, to: &Reaches, from: &Reaches) -> bool
-    ensures { result ≡ (operations.is_rmw statement.now && (list_any (λ r. not (r.at % 4 == 0)) to.now || list_any (λ r. not (r.at % 4 == 0)) from.now)) }
+    ensures { result ≡ reasons.is_misplaced to.now from.now statement.now }
 {
     matches!(statement, Statement::Rmw { .. }) && (to.any_misaligned() || from.any_misaligned())
 }

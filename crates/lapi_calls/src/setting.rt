@@ -5,7 +5,7 @@ ghost use Rattle.lapi_base.specs.Handlers.{number_of, header_word, user_by, comp
 ghost use Rattle.lapi_base.specs.Names.{deed};
 ghost use Rattle.lapi_base.specs.Operations.{statements, statement, receiver, has_leg};
 ghost use Rattle.lapi_base.specs.Valid.{ValidScript};
-ghost use Rattle.lapi_calls.specs.Setting.{rules_of, named_choice, kept, completes, has_place, is_answered, answers_by, has_head, has_event};
+ghost use Rattle.lapi_calls.specs.Setting.{rules_of, named_choice, kept, completes, has_place, is_answered, answers_by, has_head, has_event, HasStatement, LacksStatement, IsStatement, IsThere, lies_at, leg_is_there};
 ghost use Rattle.lapi_calls.specs.Places.{task_of, statement_of};
 
 use crate::layout::may_answer;
@@ -29,7 +29,7 @@ impl<'a> Setting<'a> {
     /// Statement `i` of a task, if there is one.
     pub fn statement(&self, task: u32, i: u32) -> Option<&'a Statement>
         requires { ValidScript self.now.script.now }
-        ensures { MatchOption result (has_statement self.now.script.now (rules_of self.now) task i ≡ false) (λ s. (has_statement self.now.script.now (rules_of self.now) task i ≡ true) × (s.now ≡ statement self.now.script.now task i)) }
+        ensures { MatchOption result (LacksStatement self.now task i) (λ s. IsStatement self.now task i s.now) }
     {
         statement_of(self.script, task, i)
     }
@@ -37,7 +37,7 @@ impl<'a> Setting<'a> {
     /// Statement `i` of a task, which is there.
     pub fn at(&self, task: u32, i: u32) -> &'a Statement
         requires script { ValidScript self.now.script.now }
-        requires there { has_statement self.now.script.now (rules_of self.now) task i ≡ true }
+        requires there { HasStatement self.now task i }
         ensures { result.now ≡ statement self.now.script.now task i }
     {
         match self.statement(task, i) {
@@ -49,8 +49,8 @@ impl<'a> Setting<'a> {
     /// The statement at which an event lies.
     pub fn of(&self, event: &Event) -> &'a Statement
         requires script { ValidScript self.now.script.now }
-        requires there { is_there self.now.script.now (rules_of self.now) event.now ≡ true }
-        ensures { result.now ≡ statement self.now.script.now (task_of (deed event.now)) (statement_of (deed event.now)) }
+        requires there { IsThere self.now event.now }
+        ensures { result.now ≡ lies_at self.now.script.now event.now }
     {
         let (task, i) = place_of(event);
         self.at(task, i)
@@ -135,7 +135,7 @@ impl<'a> Setting<'a> {
 
     /// Whether a statement of this task has a message of this leg.
     pub fn has_leg(&self, task: u32, leg: Leg, statement: &Statement) -> bool
-        ensures { result ≡ has_leg self.now.script.now (answers_by self.now.script.now (rules_of self.now) statement.now) task leg statement.now }
+        ensures { result ≡ leg_is_there self.now task leg statement.now }
     {
         match leg {
             Leg::Go => is_data(statement),
