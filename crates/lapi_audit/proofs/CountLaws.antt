@@ -18,7 +18,7 @@ use Rattle.lapi_base.specs.Atomic.{Keeps, pass_allowed}
 use Rattle.lapi_audit.specs.Counts.{value, with_value, less, announced, announced_at, told_copy, told_go, told_land, told, issued, passed, after, CountsStand}
 use Rattle.lapi_calls.specs.Places.{task_of, statement_of}
 use Rattle.lapi_calls.specs.Setting.{completes, target_by}
-use Rattle.lapi_audit.proofs.CellLaws.{place-sym, item-at, cell-at}
+use Rattle.lapi_laws.proofs.CellLaws.{place-sym, item-at, cell-at}
 use Rattle.lapi_calls.proofs.SettingLaws.{completes_by}
 
 -- one more at the counter that is told

@@ -2,7 +2,6 @@ pub mod NotedLaws
 pub mod NamedLaws
 pub mod OrderLaws
 pub mod RoundLaws
-pub mod CellLaws
 pub mod TurnLaws
 pub mod WaitLaws
 pub mod JobLaws

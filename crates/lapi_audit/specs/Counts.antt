@@ -11,6 +11,7 @@ use Rattle.lapi_base.specs.declared.event.Event.{Event}
 use Rattle.lapi_base.specs.declared.event.Event.TheVariants.{Issue, Pass, Copy, Land, End}
 use Rattle.lapi_base.specs.Operations.{has_back, tgt_counter, org_counter, cmpl_counter}
 use Rattle.lapi_base.specs.Counters.{count}
+use Rattle.lapi_audit.specs.declared.counts.Counts.{Counts}
 use Rattle.lapi_calls.specs.Setting.{completes, target_by}
 
 abbrev pub value : List (List ℕ) → (task counter : ℕ) → ℕ
@@ -98,8 +99,9 @@ IsWithin rules (Issue a i) s tasks = HasIssued tasks a s
 IsWithin rules (Pass a i) s tasks = HasPassed tasks a s
 IsWithin rules e s tasks = HasNamed tasks (told rules e s).0 (told rules e s).1
 
-abbrev pub AreCounted : Rules → Event → Statement → (old new : List (List ℕ)) → Type 0
-AreCounted rules e s old new = new ≡ after rules e s old
+-- the counters are what an event makes of them
+abbrev pub AreCounted : Rules → Event → Statement → (old new : Counts) → Type 0
+AreCounted rules e s old new = new.tasks.items ≡ after rules e s old.tasks.items
 
 -- they stand for the events so far
 pub record CountsStand (script : Script) (rules : Rules) (tasks : List (List ℕ)) (J : List Event) : Type 0 where

@@ -41,7 +41,7 @@ impl Counts {
     pub fn note(&mut self, setting: &Setting<'_>, statement: &Statement, event: &Event)
         requires small { (t c : ℕ) → counts.value self.old.tasks.items t c < 2 ^ 63 }
         requires there { counts.IsWithin (rules_of setting.now) event.now statement.now self.old.tasks.items }
-        ensures { counts.AreCounted (rules_of setting.now) event.now statement.now self.old.tasks.items self.new.tasks.items }
+        ensures { counts.AreCounted (rules_of setting.now) event.now statement.now self.old self.new }
     {
         match event {
             Event::Issue { task, .. } => {
@@ -67,6 +67,7 @@ impl Counts {
         }
     }
 
+    /// Sets a counter.
     fn set(&mut self, task: u32, counter: u32, value: u32)
         requires { counts.HasCounter self.old.tasks.items task counter }
         ensures { self.new.tasks.items ≡ counts.with_value self.old.tasks.items task counter value }
@@ -75,6 +76,7 @@ impl Counts {
         counters.set(counter, value);
     }
 
+    /// Takes a value from a counter.
     fn take(&mut self, task: u32, counter: u32, value: u32)
         requires { counts.HasCounter self.old.tasks.items task counter }
         ensures { self.new.tasks.items ≡ counts.taken self.old.tasks.items task counter value }
@@ -83,6 +85,7 @@ impl Counts {
         take(counters, counter, value);
     }
 
+    /// Counts one event at a counter, if one is named.
     fn announce(&mut self, task: u32, counter: Option<u32>)
         requires there { counts.HasNamed self.old.tasks.items task counter }
         requires small { (t c : ℕ) → counts.value self.old.tasks.items t c < 2 ^ 63 }
@@ -95,6 +98,7 @@ impl Counts {
     }
 }
 
+/// A counter's value; 0 where there is no such counter.
 fn get(counters: &Counters, counter: u32) -> u64
     ensures { result ≡ slice_index_or counters.now counter 0 }
 {
@@ -105,6 +109,7 @@ fn get(counters: &Counters, counter: u32) -> u64
     }
 }
 
+/// Takes a value from a counter that has as much.
 fn take(counters: &mut Counters, counter: u32, value: u32)
     requires { counter < length counters.old }
     ensures { counters.new ≡ counts.with_less counters.old counter value }
@@ -112,6 +117,7 @@ fn take(counters: &mut Counters, counter: u32, value: u32)
     counters.try_wait(counter, value);
 }
 
+/// Counts one event.
 fn announce(counters: &mut Counters, counter: u32)
     requires there { counter < length counters.old }
     requires small { slice_index_or counters.old counter 0 < 2 ^ 63 }

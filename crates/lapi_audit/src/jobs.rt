@@ -172,6 +172,7 @@ impl Jobs {
         Ok(())
     }
 
+    /// A job waits behind the others of its task.
     fn enqueue(&mut self, task: u32, name: MsgName) -> Result<(), Memory>
         requires { task < length self.old.queues.items }
         ensures queues { OnOk result (self.new.queues.items ≡ jobs.enqueued task name self.old.queues.items) }
@@ -191,6 +192,7 @@ fn is_name(name: MsgName, other: Option<MsgName>) -> bool
     }
 }
 
+/// Whether two names are of one message.
 #[tactic(auto, unfolding(lapi_base::specs::Names::name_eq))]
 fn same_name(a: MsgName, b: MsgName) -> bool
     ensures { result ≡ names.name_eq a b }
@@ -198,6 +200,7 @@ fn same_name(a: MsgName, b: MsgName) -> bool
     a.origin == b.origin && a.statement == b.statement && same_leg(a.leg, b.leg)
 }
 
+/// Whether two legs are the same.
 fn same_leg(a: Leg, b: Leg) -> bool
     ensures { result ≡ names.leg_eq a b }
 {

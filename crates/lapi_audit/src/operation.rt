@@ -58,6 +58,7 @@ impl Operation {
         }
     }
 
+    /// The state of one of its messages.
     pub fn transit(&self, leg: Leg) -> Transit
         ensures { result ≡ transit_of self.now leg }
     {
@@ -70,6 +71,7 @@ impl Operation {
         }
     }
 
+    /// The state of the join to a task; to one that isn't there no join stood.
     fn join(&self, task: u32) -> Transit
         ensures { result ≡ slice_index_or self.now.joins task still }
     {
@@ -96,6 +98,7 @@ impl Operation {
         }
     }
 
+    /// Changes the state of one of its messages.
     fn set_transit(&mut self, leg: Leg, transit: Transit)
         requires { JoinIsBelow leg 8 }
         ensures { self.new ≡ with_transit self.old leg transit }
@@ -109,6 +112,7 @@ impl Operation {
         }
     }
 
+    /// A message is copied.
     fn copy(&mut self, leg: Leg)
         requires { JoinIsBelow leg 8 }
         ensures { self.new ≡ with_transit self.old leg (record (transit_of self.old leg) { copied = true }) }
@@ -118,6 +122,7 @@ impl Operation {
         self.set_transit(leg, transit);
     }
 
+    /// A message has landed.
     fn land(&mut self, leg: Leg)
         requires { JoinIsBelow leg 8 }
         ensures { self.new ≡ with_transit self.old leg (record (transit_of self.old leg) { landed = true }) }

@@ -28,6 +28,7 @@ impl Operation {
         (!completes || self.begun && self.ended) && self.go.landed && self.may_land(is_message)
     }
 
+    /// Whether a message may be copied.
     fn may_copy(&self, is_message: bool, completes: bool, leg: Leg) -> bool
         ensures { result ≡ order.may_copy self.now is_message completes leg }
     {

@@ -4,7 +4,7 @@ ghost use Rattle.lapi_base.specs.Layout as layouts;
 
 use lapi_base::Script;
 
-/// The longest message.
+/// The longest message, in bytes.
 #[tactic(auto, unfolding(lapi_base::specs::Layout::longest_of), using(crate::proofs::LayoutLaws::longest_by))]
 pub fn longest(script: &Script) -> u32
     ensures { result ≡ layouts.longest_of script.now }
@@ -12,7 +12,7 @@ pub fn longest(script: &Script) -> u32
     if script.layout == 2 { 65_536 } else { 16_384 }
 }
 
-/// The longest active message.
+/// The longest active message, in bytes.
 #[tactic(auto, unfolding(lapi_base::specs::Layout::longest_active_of), using(crate::proofs::LayoutLaws::longest_active_by))]
 pub fn longest_active(script: &Script) -> u32
     ensures { result ≡ layouts.longest_active_of script.now }

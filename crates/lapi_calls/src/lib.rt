@@ -21,3 +21,6 @@ pub use statement::{
     completion_counter, has_back, is_data, is_entered, is_issued, is_message, is_passed,
     origin_counter, own_counter, target_counter, target_of,
 };
+
+#[cfg(test)]
+mod tests;

@@ -100,6 +100,7 @@ fn vector<E: Entries>(entries: &E, d: u32, vector: &Vector) -> Reaches
     }
 }
 
+/// Where the pieces of a list lie.
 fn list<E: Entries>(entries: &E, d: u32, pieces: &[Piece]) -> Reaches
     requires asked { E.valid entries.now }
     requires count { length pieces.now ≤ 16 }

@@ -32,6 +32,7 @@ impl Model for Reaches {
 }
 
 impl Reaches {
+    /// No piece.
     pub fn new() -> Reaches
         ensures { result ≡ [] }
     {
@@ -40,6 +41,7 @@ impl Reaches {
         }
     }
 
+    /// One piece.
     pub fn one(reach: Reach) -> Reaches
         ensures { result ≡ reach ∷ [] }
     {
@@ -48,6 +50,7 @@ impl Reaches {
         Reaches { items }
     }
 
+    /// Adds a piece after the others; there are 16 at most.
     pub fn push(&mut self, reach: Reach)
         requires { length self.old < 16 }
         ensures { self.new ≡ self.old ++ reach ∷ [] }
@@ -62,6 +65,7 @@ impl Reaches {
         self.items.as_slice()
     }
 
+    /// How many pieces there are.
     pub fn len(&self) -> usize
         ensures { result ≡ length self.now }
     {
@@ -84,18 +88,21 @@ impl Reaches {
         self.as_slice().iter().any(|reach| is_beyond(reach, size))
     }
 
+    /// Whether an address isn't known.
     pub fn any_unknown(&self) -> bool
         ensures { result ≡ list_any (λ r. not r.known) self.now }
     {
         self.as_slice().iter().any(|reach| !reach.known)
     }
 
+    /// Whether an address is no multiple of 4.
     pub fn any_misaligned(&self) -> bool
         ensures { result ≡ list_any (λ r. not (r.at % 4 == 0)) self.now }
     {
         self.as_slice().iter().any(|reach| reach.at % 4 != 0)
     }
 
+    /// How many bytes the pieces have together.
     pub fn total(&self) -> u64
         ensures { result ≡ reaches.total_of self.now }
     {
@@ -106,6 +113,7 @@ impl Reaches {
         total
     }
 
+    /// Whether two pieces at the same place of their lists have different lengths.
     pub fn differs(&self, other: &Reaches) -> bool
         ensures { result ≡ list_any (λ pq. not (pq.0.len == pq.1.len)) (zip self.now other.now) }
     {
@@ -114,6 +122,7 @@ impl Reaches {
     }
 }
 
+/// Whether a piece doesn't lie within a memory of this size.
 fn is_beyond(reach: &Reach, size: u32) -> bool
     ensures { result ≡ not (nat_le (reach.now.at + reach.now.len) size) }
 {

@@ -21,7 +21,9 @@ use lapi_base::{
 #[derive(Clone, Copy)]
 pub struct Setting<'a> {
     pub script: &'a Script,
+    /// What the header handlers answer, by their numbers.
     pub headers: &'a [HeaderRule],
+    /// What the completion handlers do, by their numbers.
     pub completions: &'a [CompletionRule],
 }
 
@@ -76,10 +78,8 @@ impl<'a> Setting<'a> {
     fn completion(&self, handler: u32, header: &Bytes) -> Option<u32>
         ensures { result ≡ kept (rules_of self.now) handler header.now }
     {
-        match self.choice(handler, header) {
-            Some(index) if (index as usize) < self.completions.len() => Some(index),
-            _ => None,
-        }
+        let index = self.choice(handler, header)?;
+        ((index as usize) < self.completions.len()).then_some(index)
     }
 
     /// Whether the message of this statement is answered: its completion handler is one that answers, and
@@ -98,6 +98,7 @@ impl<'a> Setting<'a> {
         may_answer(self.script) && self.is_answered(*handler, header)
     }
 
+    /// Whether the completion handler answers, and the answer has a place.
     fn is_answered(&self, handler: u32, header: &Bytes) -> bool
         ensures { result ≡ is_answered self.now.script.now (rules_of self.now) handler header.now }
     {
@@ -107,6 +108,7 @@ impl<'a> Setting<'a> {
         }
     }
 
+    /// Whether this completion handler answers.
     fn is_answer(&self, index: u32) -> bool
         ensures { result ≡ is_answer (completion_rule (rules_of self.now) index) }
     {
@@ -116,6 +118,7 @@ impl<'a> Setting<'a> {
         )
     }
 
+    /// Whether a word has a place at this address of the origin's memory.
     fn has_place(&self, user: u32) -> bool
         ensures { result ≡ has_place self.now.script.now user }
     {
@@ -168,6 +171,7 @@ impl<'a> Setting<'a> {
         }
     }
 
+    /// Whether a message has a head: an active message on its way to the target.
     fn has_head(&self, name: MsgName, statement: &Statement) -> bool
         ensures { result ≡ has_head self.now.script.now (rules_of self.now) name statement.now }
     {
@@ -187,14 +191,15 @@ impl<'a> Setting<'a> {
     }
 }
 
-// The user value, by the user header.
+/// The user value: the second word of the user header, and 0 where there is none.
 fn user(header: &Bytes) -> u32
     ensures { result ≡ user_by header.now }
 {
     header_word(header, 1).unwrap_or(0)
 }
 
-// Word `index` of a user header, which is absent where the header is shorter.
+/// Word `index` of a user header, which is absent where the header is shorter. It stands a second time in
+/// `lapi_handlers`, which has the same rules as functions.
 #[tactic(auto, unfolding(lapi_base::specs::Handlers::header_word))]
 fn header_word(header: &Bytes, index: usize) -> Option<u32>
     requires { index < 3 }
@@ -209,7 +214,7 @@ fn header_word(header: &Bytes, index: usize) -> Option<u32>
     Some(first_word(rest))
 }
 
-// The number that the first four bytes spell.
+/// The number that the first four bytes spell, the highest byte first.
 #[tactic(auto, using(crate::proofs::Words::first_four))]
 fn first_word(bytes: &[u8]) -> u32
     requires { 4 ≤ length bytes.now }
@@ -218,6 +223,7 @@ fn first_word(bytes: &[u8]) -> u32
     u32::from_be_bytes([bytes[0], bytes[1], bytes[2], bytes[3]])
 }
 
+/// Statement `i` of a task, if there is one.
 fn statement_of(script: &Script, task: u32, i: u32) -> Option<&Statement>
     ensures { option_map (λ s. s.now) result ≡ slice_get (statements script.now task) i }
 {

@@ -29,3 +29,4 @@ pub mod Partial
 pub mod Shorts
 pub mod MoreRows
 pub mod TextRows
+pub mod CellLaws
