@@ -13,7 +13,7 @@ use Rattle.lapi_base.specs.declared.refusal.Refusal.TheVariants.{BadTask, BadTar
 use Rattle.lapi_base.specs.declared.rule.Rules.{Rules}
 use Rattle.lapi_base.specs.declared.script.Script.{Script}
 use Rattle.lapi_base.specs.declared.statement.Statement.{Statement}
-use Rattle.lapi_base.specs.declared.statement.Statement.TheVariants.{Store, Put, Get, Putv, Getv, Rmw, Am}
+use Rattle.lapi_base.specs.declared.statement.Statement.TheVariants.{Putv, Getv}
 use Rattle.lapi_base.specs.Operations.{upto, entry, shifted, pieces_of, target_pieces, origin_pieces, target_of}
 use Rattle.lapi_base.specs.Refusals.{option_any, counters_of, first_reason}
 use Rattle.lapi_base.specs.Valid.{IsPlain, AtPlain, ValidStatement}

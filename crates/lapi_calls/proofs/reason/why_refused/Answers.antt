@@ -1,7 +1,7 @@
 use Rattle.std.proofs.Common.{map, sym, ap, ◌∙◌, subst}
 use Rattle.std.specs.Prelude.{unwrap_or}
 use Rattle.lapi_base.specs.declared.statement.Statement.{Statement}
-use Rattle.lapi_base.specs.Operations.{statement, entry, target, target_of, target_pieces, origin_pieces}
+use Rattle.lapi_base.specs.Operations.{statement, target, target_of, target_pieces, origin_pieces}
 use Rattle.lapi_base.specs.Refusals.{first_reason}
 use Rattle.lapi_base.specs.Valid.{ValidStatement}
 use Rattle.lapi_calls.specs.Entries.{is_told}
