@@ -1,5 +1,5 @@
 -- What an event that keeps the rules sets, takes from, tells or queues is there.
-use Rattle.std.proofs.Common.{◌≡◌, ℕ, ◌+◌, ◌<◌, ◌==◌, Bool, true, false, cond, ◌&&◌, List, length, [], ◌∷◌, ◌||◌, Option, None, Some, refl, sym, subst, get_or, arith}
+use Rattle.std.proofs.Common.{◌≡◌, ℕ, ◌<◌, ◌==◌, Bool, true, false, cond, ◌&&◌, List, length, [], ◌∷◌, ◌||◌, Option, None, Some, refl, sym, subst, get_or, arith}
 use Rattle.std.specs.Prelude.{nat_lt, unwrap_or}
 use Rattle.std.specs.List.{AllByRecursion}
 use Rattle.std.proofs.lemmas.Bool.{and_parts, ltb-true}
@@ -12,7 +12,7 @@ use Rattle.lapi_base.specs.declared.message.Leg.TheVariants.{Go, Back, Note, Ech
 use Rattle.lapi_base.specs.declared.message.MsgName.{MsgName}
 use Rattle.lapi_base.specs.declared.event.Event.{Event}
 use Rattle.lapi_base.specs.declared.event.Event.TheVariants.{Issue, Refuse, Enter, Pass, Copy, Head, Land, Begin, End}
-use Rattle.lapi_base.specs.Names.{Deed, Landed, Begun, Ended, deed, done, leg_eq}
+use Rattle.lapi_base.specs.Names.{Landed, Begun, Ended, deed, done, leg_eq}
 use Rattle.lapi_base.specs.Operations.{statement, statements, receiver, to_by, is_am, has_back, target_of, tgt_counter, org_counter, cmpl_counter}
 use Rattle.lapi_base.specs.Handlers.{has_completion}
 use Rattle.lapi_base.specs.Refusals.{why}
@@ -21,7 +21,7 @@ use Rattle.lapi_base.specs.Valid.{ValidScript}
 use Rattle.lapi_laws.proofs.NumberLaws.{list_all-each}
 use Rattle.lapi_laws.proofs.Shorts.{last-of}
 use Rattle.lapi_calls.specs.Places.{task_of, statement_of}
-use Rattle.lapi_calls.specs.Setting.{completes, target_by, receiver_by}
+use Rattle.lapi_calls.specs.Setting.{completes, target_by}
 use Rattle.lapi_audit.specs.Counts.{HasNamed, HasIssued, HasPassed, IsWithin, CountsStand, told_copy, told_go, told_land}
 use Rattle.lapi_audit.specs.Jobs.{HasQueue}
 use Rattle.lapi_audit.proofs.KnownLaws.{IsThere, IsTask, AllThere, why-counters, known, follows-issued}
