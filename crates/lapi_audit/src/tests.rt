@@ -8,6 +8,7 @@ use lapi_base::{
     Script, Statement, StatementLists, Statements,
 };
 use std::alloc::Global;
+use std::process::Abort;
 use std::test::Fail;
 
 // The second header handler names a completion handler; the first names none.
@@ -27,6 +28,9 @@ const COMPLETIONS: [CompletionRule; 1] = [CompletionRule::Answer];
 const ATOMIC: Verdict = Verdict::Atomic;
 
 const GO: Leg = Leg::Go;
+
+/// What it shows, the events, and the verdict on them.
+type Case<'a> = (&'a str, &'a [Event], Verdict);
 
 /// The statements of task 0, two of them.
 #[derive(Clone, Copy, Debug)]
@@ -132,12 +136,15 @@ impl Given {
         }
     }
 
-    fn verdict(self, alloc: Global, journal: &[Event]) -> Result<Verdict, Memory> {
+    /// Compares the verdict on each journal.
+    fn compare(self, rt: &impl Abort, alloc: Global, cases: &[Case<'_>]) -> Result<(), Fail> {
         let script = self.script(alloc)?;
-        if journal.len() > 100 {
-            return Err(Memory);
+        for (shows, journal, expected) in cases {
+            assert!(rt; journal.len() <= 100, "{shows}");
+            let verdict = audit(alloc, &script, &HEADERS, &COMPLETIONS, journal)?;
+            assert_eq!(rt; verdict, *expected, "{shows}");
         }
-        audit(alloc, &script, &HEADERS, &COMPLETIONS, journal)
+        Ok(())
     }
 }
 
@@ -209,210 +216,91 @@ fn an_operation_goes_its_way_once(rt: HostRuntime) -> Result<(), Fail> {
     let noted = [issue(0), issue(1), copy(1, Leg::Note)];
     let back = [issue(0), issue(1), copy(1, Leg::Back)];
     let headed = [issue(0), issue(1), copy(1, GO), head(1)];
-    let run = [
-        issue(0),
-        copy(0, GO),
-        head(0),
-        land(0, GO),
-        begin(0, 1, 0),
-        end(0),
-        copy(0, Leg::Echo),
+    let of_puts = [
+        ("a put lands", &put[..4], ATOMIC),
+        ("it lands again", &put[..], broken(1, 4)),
+        ("nothing happens", &put[..0], ATOMIC),
+        ("it lands uncopied", &skipped[..], broken(2, 2)),
+        ("no completion counter", &noted[..], broken(1, 2)),
+        ("nothing comes back", &back[..], broken(1, 2)),
+        ("it has no head", &headed[..], broken(1, 3)),
     ];
-    let unbegun = [issue(0), copy(0, GO), head(0), land(0, GO), end(0)];
-    let far = [issue(0), copy(0, GO), head(0), land(0, GO), begin(0, 0, 0)];
-    let worker = [issue(0), copy(0, GO), head(0), land(0, GO), begin(0, 1, 1)];
-    let begun = [issue(0), copy(0, GO), head(0), land(0, GO), begin(0, 1, 0)];
-    let cases = [
-        ("a put lands", Given::StoreAndPut, &put[..4], ATOMIC),
-        ("it lands again", Given::StoreAndPut, &put[..], broken(1, 4)),
-        ("nothing", Given::StoreAndPut, &put[..0], ATOMIC),
-        (
-            "it lands uncopied",
-            Given::StoreAndPut,
-            &skipped[..],
-            broken(2, 2),
-        ),
-        (
-            "no completion counter",
-            Given::StoreAndPut,
-            &noted[..],
-            broken(1, 2),
-        ),
-        (
-            "nothing comes back",
-            Given::StoreAndPut,
-            &back[..],
-            broken(1, 2),
-        ),
-        (
-            "it has no head",
-            Given::StoreAndPut,
-            &headed[..],
-            broken(1, 3),
-        ),
-        ("a job runs", Given::MessageAndFence, &run[..6], ATOMIC),
-        (
-            "nobody answers",
-            Given::MessageAndFence,
-            &run[..],
-            broken(1, 6),
-        ),
-        (
-            "it ends unbegun",
-            Given::MessageAndFence,
-            &unbegun[..],
-            broken(2, 4),
-        ),
-        (
-            "not at the origin",
-            Given::MessageAndFence,
-            &far[..],
-            broken(1, 4),
-        ),
-        (
-            "no such worker",
-            Given::MessageAndFence,
-            &worker[..],
-            broken(1, 4),
-        ),
-        (
-            "no completion",
-            Given::MessageAndWait,
-            &begun[..],
-            broken(3, 4),
-        ),
-        (
-            "no job to end",
-            Given::MessageAndWait,
-            &unbegun[..],
-            broken(3, 4),
-        ),
+    Given::StoreAndPut.compare(&rt, alloc, &of_puts)?;
+    let before = [issue(0), copy(0, GO), head(0), land(0, GO)];
+    let [issued, copied, headed, landed] = before;
+    let run = [issued, copied, headed, landed, begin(0, 1, 0), end(0)];
+    let unbegun = [issued, copied, headed, landed, end(0)];
+    let far = [issued, copied, headed, landed, begin(0, 0, 0)];
+    let worker = [issued, copied, headed, landed, begin(0, 1, 1)];
+    let begun = [issued, copied, headed, landed, begin(0, 1, 0)];
+    let of_jobs = [
+        ("a job runs", &run[..], ATOMIC),
+        ("it ends unbegun", &unbegun[..], broken(2, 4)),
+        ("not at the origin", &far[..], broken(1, 4)),
+        ("no such worker", &worker[..], broken(1, 4)),
     ];
-    for (shows, given, journal, verdict) in cases {
-        assert_eq!(rt; given.verdict(alloc, journal)?, verdict, "{shows}");
-    }
-    Ok(())
+    Given::MessageAndFence.compare(&rt, alloc, &of_jobs)?;
+    let of_none = [
+        ("no completion to begin", &begun[..], broken(3, 4)),
+        ("no completion to end", &unbegun[..], broken(3, 4)),
+    ];
+    Given::MessageAndWait.compare(&rt, alloc, &of_none)
 }
 
 #[test]
-fn statements_wait_and_are_refused(rt: HostRuntime) -> Result<(), Fail> {
+fn statements_wait(rt: HostRuntime) -> Result<(), Fail> {
     let alloc = rt.alloc();
-    let one = Leg::Join(1);
     let fenced = [issue(0), copy(0, GO), head(0), pass(1)];
     let landed = [issue(0), copy(0, GO), head(0), land(0, GO), pass(1)];
+    let echo = [issue(0), copy(0, Leg::Echo)];
+    let of_fences = [
+        ("before it lands", &fenced[..], broken(5, 3)),
+        ("while its job waits", &landed[..], ATOMIC),
+        ("nobody answers", &echo[..], broken(1, 1)),
+    ];
+    Given::MessageAndFence.compare(&rt, alloc, &of_fences)?;
+    let of_waits = [("no value yet", &landed[..], broken(4, 4))];
+    Given::MessageAndWait.compare(&rt, alloc, &of_waits)?;
+    let one = Leg::Join(1);
     let alone = [enter(0), copy(0, one), land(0, one), pass(0)];
     let own = [enter(0), copy(0, Leg::Join(0))];
     let none = [enter(0), copy(0, Leg::Join(2))];
-    let twice = [pass(0), pass(0)];
-    let refused = [refuse(0, Refusal::BadTask), pass(1)];
-    let cases = [
-        (
-            "before it lands",
-            Given::MessageAndFence,
-            &fenced[..],
-            broken(5, 3),
-        ),
-        (
-            "while its job waits",
-            Given::MessageAndFence,
-            &landed[..],
-            ATOMIC,
-        ),
-        (
-            "no value yet",
-            Given::MessageAndWait,
-            &landed[..],
-            broken(4, 4),
-        ),
-        (
-            "the other is not here",
-            Given::GfenceAndFence,
-            &alone[..],
-            broken(6, 3),
-        ),
-        (
-            "no join to itself",
-            Given::GfenceAndFence,
-            &own[..],
-            broken(1, 1),
-        ),
-        (
-            "no such task",
-            Given::GfenceAndFence,
-            &none[..],
-            broken(1, 1),
-        ),
-        ("not told", Given::Addresses, &alone[..], broken(7, 3)),
-        (
-            "passed again",
-            Given::WaitAndFarAddress,
-            &twice[..],
-            broken(1, 1),
-        ),
-        (
-            "to be refused",
-            Given::WaitAndFarAddress,
-            &[pass(0), pass(1)][..],
-            broken(8, 1),
-        ),
-        (
-            "nor entered",
-            Given::WaitAndFarAddress,
-            &[pass(0), enter(1)][..],
-            broken(8, 1),
-        ),
-        ("refused", Given::FarPutAndWait, &refused[..1], ATOMIC),
-        (
-            "no such counter",
-            Given::FarPutAndWait,
-            &refused[..],
-            broken(8, 1),
-        ),
-        (
-            "it is 0",
-            Given::FarPutAndLongWait,
-            &refused[..],
-            broken(4, 1),
-        ),
-        (
-            "not refused",
-            Given::FarPutAndWait,
-            &[issue(0)][..],
-            broken(8, 0),
-        ),
-        (
-            "not issued",
-            Given::FarPutAndWait,
-            &[copy(0, GO)][..],
-            broken(2, 0),
-        ),
-        (
-            "another reason",
-            Given::FarPutAndWait,
-            &[refuse(0, Refusal::BadCounter)][..],
-            broken(8, 0),
-        ),
-        (
-            "no reason",
-            Given::StoreAndPut,
-            &[refuse(0, Refusal::BadTask)][..],
-            broken(8, 0),
-        ),
-        (
-            "not the next",
-            Given::StoreAndPut,
-            &[issue(1)][..],
-            broken(8, 0),
-        ),
-        (
-            "never issued",
-            Given::GfenceAndFence,
-            &[issue(0)][..],
-            broken(1, 0),
-        ),
+    let of_gfences = [
+        ("the other is not here", &alone[..], broken(6, 3)),
+        ("no join to itself", &own[..], broken(1, 1)),
+        ("no such task", &none[..], broken(1, 1)),
+        ("never issued", &[issue(0)][..], broken(1, 0)),
     ];
-    for (shows, given, journal, verdict) in cases {
-        assert_eq!(rt; given.verdict(alloc, journal)?, verdict, "{shows}");
-    }
-    Ok(())
+    Given::GfenceAndFence.compare(&rt, alloc, &of_gfences)?;
+    let of_addresses = [("not told", &alone[..], broken(7, 3))];
+    Given::Addresses.compare(&rt, alloc, &of_addresses)
+}
+
+#[test]
+fn statements_are_refused_in_order(rt: HostRuntime) -> Result<(), Fail> {
+    let alloc = rt.alloc();
+    let refused = [refuse(0, Refusal::BadTask), pass(1)];
+    let another = [refuse(0, Refusal::BadCounter)];
+    let copied = [copy(0, GO)];
+    let of_far = [
+        ("refused", &refused[..1], ATOMIC),
+        ("no such counter", &refused[..], broken(8, 1)),
+        ("not refused", &[issue(0)][..], broken(8, 0)),
+        ("not issued", &copied[..], broken(2, 0)),
+        ("another reason", &another[..], broken(8, 0)),
+    ];
+    Given::FarPutAndWait.compare(&rt, alloc, &of_far)?;
+    let of_long = [("it is 0", &refused[..], broken(4, 1))];
+    Given::FarPutAndLongWait.compare(&rt, alloc, &of_long)?;
+    let of_addresses = [
+        ("passed again", &[pass(0), pass(0)][..], broken(1, 1)),
+        ("to be refused", &[pass(0), pass(1)][..], broken(8, 1)),
+        ("nor entered", &[pass(0), enter(1)][..], broken(8, 1)),
+    ];
+    Given::WaitAndFarAddress.compare(&rt, alloc, &of_addresses)?;
+    let of_puts = [
+        ("no reason", &refused[..1], broken(8, 0)),
+        ("not the next", &[issue(1)][..], broken(8, 0)),
+    ];
+    Given::StoreAndPut.compare(&rt, alloc, &of_puts)
 }
