@@ -13,10 +13,10 @@ use Rattle.lapi_base.specs.declared.message.MsgName.{MsgName}
 use Rattle.lapi_base.specs.declared.event.Event.{Event}
 use Rattle.lapi_base.specs.declared.event.Event.TheVariants.{Issue, Refuse, Enter, Pass, Copy, Head, Land, Begin, End}
 use Rattle.lapi_base.specs.Names.{message, Deed, Issued, Landed, Begun, Ended, deed, done}
-use Rattle.lapi_base.specs.Operations.{statement, target, has_back, tgt_counter, org_counter, cmpl_counter, own_counter}
+use Rattle.lapi_base.specs.Operations.{statement, target, has_back, tgt_counter, org_counter, cmpl_counter, own_counter, target_of}
 use Rattle.lapi_base.specs.Handlers.{has_completion}
 use Rattle.lapi_base.specs.Counters.{is_counter, copy_tells, land_tells, tells, issued_count, passed_count, count}
-use Rattle.lapi_base.specs.Refusals.{why, why_by}
+use Rattle.lapi_base.specs.Refusals.{option_any, why, why_by}
 use Rattle.lapi_base.specs.Atomic.{Atomic, Keeps, needs, copy_needs, land_needs, to_follow, to_land, only_if}
 use Rattle.lapi_laws.proofs.Backward.{Atomic-head, Atomic-tail, shown}
 use Rattle.lapi_laws.proofs.NumberLaws.{list_all-each}
@@ -31,7 +31,7 @@ any-none p (x ∷ xs) ys h =
 
 module _ (script : Script) (rules : Rules) where
   -- a counter that is named is there
-  abbrev IsThere : Option ℕ → Type 0
+  abbrev pub IsThere : Option ℕ → Type 0
   IsThere None = Unit {0}
   IsThere (Some d) = d < script.counters
 
@@ -39,10 +39,19 @@ module _ (script : Script) (rules : Rules) where
   is-there None h = tt
   is-there (Some d) h = ltb-true d script.counters (not-false (nat_lt d script.counters) (or_parts (not (nat_lt d script.counters)) false h).0)
 
-  abbrev AllThere : Statement → Type 0
-  AllThere s = IsThere (own_counter s) × IsThere (tgt_counter s) × IsThere (org_counter s) × IsThere (cmpl_counter s)
+  -- and so is a target
+  abbrev pub IsTask : Option ℕ → Type 0
+  IsTask None = Unit {0}
+  IsTask (Some d) = d < script.tasks
 
-  why-counters : (J : List Event) (a i : ℕ) → why script rules J a i ≡ None → AllThere (statement script a i)
+  is-task : (o : Option ℕ) → option_any (λ t. not (nat_lt t script.tasks)) o ≡ false → IsTask o
+  is-task None h = tt
+  is-task (Some d) h = ltb-true d script.tasks (not-false (nat_lt d script.tasks) h)
+
+  abbrev pub AllThere : Statement → Type 0
+  AllThere s = IsThere (own_counter s) × IsThere (tgt_counter s) × IsThere (org_counter s) × IsThere (cmpl_counter s) × IsTask (target_of s)
+
+  pub why-counters : (J : List Event) (a i : ℕ) → why script rules J a i ≡ None → AllThere (statement script a i)
   unfolding why why_by
   why-counters J a i h =
       let s = statement script a i in
@@ -51,7 +60,7 @@ module _ (script : Script) (rules : Rules) where
       let x = any-none test ((option_to_list (own_counter s) ++ option_to_list (tgt_counter s)) ++ option_to_list (org_counter s)) (option_to_list (cmpl_counter s)) all in
       let y = any-none test (option_to_list (own_counter s) ++ option_to_list (tgt_counter s)) (option_to_list (org_counter s)) x.0 in
       let z = any-none test (option_to_list (own_counter s)) (option_to_list (tgt_counter s)) y.0 in
-      (is-there (own_counter s) z.0, is-there (tgt_counter s) z.1, is-there (org_counter s) y.1, is-there (cmpl_counter s) x.1)
+      (is-there (own_counter s) z.0, is-there (tgt_counter s) z.1, is-there (org_counter s) y.1, is-there (cmpl_counter s) x.1, is-task (target_of s) (none-tests _ h).0)
 
   abbrev Known : Deed → Type 0
   Known (Issued a i) = AllThere (statement script a i)
@@ -68,7 +77,7 @@ module _ (script : Script) (rules : Rules) where
   known-now (Begin m t w) J k = tt
   known-now (End m t w) J k = tt
 
-  known : (J : List Event) (a i : ℕ) → Atomic script rules J → done (Issued a i) J ≡ true → AllThere (statement script a i)
+  pub known : (J : List Event) (a i : ℕ) → Atomic script rules J → done (Issued a i) J ≡ true → AllThere (statement script a i)
   known J a i h d = shown script rules Known known-now (Issued a i) J h d
 
   -- what isn't there isn't told
@@ -77,7 +86,7 @@ module _ (script : Script) (rules : Rules) where
   untold (Some d) a t c h far = false_from_ne_true (a == t && d == c) (λ y. let same = eqb-true d c (and_parts (a == t) (d == c) y).1 in let q : ⊥ = omega arith in q)
 
   -- the operation of a message was issued
-  follows-issued : (J : List Event) (a i : ℕ) → AllByRecursion (λ d. done d J ≡ true) (to_follow script rules a i) → done (Issued a i) J ≡ true
+  pub follows-issued : (J : List Event) (a i : ℕ) → AllByRecursion (λ d. done d J ≡ true) (to_follow script rules a i) → done (Issued a i) J ≡ true
   follows-issued J a i h = (last-of script rules (λ d. done d J ≡ true) (only_if (has_completion script rules a i) (Begun (message a i Go) ∷ Ended (message a i Go) ∷ [])) (Landed (message a i Go) ∷ to_land script rules a i) h).1.0
 
   copy-untold : (J : List Event) (m : MsgName) (leg : Leg) (t c : ℕ) → Atomic script rules J → AllByRecursion (λ d. done d J ≡ true) (copy_needs script rules m.origin m.statement leg) → script.counters ≤ c → copy_tells script rules m leg (statement script m.origin m.statement) t c ≡ false

@@ -1,10 +1,7 @@
 pub mod NotedLaws
-pub mod Words
-pub mod LayoutLaws
-pub mod SettingLaws
+pub mod NamedLaws
 pub mod OrderLaws
 pub mod RoundLaws
-pub mod CellLaws
 pub mod TurnLaws
 pub mod WaitLaws
 pub mod JobLaws
@@ -15,4 +12,3 @@ pub mod KnownLaws
 pub mod StepLaws
 pub mod BoundLaws
 pub mod JournalLaws
-pub mod ReasonLaws

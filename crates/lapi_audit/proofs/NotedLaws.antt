@@ -19,7 +19,8 @@ use Rattle.lapi_base.specs.Valid.{ValidScript}
 use Rattle.lapi_laws.proofs.Deeds.{leg_eq-true, done-cons}
 use Rattle.lapi_audit.specs.declared.operation.Transit.{Transit}
 use Rattle.lapi_audit.specs.declared.operation.Operation.{Operation}
-use Rattle.lapi_audit.specs.Noted.{still, blank, transit_of, with_transit, noted, after, JoinIsBelow, HasJoinBelow, task_of, statement_of, operation, with_operation, noted_in, stood, HasStates, OperationsStand}
+use Rattle.lapi_audit.specs.Noted.{still, blank, transit_of, with_transit, noted, after, JoinIsBelow, HasJoinBelow, operation, with_operation, noted_in, stood, HasStates, OperationsStand}
+use Rattle.lapi_calls.specs.Places.{task_of, statement_of}
 
 -- a list with one element replaced
 pub get-set : {X : Type 0} (xs : List X) (i j : ℕ) (x d : X) → i < length xs → get_or (set xs i x) j d ≡ cond (j == i) x (get_or xs j d)

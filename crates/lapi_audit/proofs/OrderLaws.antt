@@ -12,7 +12,8 @@ use Rattle.lapi_base.specs.Operations.{statement, is_am}
 use Rattle.lapi_base.specs.Handlers.{has_completion}
 use Rattle.lapi_base.specs.Atomic.{needs, to_land, to_follow, copy_needs, land_needs, only_if}
 use Rattle.lapi_audit.specs.declared.operation.Operation.{Operation}
-use Rattle.lapi_audit.specs.Noted.{operation, stood, task_of, statement_of, transit_of}
+use Rattle.lapi_audit.specs.Noted.{operation, stood, transit_of}
+use Rattle.lapi_calls.specs.Places.{task_of, statement_of}
 use Rattle.lapi_audit.specs.Order.{may_land, may_follow, may_copy, leg_may_land, is_after}
 
 last : (x : Bool) → x ≡ (x && true)

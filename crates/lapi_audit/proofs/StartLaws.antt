@@ -18,9 +18,10 @@ use Rattle.lapi_audit.specs.declared.operation.Operation.{Operation}
 use Rattle.lapi_audit.specs.declared.operation.Transit.{Transit}
 use Rattle.lapi_audit.specs.Counts.{CountsStand}
 use Rattle.lapi_audit.specs.Jobs.{JobsStand}
-use Rattle.lapi_audit.specs.Noted.{still, blank, fresh, transit_of, noted, task_of, statement_of, operation, stood, OperationsStand}
+use Rattle.lapi_audit.specs.Noted.{still, blank, fresh, transit_of, noted, operation, stood, OperationsStand}
+use Rattle.lapi_calls.specs.Places.{task_of, statement_of}
 use Rattle.lapi_audit.specs.Turns.{TurnsStand}
-use Rattle.lapi_audit.proofs.RoundLaws.{get-mapped}
+use Rattle.lapi_laws.proofs.CellLaws.{get-mapped}
 
 -- what stands in a list of one thing
 same-or : {X : Type 0} (P : X → Type 0) (n i : ℕ) (x d : X) → P x → P d → P (get_or (replicate n x) i d)

@@ -1,5 +1,5 @@
 -- The counters, as they are kept: a list for each task.
-use Rattle.std.specs.Prelude.{◌≡◌, ℕ, ◌+◌, ◌-◌, ◌<◌, nat_le, Bool, cond, ◌||◌, List, [], length, slice_index_or, slice_set, Option, None, Some}
+use Rattle.std.specs.Prelude.{◌≡◌, ℕ, ◌+◌, ◌-◌, ◌<◌, nat_le, Bool, cond, ◌||◌, List, [], length, replicate, slice_index_or, slice_set, Option, None, Some}
 use Rattle.lapi_base.specs.declared.script.Script.{Script}
 use Rattle.lapi_base.specs.declared.statement.Statement.{Statement}
 use Rattle.lapi_base.specs.declared.statement.Statement.TheVariants.{Wait, Set}
@@ -11,10 +11,15 @@ use Rattle.lapi_base.specs.declared.event.Event.{Event}
 use Rattle.lapi_base.specs.declared.event.Event.TheVariants.{Issue, Pass, Copy, Land, End}
 use Rattle.lapi_base.specs.Operations.{has_back, tgt_counter, org_counter, cmpl_counter}
 use Rattle.lapi_base.specs.Counters.{count}
-use Rattle.lapi_audit.specs.Setting.{completes, target_by}
+use Rattle.lapi_audit.specs.declared.counts.Counts.{Counts}
+use Rattle.lapi_calls.specs.Setting.{completes, target_by}
 
 abbrev pub value : List (List ℕ) → (task counter : ℕ) → ℕ
 value tasks t c = slice_index_or (slice_index_or tasks t []) c 0
+
+-- all counters are 0
+abbrev pub zeros : Script → List (List ℕ)
+zeros script = replicate script.tasks (replicate script.counters 0)
 
 abbrev pub with_value : List (List ℕ) → (task counter value : ℕ) → List (List ℕ)
 with_value tasks t c n = slice_set tasks t (slice_set (slice_index_or tasks t []) c n)
@@ -22,6 +27,9 @@ with_value tasks t c n = slice_set tasks t (slice_set (slice_index_or tasks t []
 -- what a wait leaves, where there is as much
 abbrev pub less : ℕ → ℕ → ℕ
 less n m = cond (nat_le m n) (n - m) n
+
+abbrev pub with_less : List ℕ → (counter value : ℕ) → List ℕ
+with_less counters c m = slice_set counters c (less (slice_index_or counters c 0) m)
 
 abbrev pub taken : List (List ℕ) → (task counter value : ℕ) → List (List ℕ)
 taken tasks t c m = with_value tasks t c (less (value tasks t c) m)
@@ -67,6 +75,33 @@ abbrev pub after : Rules → Event → Statement → List (List ℕ) → List (L
 after rules (Issue a i) s tasks = issued a s tasks
 after rules (Pass a i) s tasks = passed a s tasks
 after rules e s tasks = announced_at tasks (told rules e s)
+
+-- a counter is there
+abbrev pub HasCounter : List (List ℕ) → (task counter : ℕ) → Type 0
+HasCounter tasks t c = (t < length tasks) × (c < length (slice_index_or tasks t []))
+
+-- and so is one that may be named
+abbrev pub HasNamed : List (List ℕ) → (task : ℕ) → Option ℕ → Type 0
+HasNamed tasks t None = Unit {0}
+HasNamed tasks t (Some c) = HasCounter tasks t c
+
+abbrev pub HasIssued : List (List ℕ) → ℕ → Statement → Type 0
+HasIssued tasks a (Set c n) = HasCounter tasks a c
+HasIssued tasks a _ = Unit {0}
+
+abbrev pub HasPassed : List (List ℕ) → ℕ → Statement → Type 0
+HasPassed tasks a (Wait c n) = HasCounter tasks a c
+HasPassed tasks a _ = Unit {0}
+
+-- the counter that an event sets, takes from or tells is there
+abbrev pub IsWithin : Rules → Event → Statement → List (List ℕ) → Type 0
+IsWithin rules (Issue a i) s tasks = HasIssued tasks a s
+IsWithin rules (Pass a i) s tasks = HasPassed tasks a s
+IsWithin rules e s tasks = HasNamed tasks (told rules e s).0 (told rules e s).1
+
+-- the counters are what an event makes of them
+abbrev pub AreCounted : Rules → Event → Statement → (old new : Counts) → Type 0
+AreCounted rules e s old new = new.tasks.items ≡ after rules e s old.tasks.items
 
 -- they stand for the events so far
 pub record CountsStand (script : Script) (rules : Rules) (tasks : List (List ℕ)) (J : List Event) : Type 0 where

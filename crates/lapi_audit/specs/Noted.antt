@@ -1,5 +1,5 @@
 -- The state of one operation, and of all: which deeds stand by it, and what an event makes of it.
-use Rattle.std.specs.Prelude.{◌≡◌, ℕ, ◌<◌, Bool, true, false, ◌&&◌, List, [], length, replicate, slice_index_or, slice_set}
+use Rattle.std.specs.Prelude.{◌≡◌, ℕ, ◌<◌, Bool, true, false, ◌&&◌, List, [], length, map, replicate, slice_index_or, slice_set}
 use Rattle.lapi_base.specs.declared.script.Script.{Script}
 use Rattle.lapi_base.specs.declared.message.Leg.{Leg}
 use Rattle.lapi_base.specs.declared.message.Leg.TheVariants.{Go, Back, Note, Echo, Join}
@@ -7,6 +7,7 @@ use Rattle.lapi_base.specs.declared.event.Event.{Event}
 use Rattle.lapi_base.specs.declared.event.Event.TheVariants.{Issue, Refuse, Enter, Pass, Copy, Head, Land, Begin, End}
 use Rattle.lapi_base.specs.Names.{leg_eq, Deed, Issued, Refused, Entered, Passed, Copied, Headed, Landed, Begun, Ended, deed, done}
 use Rattle.lapi_base.specs.Operations.{statements}
+use Rattle.lapi_calls.specs.Places.{task_of, statement_of}
 use Rattle.lapi_audit.specs.declared.operation.Transit.{Transit}
 use Rattle.lapi_audit.specs.declared.operation.Operation.{Operation}
 
@@ -83,29 +84,6 @@ HasJoinBelow (Copy m) n = JoinIsBelow m.leg n
 HasJoinBelow (Land m) n = JoinIsBelow m.leg n
 HasJoinBelow _ n = Unit {0}
 
--- the operation of a deed, by its task and its statement
-abbrev pub task_of : Deed → ℕ
-task_of (Issued a i) = a
-task_of (Refused a i) = a
-task_of (Entered a i) = a
-task_of (Passed a i) = a
-task_of (Copied m) = m.origin
-task_of (Headed m) = m.origin
-task_of (Landed m) = m.origin
-task_of (Begun m) = m.origin
-task_of (Ended m) = m.origin
-
-abbrev pub statement_of : Deed → ℕ
-statement_of (Issued a i) = i
-statement_of (Refused a i) = i
-statement_of (Entered a i) = i
-statement_of (Passed a i) = i
-statement_of (Copied m) = m.statement
-statement_of (Headed m) = m.statement
-statement_of (Landed m) = m.statement
-statement_of (Begun m) = m.statement
-statement_of (Ended m) = m.statement
-
 -- Tables: a list for each task, with something for each of its statements.
 abbrev pub operation : List (List Operation) → ℕ → ℕ → Operation
 operation table a i = slice_index_or (slice_index_or table a []) i (blank [])
@@ -120,6 +98,14 @@ noted_in table e = with_operation table (task_of (deed e)) (statement_of (deed e
 -- whether a deed stands, by the states of all operations
 unfoldable pub stood : List (List Operation) → Deed → Bool
 stood table d = noted (operation table (task_of d) (statement_of d)) d
+
+-- no event of any operation stood
+abbrev pub all_fresh : Script → List (List Operation)
+all_fresh script = map (λ statements. replicate (length statements) fresh) script.lists
+
+-- the operation of an event is there
+abbrev pub HasOperation : List (List Operation) → Event → Type 0
+HasOperation table e = (task_of (deed e) < length table) × (statement_of (deed e) < length (slice_index_or table (task_of (deed e)) []))
 
 -- the table has a state for each operation
 pub record HasStates (script : Script) (table : List (List Operation)) : Type 0 where

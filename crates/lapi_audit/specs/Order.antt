@@ -1,12 +1,16 @@
 -- What comes before an event in its operation, by the operation's state.
-use Rattle.std.specs.Prelude.{Bool, true, ◌&&◌, ◌||◌, not}
+use Rattle.std.specs.Prelude.{Bool, true, ◌&&◌, ◌||◌, not, List}
+use Rattle.std.specs.List.{list_all}
 use Rattle.lapi_base.specs.declared.message.Leg.{Leg}
 use Rattle.lapi_base.specs.declared.message.Leg.TheVariants.{Go, Back, Note, Echo, Join}
 use Rattle.lapi_base.specs.declared.event.Event.{Event}
 use Rattle.lapi_base.specs.declared.event.Event.TheVariants.{Copy, Head, Land, Begin, End}
-use Rattle.lapi_base.specs.Names.{leg_eq}
+use Rattle.lapi_base.specs.declared.script.Script.{Script}
+use Rattle.lapi_base.specs.declared.rule.Rules.{Rules}
+use Rattle.lapi_base.specs.Names.{leg_eq, deed}
+use Rattle.lapi_base.specs.Atomic.{needs}
 use Rattle.lapi_audit.specs.declared.operation.Operation.{Operation}
-use Rattle.lapi_audit.specs.Noted.{transit_of}
+use Rattle.lapi_audit.specs.Noted.{transit_of, stood}
 
 abbrev pub may_land : Operation → Bool → Bool
 may_land o is_message = o.issued && (o.go.copied && (not is_message || o.headed))
@@ -32,3 +36,7 @@ is_after o is_message completes (Land m) = leg_may_land o is_message completes m
 is_after o is_message completes (Begin m t w) = (transit_of o m.leg).landed && may_land o is_message
 is_after o is_message completes (End m t w) = (not completes || (leg_eq m.leg Go && o.begun)) && ((transit_of o m.leg).landed && may_land o is_message)
 is_after o is_message completes _ = true
+
+-- all that comes before an event in its operation stands, by the states of all operations
+abbrev pub all_stood : Script → Rules → List (List Operation) → Event → Bool
+all_stood script rules table e = list_all (stood table) (needs script rules (deed e))

@@ -3,11 +3,10 @@ ghost use Rattle.std.specs.Prelude.{◌≡◌, ◌<◌, ◌&&◌, ◌∷◌, [],
 ghost use Rattle.lapi_base.specs.Names as names;
 ghost use Rattle.lapi_base.specs.Valid.{ValidScript};
 ghost use Rattle.lapi_audit.specs.Jobs as jobs;
-ghost use Rattle.lapi_audit.specs.Setting.{rules_of};
+ghost use Rattle.lapi_calls.specs.Setting.{rules_of};
 
-use crate::operation::is_go;
-use crate::setting::{Setting, receiver};
 use lapi_base::{Event, Leg, Memory, MsgName, Script, Statement};
+use lapi_calls::{Setting, is_go, receiver};
 use std::alloc::Global;
 use std::collections::VecDeque;
 use std::marker::Model;
@@ -104,8 +103,8 @@ pub struct Jobs {
 impl Jobs {
     /// No job came yet.
     pub fn new(alloc: Global, script: &Script) -> Result<Jobs, Memory>
-        ensures queues { IfOk result (λ made. made.queues.items ≡ replicate script.now.tasks []) }
-        ensures workers { IfOk result (λ made. made.workers.items ≡ replicate script.now.tasks (replicate script.now.workers None)) }
+        ensures queues { IfOk result (λ made. made.queues.items ≡ jobs.no_queues script.now) }
+        ensures workers { IfOk result (λ made. made.workers.items ≡ jobs.idle script.now) }
     {
         let mut queues = Vec::new(alloc);
         let mut workers = Vec::new(alloc);
@@ -130,7 +129,13 @@ impl Jobs {
             Event::End { name, task, worker } => {
                 is_name(*name, self.workers[*task as usize].get(*worker))
             }
-            _ => true,
+            Event::Issue { .. }
+            | Event::Refuse { .. }
+            | Event::Enter { .. }
+            | Event::Pass { .. }
+            | Event::Copy(_)
+            | Event::Head(_)
+            | Event::Land(_) => true,
         }
     }
 
@@ -141,8 +146,9 @@ impl Jobs {
         statement: &Statement,
         event: &Event,
     ) -> Result<(), Memory>
-        requires { jobs.IsWithin self.old.queues.items self.old.workers.items event.now }
-        ensures queues { OnOk result (self.new.queues.items ≡ jobs.queues_after (rules_of setting.now) statement.now event.now self.old.queues.items) }
+        requires workers { jobs.IsWithin self.old.queues.items self.old.workers.items event.now }
+        requires queue { jobs.HasQueue (rules_of setting.now) statement.now event.now self.old.queues.items }
+        ensures queues { OnOk result (jobs.AreQueued (rules_of setting.now) statement.now event.now self.old self.new) }
         ensures workers { OnOk result (self.new.workers.items ≡ jobs.workers_after event.now self.old.workers.items) }
     {
         match event {
@@ -156,19 +162,23 @@ impl Jobs {
                 self.workers[*task as usize].set(*worker, Some(*name));
             }
             Event::End { task, worker, .. } => self.workers[*task as usize].set(*worker, None),
-            _ => {}
+            Event::Issue { .. }
+            | Event::Refuse { .. }
+            | Event::Enter { .. }
+            | Event::Pass { .. }
+            | Event::Copy(_)
+            | Event::Head(_) => {}
         }
         Ok(())
     }
 
+    /// A job waits behind the others of its task.
     fn enqueue(&mut self, task: u32, name: MsgName) -> Result<(), Memory>
+        requires { task < length self.old.queues.items }
         ensures queues { OnOk result (self.new.queues.items ≡ jobs.enqueued task name self.old.queues.items) }
         ensures workers { self.new.workers ≡ self.old.workers }
     {
-        if (task as usize) < self.queues.len() {
-            self.queues[task as usize].push(name)?;
-        }
-        Ok(())
+        self.queues[task as usize].push(name)
     }
 }
 
@@ -182,6 +192,7 @@ fn is_name(name: MsgName, other: Option<MsgName>) -> bool
     }
 }
 
+/// Whether two names are of one message.
 #[tactic(auto, unfolding(lapi_base::specs::Names::name_eq))]
 fn same_name(a: MsgName, b: MsgName) -> bool
     ensures { result ≡ names.name_eq a b }
@@ -189,15 +200,18 @@ fn same_name(a: MsgName, b: MsgName) -> bool
     a.origin == b.origin && a.statement == b.statement && same_leg(a.leg, b.leg)
 }
 
+/// Whether two legs are the same.
 fn same_leg(a: Leg, b: Leg) -> bool
     ensures { result ≡ names.leg_eq a b }
 {
-    match (a, b) {
-        (Leg::Go, Leg::Go)
-        | (Leg::Back, Leg::Back)
-        | (Leg::Note, Leg::Note)
-        | (Leg::Echo, Leg::Echo) => true,
-        (Leg::Join(a), Leg::Join(b)) => a == b,
-        _ => false,
+    match a {
+        Leg::Go => is_go(b),
+        Leg::Back => matches!(b, Leg::Back),
+        Leg::Note => matches!(b, Leg::Note),
+        Leg::Echo => matches!(b, Leg::Echo),
+        Leg::Join(a) => match b {
+            Leg::Join(b) => a == b,
+            Leg::Go | Leg::Back | Leg::Note | Leg::Echo => false,
+        },
     }
 }

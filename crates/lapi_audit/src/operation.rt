@@ -1,10 +1,10 @@
 //! The state of one operation.
 ghost use Rattle.std.specs.Prelude.{◌≡◌, ◌<◌, true, replicate, slice_index_or};
-ghost use Rattle.lapi_base.specs.Names.{leg_eq, deed};
-ghost use Rattle.lapi_base.specs.declared.message.Leg.TheVariants.{Go};
+ghost use Rattle.lapi_base.specs.Names.{deed};
 ghost use Rattle.lapi_audit.specs.Noted.{still, fresh, transit_of, with_transit, noted, after, JoinIsBelow, HasJoinBelow};
 
 use lapi_base::{Event, Leg};
+use lapi_calls::is_go;
 
 /// Which events of a message stood.
 #[derive(Clone, Copy, Debug)]
@@ -58,6 +58,7 @@ impl Operation {
         }
     }
 
+    /// The state of one of its messages.
     pub fn transit(&self, leg: Leg) -> Transit
         ensures { result ≡ transit_of self.now leg }
     {
@@ -70,6 +71,7 @@ impl Operation {
         }
     }
 
+    /// The state of the join to a task; to one that isn't there no join stood.
     fn join(&self, task: u32) -> Transit
         ensures { result ≡ slice_index_or self.now.joins task still }
     {
@@ -96,6 +98,7 @@ impl Operation {
         }
     }
 
+    /// Changes the state of one of its messages.
     fn set_transit(&mut self, leg: Leg, transit: Transit)
         requires { JoinIsBelow leg 8 }
         ensures { self.new ≡ with_transit self.old leg transit }
@@ -109,6 +112,7 @@ impl Operation {
         }
     }
 
+    /// A message is copied.
     fn copy(&mut self, leg: Leg)
         requires { JoinIsBelow leg 8 }
         ensures { self.new ≡ with_transit self.old leg (record (transit_of self.old leg) { copied = true }) }
@@ -118,6 +122,7 @@ impl Operation {
         self.set_transit(leg, transit);
     }
 
+    /// A message has landed.
     fn land(&mut self, leg: Leg)
         requires { JoinIsBelow leg 8 }
         ensures { self.new ≡ with_transit self.old leg (record (transit_of self.old leg) { landed = true }) }
@@ -144,11 +149,4 @@ impl Operation {
             Event::End { .. } => self.ended = true,
         }
     }
-}
-
-/// Whether this is the leg Go.
-pub fn is_go(leg: Leg) -> bool
-    ensures { result ≡ leg_eq leg Go }
-{
-    matches!(leg, Leg::Go)
 }

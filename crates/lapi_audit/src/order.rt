@@ -6,13 +6,12 @@ ghost use Rattle.lapi_base.specs.Names.{deed};
 ghost use Rattle.lapi_base.specs.Valid.{ValidScript};
 ghost use Rattle.lapi_audit.specs.Noted.{stood, HasStates};
 ghost use Rattle.lapi_audit.specs.Order as order;
-ghost use Rattle.lapi_audit.specs.Setting.{rules_of};
+ghost use Rattle.lapi_calls.specs.Setting.{rules_of, IsThere};
 
-use crate::operation::{Operation, is_go};
-use crate::setting::Setting;
-use crate::statement::is_message;
-use crate::table::{Table, place_of};
+use crate::operation::Operation;
+use crate::table::Table;
 use lapi_base::{Event, Leg};
+use lapi_calls::{Setting, is_go, is_message, place_of};
 
 impl Operation {
     /// Whether the data may land, by what stood.
@@ -29,6 +28,7 @@ impl Operation {
         (!completes || self.begun && self.ended) && self.go.landed && self.may_land(is_message)
     }
 
+    /// Whether a message may be copied.
     fn may_copy(&self, is_message: bool, completes: bool, leg: Leg) -> bool
         ensures { result ≡ order.may_copy self.now is_message completes leg }
     {
@@ -48,7 +48,9 @@ impl Operation {
             Event::Head(name) => self.issued && self.transit(name.leg).copied,
             Event::Land(name) => match name.leg {
                 Leg::Go => self.may_land(is_message),
-                leg => self.transit(leg).copied && self.may_copy(is_message, completes, leg),
+                Leg::Back | Leg::Note | Leg::Echo | Leg::Join(_) => {
+                    self.transit(name.leg).copied && self.may_copy(is_message, completes, name.leg)
+                }
             },
             Event::Begin { name, .. } => {
                 self.transit(name.leg).landed && self.may_land(is_message)
@@ -58,7 +60,8 @@ impl Operation {
                     && self.transit(name.leg).landed
                     && self.may_land(is_message)
             }
-            _ => true,
+            Event::Issue { .. } | Event::Refuse { .. } | Event::Enter { .. } | Event::Pass { .. } =>
+                true,
         }
     }
 }
@@ -67,13 +70,11 @@ impl Operation {
 pub fn is_after(table: &Table, setting: &Setting<'_>, event: &Event) -> bool
     requires valid { ValidScript setting.now.script.now }
     requires states { HasStates setting.now.script.now table.now }
-    requires there { is_there setting.now.script.now (rules_of setting.now) event.now ≡ true }
-    ensures { result ≡ list_all (stood table.now) (needs setting.now.script.now (rules_of setting.now) (deed event.now)) }
+    requires there { IsThere setting.now event.now }
+    ensures { result ≡ order.all_stood setting.now.script.now (rules_of setting.now) table.now event.now }
 {
     let (task, i) = place_of(event);
-    let Some(statement) = setting.statement(task, i) else {
-        return true;
-    };
+    let statement = setting.of(event);
     let operation = table.get(task, i);
     operation.is_after(
         is_message(statement),

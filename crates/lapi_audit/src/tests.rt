@@ -1,4 +1,4 @@
-//! Journals of two tasks; the second has no statement.
+//! Journals of two tasks, and the verdicts on them. Only task 0 has statements.
 ghost use Rattle.std.specs.Prelude.{IfOk};
 ghost use Rattle.lapi_base.specs.Valid.{ValidScript, ValidStatement};
 
@@ -8,8 +8,10 @@ use lapi_base::{
     Script, Statement, StatementLists, Statements,
 };
 use std::alloc::Global;
+use std::process::Abort;
 use std::test::Fail;
 
+// The second header handler names a completion handler; the first names none.
 const HEADERS: [HeaderRule; 2] = [
     HeaderRule {
         place: Place::Nowhere,
@@ -21,19 +23,77 @@ const HEADERS: [HeaderRule; 2] = [
     },
 ];
 
-const COMPLETIONS: [CompletionRule; 1] = [CompletionRule::Nothing];
+const COMPLETIONS: [CompletionRule; 1] = [CompletionRule::Answer];
 
-const READ: Statement = Statement::Read { counter: 0 };
+const ATOMIC: Verdict = Verdict::Atomic;
 
-const PUT: Statement = Statement::Put {
-    target: 1,
-    to: Addr::Plain(8),
-    from: 0,
-    len: 4,
-    tgt: None,
-    org: None,
-    cmpl: None,
-};
+const GO: Leg = Leg::Go;
+
+/// What it shows, the events, and the verdict on them.
+type Case<'a> = (&'a str, &'a [Event], Verdict);
+
+/// The statements of task 0, two of them.
+#[derive(Clone, Copy, Debug)]
+enum Given {
+    /// A store, and a put of its bytes.
+    StoreAndPut,
+    /// A message with a completion, and a fence.
+    MessageAndFence,
+    /// A message without a completion, and a wait for 1.
+    MessageAndWait,
+    /// A global fence, and a fence.
+    GfenceAndFence,
+    /// An address within the memory, and one above it.
+    Addresses,
+    /// A put to a task that isn't there, and a wait for 0 of a counter that isn't there.
+    FarPutAndWait,
+    /// The same, and a wait for 1.
+    FarPutAndLongWait,
+    /// A wait for 0, and an address above the memory.
+    WaitAndFarAddress,
+}
+
+fn put(target: u32) -> Statement
+    ensures { ValidStatement result }
+{
+    Statement::Put {
+        target,
+        to: Addr::Plain(16),
+        from: 0,
+        len: 8,
+        tgt: None,
+        org: None,
+        cmpl: None,
+    }
+}
+
+fn message(alloc: Global, handler: u32) -> Statement
+    ensures { ValidStatement result }
+{
+    Statement::Am {
+        target: 1,
+        handler,
+        header: Bytes::new(alloc),
+        from: 0,
+        len: 4,
+        tgt: None,
+        org: None,
+        cmpl: None,
+    }
+}
+
+fn wait(counter: u32, value: u32) -> Statement
+    ensures { ValidStatement result }
+{
+    Statement::Wait { counter, value }
+}
+
+fn store(alloc: Global) -> Result<Statement, Memory>
+    ensures { IfOk result ValidStatement }
+{
+    let bytes = Bytes::from_slice(alloc, &[0x61, 0x62, 0x63, 0x64, 0x65, 0x66, 0x67, 0x68])?;
+    Ok(Statement::Store { at: 0, bytes })
+}
 
 fn script(alloc: Global, first: Statement, second: Statement) -> Result<Script, Memory>
     requires first { ValidStatement first }
@@ -56,18 +116,35 @@ fn script(alloc: Global, first: Statement, second: Statement) -> Result<Script, 
     })
 }
 
-fn message(alloc: Global, handler: u32) -> Statement
-    ensures { ValidStatement result }
-{
-    Statement::Am {
-        target: 1,
-        handler,
-        header: Bytes::new(alloc),
-        from: 0,
-        len: 4,
-        tgt: None,
-        org: None,
-        cmpl: None,
+impl Given {
+    fn script(self, alloc: Global) -> Result<Script, Memory>
+        ensures { IfOk result ValidScript }
+    {
+        match self {
+            Given::StoreAndPut => script(alloc, store(alloc)?, put(1)),
+            Given::MessageAndFence => script(alloc, message(alloc, 1), Statement::Fence),
+            Given::MessageAndWait => script(alloc, message(alloc, 0), wait(0, 1)),
+            Given::GfenceAndFence => script(alloc, Statement::Gfence, Statement::Fence),
+            Given::Addresses => script(
+                alloc,
+                Statement::Addr { at: 8 },
+                Statement::Addr { at: 100 },
+            ),
+            Given::FarPutAndWait => script(alloc, put(9), wait(9, 0)),
+            Given::FarPutAndLongWait => script(alloc, put(9), wait(9, 1)),
+            Given::WaitAndFarAddress => { script(alloc, wait(0, 0), Statement::Addr { at: 100 }) }
+        }
+    }
+
+    /// Compares the verdict on each journal.
+    fn compare(self, rt: &impl Abort, alloc: Global, cases: &[Case<'_>]) -> Result<(), Fail> {
+        let script = self.script(alloc)?;
+        for (shows, journal, expected) in cases {
+            assert!(rt; journal.len() <= 100, "{shows}");
+            let verdict = audit(alloc, &script, &HEADERS, &COMPLETIONS, journal)?;
+            assert_eq!(rt; verdict, *expected, "{shows}");
+        }
+        Ok(())
     }
 }
 
@@ -83,212 +160,147 @@ fn issue(statement: u32) -> Event {
     Event::Issue { task: 0, statement }
 }
 
+fn enter(statement: u32) -> Event {
+    Event::Enter { task: 0, statement }
+}
+
 fn pass(statement: u32) -> Event {
     Event::Pass { task: 0, statement }
 }
 
-#[test]
-fn a_put_lands_once_and_after_its_copy(rt: HostRuntime) -> Result<(), Fail> {
-    let alloc = rt.alloc();
-    let script = script(alloc, READ, PUT)?;
-    let go = name(1, Leg::Go);
-    let whole = [issue(0), issue(1), Event::Copy(go), Event::Land(go)];
-    assert_eq!(rt; audit(alloc, &script, &[], &[], &whole)?, Verdict::Atomic);
-    assert_eq!(rt; audit(alloc, &script, &[], &[], &[])?, Verdict::Atomic);
-    let early = [issue(0), issue(1), Event::Land(go)];
-    assert_eq!(rt;
-        audit(alloc, &script, &[], &[], &early)?,
-        Verdict::Broken { rule: 2, place: 2 }
-    );
-    let twice = [
-        issue(0),
-        issue(1),
-        Event::Copy(go),
-        Event::Land(go),
-        Event::Land(go),
-    ];
-    assert_eq!(rt;
-        audit(alloc, &script, &[], &[], &twice)?,
-        Verdict::Broken { rule: 1, place: 4 }
-    );
-    let skipped = [issue(1)];
-    assert_eq!(rt;
-        audit(alloc, &script, &[], &[], &skipped)?,
-        Verdict::Broken { rule: 8, place: 0 }
-    );
-    Ok(())
-}
-
-#[test]
-fn a_fence_waits_for_the_landing(rt: HostRuntime) -> Result<(), Fail> {
-    let alloc = rt.alloc();
-    let script = script(alloc, message(alloc, 0), Statement::Fence)?;
-    let go = name(0, Leg::Go);
-    let early = [issue(0), Event::Copy(go), Event::Head(go), pass(1)];
-    assert_eq!(rt;
-        audit(alloc, &script, &HEADERS, &COMPLETIONS, &early)?,
-        Verdict::Broken { rule: 5, place: 3 }
-    );
-    let late = [
-        issue(0),
-        Event::Copy(go),
-        Event::Head(go),
-        Event::Land(go),
-        pass(1),
-    ];
-    assert_eq!(rt;
-        audit(alloc, &script, &HEADERS, &COMPLETIONS, &late)?,
-        Verdict::Atomic
-    );
-    Ok(())
-}
-
-#[test]
-fn a_global_fence_waits_for_the_other_task(rt: HostRuntime) -> Result<(), Fail> {
-    let alloc = rt.alloc();
-    let script = script(alloc, Statement::Gfence, READ)?;
-    let join = name(0, Leg::Join(1));
-    let enter = Event::Enter {
+fn refuse(statement: u32, why: Refusal) -> Event {
+    Event::Refuse {
         task: 0,
-        statement: 0,
-    };
-    let journal = [enter, Event::Copy(join), Event::Land(join), pass(0)];
-    assert_eq!(rt;
-        audit(alloc, &script, &[], &[], &journal)?,
-        Verdict::Broken { rule: 6, place: 3 }
-    );
-    Ok(())
+        statement,
+        why,
+    }
+}
+
+fn copy(statement: u32, leg: Leg) -> Event {
+    Event::Copy(name(statement, leg))
+}
+
+fn head(statement: u32) -> Event {
+    Event::Head(name(statement, GO))
+}
+
+fn land(statement: u32, leg: Leg) -> Event {
+    Event::Land(name(statement, leg))
+}
+
+fn begin(statement: u32, task: u32, worker: u32) -> Event {
+    Event::Begin {
+        name: name(statement, GO),
+        task,
+        worker,
+    }
+}
+
+fn end(statement: u32) -> Event {
+    Event::End {
+        name: name(statement, GO),
+        task: 1,
+        worker: 0,
+    }
+}
+
+fn broken(rule: u32, place: u32) -> Verdict {
+    Verdict::Broken { rule, place }
 }
 
 #[test]
-fn a_job_ends_where_it_runs(rt: HostRuntime) -> Result<(), Fail> {
+fn an_operation_goes_its_way_once(rt: HostRuntime) -> Result<(), Fail> {
     let alloc = rt.alloc();
-    let script = script(alloc, message(alloc, 1), message(alloc, 0))?;
-    let first = name(0, Leg::Go);
-    let second = name(1, Leg::Go);
-    let begin = Event::Begin {
-        name: first,
-        task: 1,
-        worker: 0,
-    };
-    let end = Event::End {
-        name: first,
-        task: 1,
-        worker: 0,
-    };
-    let stray = Event::End {
-        name: second,
-        task: 1,
-        worker: 0,
-    };
-    let landed = [
-        issue(0),
-        Event::Copy(first),
-        Event::Head(first),
-        Event::Land(first),
-        begin,
-        end,
+    let put = [issue(0), issue(1), copy(1, GO), land(1, GO), land(1, GO)];
+    let skipped = [issue(0), issue(1), land(1, GO)];
+    let noted = [issue(0), issue(1), copy(1, Leg::Note)];
+    let back = [issue(0), issue(1), copy(1, Leg::Back)];
+    let headed = [issue(0), issue(1), copy(1, GO), head(1)];
+    let of_puts = [
+        ("a put lands", &put[..4], ATOMIC),
+        ("it lands again", &put[..], broken(1, 4)),
+        ("nothing happens", &put[..0], ATOMIC),
+        ("it lands uncopied", &skipped[..], broken(2, 2)),
+        ("no completion counter", &noted[..], broken(1, 2)),
+        ("nothing comes back", &back[..], broken(1, 2)),
+        ("it has no head", &headed[..], broken(1, 3)),
     ];
-    assert_eq!(rt;
-        audit(alloc, &script, &HEADERS, &COMPLETIONS, &landed)?,
-        Verdict::Atomic
-    );
-    let unbegun = [
-        issue(0),
-        Event::Copy(first),
-        Event::Head(first),
-        Event::Land(first),
-        end,
+    Given::StoreAndPut.compare(&rt, alloc, &of_puts)?;
+    let before = [issue(0), copy(0, GO), head(0), land(0, GO)];
+    let [issued, copied, headed, landed] = before;
+    let run = [issued, copied, headed, landed, begin(0, 1, 0), end(0)];
+    let unbegun = [issued, copied, headed, landed, end(0)];
+    let far = [issued, copied, headed, landed, begin(0, 0, 0)];
+    let worker = [issued, copied, headed, landed, begin(0, 1, 1)];
+    let begun = [issued, copied, headed, landed, begin(0, 1, 0)];
+    let of_jobs = [
+        ("a job runs", &run[..], ATOMIC),
+        ("it ends unbegun", &unbegun[..], broken(2, 4)),
+        ("not at the origin", &far[..], broken(1, 4)),
+        ("no such worker", &worker[..], broken(1, 4)),
     ];
-    assert_eq!(rt;
-        audit(alloc, &script, &HEADERS, &COMPLETIONS, &unbegun)?,
-        Verdict::Broken { rule: 2, place: 4 }
-    );
-    let without = [
-        issue(0),
-        issue(1),
-        Event::Copy(second),
-        Event::Head(second),
-        Event::Land(second),
-        stray,
+    Given::MessageAndFence.compare(&rt, alloc, &of_jobs)?;
+    let of_none = [
+        ("no completion to begin", &begun[..], broken(3, 4)),
+        ("no completion to end", &unbegun[..], broken(3, 4)),
     ];
-    assert_eq!(rt;
-        audit(alloc, &script, &HEADERS, &COMPLETIONS, &without)?,
-        Verdict::Broken { rule: 3, place: 5 }
-    );
-    Ok(())
+    Given::MessageAndWait.compare(&rt, alloc, &of_none)
 }
 
 #[test]
-fn statements_are_refused_where_they_are_to_be(rt: HostRuntime) -> Result<(), Fail> {
+fn statements_wait(rt: HostRuntime) -> Result<(), Fail> {
     let alloc = rt.alloc();
-    let far = Statement::Put {
-        target: 9,
-        to: Addr::Plain(8),
-        from: 0,
-        len: 4,
-        tgt: None,
-        org: None,
-        cmpl: None,
-    };
-    let wait = Statement::Wait {
-        counter: 0,
-        value: 1,
-    };
-    let script = script(alloc, far, wait)?;
-    let refuse = Event::Refuse {
-        task: 0,
-        statement: 0,
-        why: Refusal::BadTask,
-    };
-    assert_eq!(rt;
-        audit(alloc, &script, &[], &[], &[refuse])?,
-        Verdict::Atomic
-    );
-    assert_eq!(rt;
-        audit(alloc, &script, &[], &[], &[issue(0)])?,
-        Verdict::Broken { rule: 8, place: 0 }
-    );
-    assert_eq!(rt;
-        audit(alloc, &script, &[], &[], &[refuse, pass(1)])?,
-        Verdict::Broken { rule: 4, place: 1 }
-    );
-    Ok(())
+    let fenced = [issue(0), copy(0, GO), head(0), pass(1)];
+    let landed = [issue(0), copy(0, GO), head(0), land(0, GO), pass(1)];
+    let echo = [issue(0), copy(0, Leg::Echo)];
+    let of_fences = [
+        ("before it lands", &fenced[..], broken(5, 3)),
+        ("while its job waits", &landed[..], ATOMIC),
+        ("nobody answers", &echo[..], broken(1, 1)),
+    ];
+    Given::MessageAndFence.compare(&rt, alloc, &of_fences)?;
+    let of_waits = [("no value yet", &landed[..], broken(4, 4))];
+    Given::MessageAndWait.compare(&rt, alloc, &of_waits)?;
+    let one = Leg::Join(1);
+    let alone = [enter(0), copy(0, one), land(0, one), pass(0)];
+    let own = [enter(0), copy(0, Leg::Join(0))];
+    let none = [enter(0), copy(0, Leg::Join(2))];
+    let of_gfences = [
+        ("the other is not here", &alone[..], broken(6, 3)),
+        ("no join to itself", &own[..], broken(1, 1)),
+        ("no such task", &none[..], broken(1, 1)),
+        ("never issued", &[issue(0)][..], broken(1, 0)),
+    ];
+    Given::GfenceAndFence.compare(&rt, alloc, &of_gfences)?;
+    let of_addresses = [("not told", &alone[..], broken(7, 3))];
+    Given::Addresses.compare(&rt, alloc, &of_addresses)
 }
 
 #[test]
-fn the_first_layout_has_no_answers(rt: HostRuntime) -> Result<(), Fail> {
+fn statements_are_refused_in_order(rt: HostRuntime) -> Result<(), Fail> {
     let alloc = rt.alloc();
-    let script = script(alloc, message(alloc, 1), READ)?;
-    let go = name(0, Leg::Go);
-    let begin = Event::Begin {
-        name: go,
-        task: 1,
-        worker: 0,
-    };
-    let end = Event::End {
-        name: go,
-        task: 1,
-        worker: 0,
-    };
-    let journal = [
-        issue(0),
-        Event::Copy(go),
-        Event::Head(go),
-        Event::Land(go),
-        begin,
-        end,
-        Event::Copy(name(0, Leg::Echo)),
+    let refused = [refuse(0, Refusal::BadTask), pass(1)];
+    let another = [refuse(0, Refusal::BadCounter)];
+    let copied = [copy(0, GO)];
+    let of_far = [
+        ("refused", &refused[..1], ATOMIC),
+        ("no such counter", &refused[..], broken(8, 1)),
+        ("not refused", &[issue(0)][..], broken(8, 0)),
+        ("not issued", &copied[..], broken(2, 0)),
+        ("another reason", &another[..], broken(8, 0)),
     ];
-    assert_eq!(rt;
-        audit(
-            alloc,
-            &script,
-            &HEADERS,
-            &[CompletionRule::Answer],
-            &journal
-        )?,
-        Verdict::Broken { rule: 1, place: 6 }
-    );
-    Ok(())
+    Given::FarPutAndWait.compare(&rt, alloc, &of_far)?;
+    let of_long = [("it is 0", &refused[..], broken(4, 1))];
+    Given::FarPutAndLongWait.compare(&rt, alloc, &of_long)?;
+    let of_addresses = [
+        ("passed again", &[pass(0), pass(0)][..], broken(1, 1)),
+        ("to be refused", &[pass(0), pass(1)][..], broken(8, 1)),
+        ("nor entered", &[pass(0), enter(1)][..], broken(8, 1)),
+    ];
+    Given::WaitAndFarAddress.compare(&rt, alloc, &of_addresses)?;
+    let of_puts = [
+        ("no reason", &refused[..1], broken(8, 0)),
+        ("not the next", &[issue(1)][..], broken(8, 0)),
+    ];
+    Given::StoreAndPut.compare(&rt, alloc, &of_puts)
 }

@@ -30,3 +30,4 @@ pub mod Shorts
 pub mod MoreRows
 pub mod SecondLayoutRows
 pub mod TextRows
+pub mod CellLaws

@@ -4,7 +4,7 @@ use Rattle.std.specs.Prelude.{slice_get}
 use Rattle.std.proofs.lemmas.List.Elements.{filter-append}
 use Rattle.std.proofs.lemmas.List.{append-nil}
 use Rattle.std.specs.List.{list_any, list_all, AllByRecursion}
-use Rattle.std.proofs.lemmas.Bool.{true≢false, false≢true, and_parts, and_from, and_cases, or_cases, cases_lt, cond-true, cond-false, eq-eqb, cond_both, both_ways, le-ltb, or_left, or_right}
+use Rattle.std.proofs.lemmas.Bool.{true≢false, false≢true, false_from_ne_true, and_parts, and_from, and_cases, or_cases, cases_lt, cond-true, cond-false, eq-eqb, cond_both, both_ways, le-ltb, or_left, or_right}
 use Rattle.lapi_base.specs.declared.script.Script.{Script}
 use Rattle.lapi_base.specs.Layout.{Layout, First, Second, layout_of, window, window_of}
 use Rattle.lapi_base.specs.Below.{every_below, below, least_missing, has_bit, bits_of}
@@ -181,3 +181,18 @@ window-positive script = each (layout_of script.layout)
     each : (l : Layout) → 0 < window l
     each First = lit< tt
     each Second = lit< tt
+
+-- a test of every number below one, one by one
+pub every-none : (p : ℕ → Bool) → every_below 0 p ≡ true
+unfolding every_below
+every-none p = refl
+
+pub every-more : (n : ℕ) (p : ℕ → Bool) → every_below n p ≡ true → p n ≡ true → every_below (n + 1) p ≡ true
+unfolding every_below
+every-more n p h t = ap (λ k. every_below k p) (let e : n + 1 ≡ suc n = omega arith in e) ∙ and_from (every_below n p) (p n) h t
+
+pub every-not : (n : ℕ) (p : ℕ → Bool) (k : ℕ) → k < n → p k ≡ false → false ≡ every_below n p
+every-not n p k l f = sym (false_from_ne_true (every_below n p) (λ yes. both_ways (p k) f (every_below-at n p k yes l)))
+
+pub every-all : (n k : ℕ) (p : ℕ → Bool) → n ≡ k → every_below k p ≡ true → true ≡ every_below n p
+every-all n k p e h = sym (ap (λ m. every_below m p) e ∙ h)

@@ -1,0 +1,11 @@
+-- What the waits are judged by.
+use Rattle.lapi_base.specs.Valid.{ValidScript}
+use Rattle.lapi_audit.specs.declared.waits.Seen.{Seen}
+use Rattle.lapi_audit.specs.Noted.{HasStates}
+use Rattle.lapi_audit.specs.Rounds.{RoundsStand}
+
+-- the script is valid, each of its operations has a state, and the rounds are its rounds
+pub record IsSeen (seen : Seen) : Type 0 where
+  pub valid : ValidScript seen.setting.script.now
+  pub states : HasStates seen.setting.script.now seen.table.now
+  pub rounds : RoundsStand seen.setting.script.now seen.rounds.now

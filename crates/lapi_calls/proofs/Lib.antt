@@ -1,0 +1,6 @@
+pub mod LayoutLaws
+pub mod PlainLaws
+pub mod ReasonLaws
+pub mod SettingLaws
+pub mod ValidLaws
+pub mod Words

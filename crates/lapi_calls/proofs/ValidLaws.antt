@@ -1,0 +1,21 @@
+-- What a valid script has is valid.
+use Rattle.std.proofs.Common.{ℕ, zero, suc, ◌≤◌, List, [], ◌∷◌, length, get_or, arith}
+use Rattle.std.specs.List.{AllByRecursion}
+use Rattle.lapi_base.specs.declared.script.Script.{Script}
+use Rattle.lapi_base.specs.declared.statement.Statement.{Statement}
+use Rattle.lapi_base.specs.declared.statement.Statement.TheVariants.{Fence}
+use Rattle.lapi_base.specs.Operations.{statement, statements}
+use Rattle.lapi_base.specs.Valid.{ValidScript, ValidStatement}
+
+all-or : {X : Type 0} (P : X → Type 0) (xs : List X) (i : ℕ) (d : X) → AllByRecursion P xs → P d → P (get_or xs i d)
+all-or P [] i d h p = p
+all-or P (x ∷ xs) zero d h p = h.0
+all-or P (x ∷ xs) (suc i) d h p = all-or P xs i d h.1 p
+
+module _ (script : Script) (valid : ValidScript script) where
+  pub list-valid : (a : ℕ) → (length (statements script a) ≤ 512) × AllByRecursion ValidStatement (statements script a)
+  list-valid a = all-or (λ (list : List Statement). (length list ≤ 512) × AllByRecursion ValidStatement list) script.lists a [] valid.lists (let q : 0 ≤ 512 = omega arith in q, tt)
+
+  pub statement-valid : (a i : ℕ) → ValidStatement (statement script a i)
+  unfolding statement
+  statement-valid a i = all-or ValidStatement (statements script a) i Fence (list-valid a).1 tt

@@ -1,0 +1,95 @@
+-- Why a statement is refused, by the statement.
+use Rattle.std.specs.Prelude.{ℕ, ◌+◌, ◌%◌, ◌==◌, nat_le, nat_lt, Bool, ◌&&◌, ◌||◌, not, List, [], ◌∷◌, length, Option}
+use Rattle.std.specs.List.{list_any, zip}
+use Rattle.lapi_base.specs.declared.address.Addr.{Addr}
+use Rattle.lapi_base.specs.declared.piece.Piece.{Piece}
+use Rattle.lapi_base.specs.declared.statement.Statement.{Statement}
+use Rattle.lapi_base.specs.declared.script.Script.{Script}
+use Rattle.lapi_base.specs.declared.rule.Rules.{Rules}
+use Rattle.lapi_base.specs.declared.refusal.Refusal.{Refusal}
+use Rattle.lapi_base.specs.declared.refusal.Refusal.TheVariants.{BadTask, BadTargetRange, BadOriginRange, BadCounter, TooLong, NoTable, BadHandler, BadUserHeader, VecCount, VecLength, StrideBelowBlock, Misaligned}
+use Rattle.lapi_base.specs.Operations.{target_pieces, origin_pieces, is_rmw, target_of}
+use Rattle.lapi_base.specs.Refusals.{option_any, lies_within, counters_of, too_long, is_message, is_vector, stride_below_block, is_misaligned, why_by}
+use Rattle.lapi_base.specs.Handlers.{handler_of, user_header}
+use Rattle.lapi_base.specs.declared.statement.Statement.TheVariants.{Put, Get, Am}
+use Rattle.lapi_base.specs.Layout.{longest_of, longest_active_of}
+use Rattle.lapi_calls.specs.declared.setting.Setting.{Setting}
+use Rattle.lapi_calls.specs.Entries.{is_told}
+use Rattle.lapi_calls.specs.Setting.{rules_of}
+use Rattle.lapi_calls.specs.declared.reach.Reach.{Reach}
+use Rattle.lapi_calls.specs.Reaches.{total_of}
+
+module _ (script : Script) (rules : Rules) (known : Addr → Bool) (d : ℕ) where
+  -- a piece whose address is known lies outside of the memory
+  abbrev pub is_outside : Piece → Bool
+  is_outside p = known p.at && not (lies_within script d p)
+
+  abbrev pub is_missing : ℕ → Bool
+  is_missing c = not (nat_lt c script.counters)
+
+  -- the tests of all reasons, in their order
+  abbrev pub reason_tests : Statement → List (Bool × Refusal)
+  reason_tests s =
+      (option_any (λ t. not (nat_lt t script.tasks)) (target_of s), BadTask)
+      ∷ (list_any is_outside (target_pieces s), BadTargetRange)
+      ∷ (list_any (λ p. not (lies_within script d p)) (origin_pieces s), BadOriginRange)
+      ∷ (list_any is_missing (counters_of s), BadCounter)
+      ∷ (too_long script s, TooLong)
+      ∷ (list_any (λ (p : Piece). not (known p.at)) (target_pieces s), NoTable)
+      ∷ (is_message s && not (nat_lt (handler_of s) (length rules.headers)), BadHandler)
+      ∷ (is_message s && (nat_lt 64 (length (user_header s)) || not (length (user_header s) % 4 == 0)), BadUserHeader)
+      ∷ (is_vector s && not (length (target_pieces s) == length (origin_pieces s)), VecCount)
+      ∷ (is_vector s && list_any (λ (pq : Piece × Piece). not (pq.0.len == pq.1.len)) (zip (target_pieces s) (origin_pieces s)), VecLength)
+      ∷ (stride_below_block s, StrideBelowBlock)
+      ∷ (is_rmw s && (list_any (is_misaligned script d) (target_pieces s) || list_any (is_misaligned script d) (origin_pieces s)), Misaligned)
+      ∷ []
+
+-- The same where the pieces at the target and at the origin lie so.
+abbrev pub long_reaches : Script → List Reach → Bool
+long_reaches script rs = nat_lt (longest_of script) (total_of rs)
+
+abbrev pub long_by : Script → (to from : List Reach) → Statement → Bool
+long_by script to from (Put target at origin len tgt org cmpl) = nat_lt (longest_of script) len
+long_by script to from (Get target at origin len tgt org) = nat_lt (longest_of script) len
+long_by script to from (Am target handler header origin len tgt org cmpl) = nat_lt (longest_active_of script) len
+long_by script to from s = is_vector s && (long_reaches script to || long_reaches script from)
+
+abbrev pub handler_missing : Rules → Statement → Bool
+handler_missing rules s = is_message s && not (nat_lt (handler_of s) (length rules.headers))
+
+abbrev pub header_is_bad : Statement → Bool
+header_is_bad s = is_message s && (nat_lt 64 (length (user_header s)) || not (length (user_header s) % 4 == 0))
+
+abbrev pub lengths_differ : (to from : List Reach) → Statement → Bool
+lengths_differ to from s = is_vector s && list_any (λ (pq : Reach × Reach). not (pq.0.len == pq.1.len)) (zip to from)
+
+abbrev pub is_askew : List Reach → Bool
+is_askew reaches = list_any (λ (r : Reach). not (r.at % 4 == 0)) reaches
+
+abbrev pub is_misplaced : (to from : List Reach) → Statement → Bool
+is_misplaced to from s = is_rmw s && (is_askew to || is_askew from)
+
+-- the reasons after NoTable
+abbrev pub late_tests : Rules → (to from : List Reach) → Statement → List (Bool × Refusal)
+late_tests rules to from s =
+    (handler_missing rules s, BadHandler)
+    ∷ (header_is_bad s, BadUserHeader)
+    ∷ (is_vector s && not (length to == length from), VecCount)
+    ∷ (lengths_differ to from s, VecLength)
+    ∷ (stride_below_block s, StrideBelowBlock)
+    ∷ (is_misplaced to from s, Misaligned)
+    ∷ []
+
+abbrev pub reach_tests : Script → Rules → (to from : List Reach) → Statement → List (Bool × Refusal)
+reach_tests script rules to from s =
+    (option_any (λ t. not (nat_lt t script.tasks)) (target_of s), BadTask)
+    ∷ (list_any (λ (r : Reach). r.known && not (nat_le (r.at + r.len) script.memory)) to, BadTargetRange)
+    ∷ (list_any (λ (r : Reach). not (nat_le (r.at + r.len) script.memory)) from, BadOriginRange)
+    ∷ (list_any (λ c. not (nat_lt c script.counters)) (counters_of s), BadCounter)
+    ∷ (long_by script to from s, TooLong)
+    ∷ (list_any (λ (r : Reach). not r.known) to, NoTable)
+    ∷ late_tests rules to from s
+
+-- why a statement is refused, if it is, where these rounds are known
+abbrev pub why_told : Setting → (known : ℕ → Bool) → (task i : ℕ) → Option Refusal
+why_told setting known a i = why_by setting.script.now (rules_of setting) (is_told known) a i
