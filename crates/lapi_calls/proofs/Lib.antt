@@ -1,4 +1,3 @@
-pub mod LayoutLaws
 pub mod PlainLaws
 pub mod ReasonLaws
 pub mod SettingLaws

@@ -4,7 +4,6 @@
 #![tactic(auto)]
 
 mod entries;
-mod layout;
 mod name;
 mod pieces;
 mod reach;
@@ -13,7 +12,6 @@ mod setting;
 mod statement;
 
 pub use entries::Entries;
-pub use layout::{longest, longest_active, may_answer};
 pub use name::{is_go, place_of, receiver, target};
 pub use reason::why_refused;
 pub use setting::Setting;

@@ -13,7 +13,6 @@ ghost use Rattle.lapi_calls.specs.Reasons.{why_told};
 ghost use Rattle.lapi_calls.specs.Setting.{rules_of, HasStatement};
 
 use crate::entries::Entries;
-use crate::layout::{longest, longest_active};
 use crate::pieces::{origins, targets};
 use crate::reach::Reaches;
 use crate::setting::Setting;
@@ -133,10 +132,10 @@ fn is_too_long(script: &Script, statement: &Statement, to: &Reaches, from: &Reac
     ensures { result ≡ reasons.long_by script.now to.now from.now statement.now }
 {
     match statement {
-        Statement::Put { len, .. } | Statement::Get { len, .. } => *len > longest(script),
-        Statement::Am { len, .. } => *len > longest_active(script),
+        Statement::Put { len, .. } | Statement::Get { len, .. } => *len > script.longest(),
+        Statement::Am { len, .. } => *len > script.longest_active(),
         Statement::Putv { .. } | Statement::Getv { .. } => {
-            to.total() > longest(script) as u64 || from.total() > longest(script) as u64
+            to.total() > script.longest() as u64 || from.total() > script.longest() as u64
         }
         Statement::Store { .. }
         | Statement::Rmw { .. }

@@ -8,7 +8,6 @@ ghost use Rattle.lapi_base.specs.Valid.{ValidScript};
 ghost use Rattle.lapi_calls.specs.Setting.{rules_of, named_choice, kept, completes, has_place, is_answered, answers_by, has_head, has_event, HasStatement, LacksStatement, IsStatement, IsThere, lies_at, leg_is_there};
 ghost use Rattle.lapi_calls.specs.Places.{task_of, statement_of};
 
-use crate::layout::may_answer;
 use crate::name::{is_go, place_of, receiver};
 use crate::statement::{
     completion_counter, has_back, is_data, is_entered, is_issued, is_message, is_passed,
@@ -95,7 +94,7 @@ impl<'a> Setting<'a> {
         else {
             return false;
         };
-        may_answer(self.script) && self.is_answered(*handler, header)
+        self.script.may_answer() && self.is_answered(*handler, header)
     }
 
     /// Whether the completion handler answers, and the answer has a place.
