@@ -13,10 +13,10 @@ use Rattle.lapi_base.specs.declared.message.MsgName.{MsgName}
 use Rattle.lapi_base.specs.declared.event.Event.{Event}
 use Rattle.lapi_base.specs.declared.event.Event.TheVariants.{Issue, Refuse, Enter, Pass, Copy, Head, Land, Begin, End}
 use Rattle.lapi_base.specs.Names.{Landed, Begun, Ended, deed, done, leg_eq}
-use Rattle.lapi_base.specs.Operations.{statement, statements, receiver, to_by, is_am, has_back, target_of, tgt_counter, org_counter, cmpl_counter}
+use Rattle.lapi_base.specs.Operations.{statement, statements, receiver, to_by, is_am, has_back, target_of, tgt_counter, org_counter, cmpl_counter, has_join}
 use Rattle.lapi_base.specs.Handlers.{has_completion}
 use Rattle.lapi_base.specs.Refusals.{why}
-use Rattle.lapi_base.specs.Atomic.{Atomic, Keeps, is_there, has_message, is_entered, needs, copy_needs, land_needs, to_land, only_if}
+use Rattle.lapi_base.specs.Atomic.{Atomic, Keeps, is_there, has_message, needs, copy_needs, land_needs, to_land, only_if}
 use Rattle.lapi_base.specs.Valid.{ValidScript}
 use Rattle.lapi_laws.proofs.NumberLaws.{list_all-each}
 use Rattle.lapi_laws.proofs.Shorts.{last-of}
@@ -56,7 +56,7 @@ module _ (script : Script) (rules : Rules) where
     issued (Set c n) a all la = named (Some c) a all.0 la
     issued _ a all la = tt
 
-    passed : (x : Statement) (a : ℕ) (J : List Event) (E : Type 0) (i : ℕ) → (why script rules J a i ≡ None → AllThere script rules x) → cond (is_entered x) E (why script rules J a i ≡ None) → a < script.tasks → HasPassed tasks a x
+    passed : (x : Statement) (a : ℕ) (J : List Event) (E : Type 0) (i : ℕ) → (why script rules J a i ≡ None → AllThere script rules x) → cond (has_join x) E (why script rules J a i ≡ None) → a < script.tasks → HasPassed tasks a x
     passed (Wait c n) a J E i all h la = named (Some c) a (all h).0 la
     passed _ a J E i all h la = tt
 

@@ -14,7 +14,7 @@ use Rattle.lapi_base.specs.declared.event.Event.{Event}
 use Rattle.lapi_base.specs.declared.event.Event.TheVariants.{Issue, Refuse, Enter, Pass, Copy, Head, Land, Begin, End}
 use Rattle.lapi_base.specs.Below.{every_below}
 use Rattle.lapi_base.specs.Names.{message, name_eq, leg_eq, Deed, Issued, Entered, Copied, Headed, Landed, Begun, Ended, deed, done}
-use Rattle.lapi_base.specs.Operations.{statements, statement, is_data, is_am, has_back, has_leg, cmpl_counter, receiver}
+use Rattle.lapi_base.specs.Operations.{statements, statement, is_data, is_am, has_back, has_leg, cmpl_counter, receiver, has_join}
 use Rattle.lapi_base.specs.Handlers.{has_completion, answers}
 use Rattle.lapi_base.specs.Counters.{count}
 use Rattle.lapi_base.specs.Refusals.{next, partner, joined, why}
@@ -33,12 +33,6 @@ is_passed Fence = true
 is_passed Gfence = true
 is_passed (Statement.Addr at) = true
 is_passed _ = false
-
--- a Gfence or an Addr is entered before it is passed
-abbrev pub is_entered : Statement → Bool
-is_entered Gfence = true
-is_entered (Statement.Addr at) = true
-is_entered _ = false
 
 abbrev pub only_if : Bool → List Deed → List Deed
 only_if b xs = cond b xs []
@@ -61,7 +55,7 @@ module _ (script : Script) (rules : Rules) where
   abbrev pub is_there : Event → Bool
   is_there (Issue a i) = has_statement a i && is_issued (statement script a i)
   is_there (Refuse a i reason) = has_statement a i
-  is_there (Enter a i) = has_statement a i && is_entered (statement script a i)
+  is_there (Enter a i) = has_statement a i && has_join (statement script a i)
   is_there (Pass a i) = has_statement a i && is_passed (statement script a i)
   is_there (Copy m) = has_message m
   is_there (Head m) = has_message m && (leg_eq m.leg Go && is_am (statement script m.origin m.statement))
@@ -153,7 +147,7 @@ module _ (script : Script) (rules : Rules) where
   in_turn J (Issue a i) = (i ≡ next J a) × (why script rules J a i ≡ None)
   in_turn J (Refuse a i reason) = (i ≡ next J a) × (why script rules J a i ≡ Some reason)
   in_turn J (Enter a i) = (i ≡ next J a) × (why script rules J a i ≡ None)
-  in_turn J (Pass a i) = (i ≡ next J a) × (cond (is_entered (statement script a i)) (done (Entered a i) J ≡ true) (why script rules J a i ≡ None))
+  in_turn J (Pass a i) = (i ≡ next J a) × (cond (has_join (statement script a i)) (done (Entered a i) J ≡ true) (why script rules J a i ≡ None))
   in_turn J _ = Unit {0}
 
   pub record Keeps (J : List Event) (e : Event) : Type 0 where

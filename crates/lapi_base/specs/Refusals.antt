@@ -20,7 +20,7 @@ use Rattle.lapi_base.specs.declared.refusal.Refusal.TheVariants.{BadTask, BadTar
 use Rattle.lapi_base.specs.Layout.{longest_of, longest_active_of}
 use Rattle.lapi_base.specs.Below.{below, every_below}
 use Rattle.lapi_base.specs.Names.{message, Passed, Landed, done}
-use Rattle.lapi_base.specs.Operations.{statements, statement, is_gfence, table_rounds, address, target_pieces, origin_pieces, total, is_rmw, target_of, target, tgt_counter, org_counter, cmpl_counter, own_counter}
+use Rattle.lapi_base.specs.Operations.{statements, statement, is_gfence, table_rounds, address, target_pieces, origin_pieces, total, is_rmw, target_of, target, tgt_counter, org_counter, cmpl_counter, own_counter, is_am}
 use Rattle.lapi_base.specs.Handlers.{handler_of, user_header}
 
 abbrev pub option_any : {X : Type 0} → (X → Bool) → Option X → Bool
@@ -78,10 +78,6 @@ is_vector (Putv target to from tgt org cmpl) = true
 is_vector (Getv target from to tgt org) = true
 is_vector _ = false
 
-abbrev pub is_message : Statement → Bool
-is_message (Am target handler header from len tgt org cmpl) = true
-is_message _ = false
-
 abbrev pub is_long : Script → List Piece → Bool
 is_long script pieces = nat_lt (longest_of script) (total pieces)
 
@@ -122,8 +118,8 @@ why_by script rules known a i =
     ∷ (list_any (λ c. not (nat_lt c script.counters)) (counters_of s), BadCounter)
     ∷ (too_long script s, TooLong)
     ∷ (list_any (λ (p : Piece). not (known p.at)) to, NoTable)
-    ∷ (is_message s && not (nat_lt (handler_of s) (length rules.headers)), BadHandler)
-    ∷ (is_message s && (nat_lt 64 (length (user_header s)) || not (length (user_header s) % 4 == 0)), BadUserHeader)
+    ∷ (is_am s && not (nat_lt (handler_of s) (length rules.headers)), BadHandler)
+    ∷ (is_am s && (nat_lt 64 (length (user_header s)) || not (length (user_header s) % 4 == 0)), BadUserHeader)
     ∷ (is_vector s && not (length to == length from), VecCount)
     ∷ (is_vector s && list_any (λ (pq : Piece × Piece). not (pq.0.len == pq.1.len)) (zip to from), VecLength)
     ∷ (stride_below_block s, StrideBelowBlock)

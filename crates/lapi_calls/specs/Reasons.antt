@@ -8,8 +8,8 @@ use Rattle.lapi_base.specs.declared.script.Script.{Script}
 use Rattle.lapi_base.specs.declared.rule.Rules.{Rules}
 use Rattle.lapi_base.specs.declared.refusal.Refusal.{Refusal}
 use Rattle.lapi_base.specs.declared.refusal.Refusal.TheVariants.{BadTask, BadTargetRange, BadOriginRange, BadCounter, TooLong, NoTable, BadHandler, BadUserHeader, VecCount, VecLength, StrideBelowBlock, Misaligned}
-use Rattle.lapi_base.specs.Operations.{target_pieces, origin_pieces, is_rmw, target_of}
-use Rattle.lapi_base.specs.Refusals.{option_any, lies_within, counters_of, too_long, is_message, is_vector, stride_below_block, is_misaligned, why_by}
+use Rattle.lapi_base.specs.Operations.{target_pieces, origin_pieces, is_rmw, target_of, is_am}
+use Rattle.lapi_base.specs.Refusals.{option_any, lies_within, counters_of, too_long, is_vector, stride_below_block, is_misaligned, why_by}
 use Rattle.lapi_base.specs.Handlers.{handler_of, user_header}
 use Rattle.lapi_base.specs.declared.statement.Statement.TheVariants.{Put, Get, Am}
 use Rattle.lapi_base.specs.Layout.{longest_of, longest_active_of}
@@ -36,8 +36,8 @@ module _ (script : Script) (rules : Rules) (known : Addr → Bool) (d : ℕ) whe
       ∷ (list_any is_missing (counters_of s), BadCounter)
       ∷ (too_long script s, TooLong)
       ∷ (list_any (λ (p : Piece). not (known p.at)) (target_pieces s), NoTable)
-      ∷ (is_message s && not (nat_lt (handler_of s) (length rules.headers)), BadHandler)
-      ∷ (is_message s && (nat_lt 64 (length (user_header s)) || not (length (user_header s) % 4 == 0)), BadUserHeader)
+      ∷ (is_am s && not (nat_lt (handler_of s) (length rules.headers)), BadHandler)
+      ∷ (is_am s && (nat_lt 64 (length (user_header s)) || not (length (user_header s) % 4 == 0)), BadUserHeader)
       ∷ (is_vector s && not (length (target_pieces s) == length (origin_pieces s)), VecCount)
       ∷ (is_vector s && list_any (λ (pq : Piece × Piece). not (pq.0.len == pq.1.len)) (zip (target_pieces s) (origin_pieces s)), VecLength)
       ∷ (stride_below_block s, StrideBelowBlock)
@@ -55,10 +55,10 @@ long_by script to from (Am target handler header origin len tgt org cmpl) = nat_
 long_by script to from s = is_vector s && (long_reaches script to || long_reaches script from)
 
 abbrev pub handler_missing : Rules → Statement → Bool
-handler_missing rules s = is_message s && not (nat_lt (handler_of s) (length rules.headers))
+handler_missing rules s = is_am s && not (nat_lt (handler_of s) (length rules.headers))
 
 abbrev pub header_is_bad : Statement → Bool
-header_is_bad s = is_message s && (nat_lt 64 (length (user_header s)) || not (length (user_header s) % 4 == 0))
+header_is_bad s = is_am s && (nat_lt 64 (length (user_header s)) || not (length (user_header s) % 4 == 0))
 
 abbrev pub lengths_differ : (to from : List Reach) → Statement → Bool
 lengths_differ to from s = is_vector s && list_any (λ (pq : Reach × Reach). not (pq.0.len == pq.1.len)) (zip to from)

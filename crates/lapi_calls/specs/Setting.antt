@@ -9,10 +9,10 @@ use Rattle.lapi_base.specs.declared.message.MsgName.{MsgName}
 use Rattle.lapi_base.specs.declared.event.Event.{Event}
 use Rattle.lapi_base.specs.declared.event.Event.TheVariants.{Issue, Refuse, Enter, Pass, Copy, Head, Land, Begin, End}
 use Rattle.lapi_base.specs.Names.{leg_eq, deed}
-use Rattle.lapi_base.specs.Operations.{statement, has_leg, is_am, target_of, to_by}
+use Rattle.lapi_base.specs.Operations.{statement, has_leg, is_am, target_of, to_by, has_join}
 use Rattle.lapi_base.specs.Layout.{may_answer}
 use Rattle.lapi_base.specs.Handlers.{header_rule, choice_by, user_by, kept_choice, completion_rule, is_answer, handler_of, user_header}
-use Rattle.lapi_base.specs.Atomic.{has_statement, is_there, is_issued, is_entered, is_passed}
+use Rattle.lapi_base.specs.Atomic.{has_statement, is_there, is_issued, is_passed}
 use Rattle.lapi_calls.specs.Places.{task_of, statement_of}
 use Rattle.lapi_calls.specs.declared.setting.Setting.{Setting}
 
@@ -79,7 +79,7 @@ has_job_at script rules m t w s = has_head script rules m s && (receiver_by m s 
 abbrev pub has_event : Script → Rules → Event → Statement → Bool
 has_event script rules (Issue a i) s = is_issued s
 has_event script rules (Refuse a i why) s = true
-has_event script rules (Enter a i) s = is_entered s
+has_event script rules (Enter a i) s = has_join s
 has_event script rules (Pass a i) s = is_passed s
 has_event script rules (Copy m) s = has_leg_by script rules m s
 has_event script rules (Head m) s = has_head script rules m s

@@ -75,7 +75,7 @@ fn tests(
 
 /// Whether the header handler isn't there.
 fn lacks_handler(handlers: usize, statement: &Statement) -> bool
-    ensures { result ≡ (refusals.is_message statement.now && not (nat_lt (handler_of statement.now) handlers)) }
+    ensures { result ≡ (operations.is_am statement.now && not (nat_lt (handler_of statement.now) handlers)) }
 {
     let Statement::Am { handler, .. } = statement else {
         return false;

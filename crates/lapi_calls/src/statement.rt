@@ -43,7 +43,7 @@ pub fn is_passed(statement: &Statement) -> bool
 
 /// Whether the statement is entered before it passes, and joins the other tasks: a collective call.
 pub fn is_entered(statement: &Statement) -> bool
-    ensures entered { result ≡ atomic.is_entered statement.now }
+    ensures entered { result ≡ kinds.has_join statement.now }
     ensures joins { result ≡ kinds.has_join statement.now }
 {
     matches!(statement, Statement::Gfence | Statement::Addr { .. })

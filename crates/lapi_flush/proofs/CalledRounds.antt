@@ -16,7 +16,7 @@ use Rattle.lapi_base.specs.declared.event.Event.TheVariants.{Issue, Refuse, Ente
 use Rattle.lapi_base.specs.declared.schedule.Act.{Act}
 use Rattle.lapi_base.specs.declared.schedule.Act.TheVariants.{Step}
 use Rattle.lapi_base.specs.Handlers.{has_completion, answers}
-use Rattle.lapi_base.specs.Atomic.{Atomic, Keeps, needs, has_statement, is_entered, is_issued}
+use Rattle.lapi_base.specs.Atomic.{Atomic, Keeps, needs, has_statement, is_issued}
 use Rattle.lapi_base.specs.declared.reply.Reply.TheVariants.{Did, Idle}
 use Rattle.lapi_base.specs.Names.{message, Deed, Issued, Refused, Entered, Passed, Copied, Landed, deed, done}
 use Rattle.lapi_base.specs.Operations.{statements, statement, receiver, is_data, is_gfence, table_rounds, has_back, has_join, has_leg, cmpl_counter}
@@ -163,13 +163,13 @@ module _ (script : Script) (rules : Rules) where
 
   -- ---- what stands at the beginning of a round
 
-  has_join-entered : (s : Statement) → has_join s ≡ true → (is_entered s ≡ true) × (is_issued s ≡ false)
-  has_join-entered Gfence h = (refl, refl)
-  has_join-entered (Statement.Addr at) h = (refl, refl)
-  has_join-entered _ h = absurd (false≢true h)
+  joined-not-issued : (s : Statement) → has_join s ≡ true → (has_join s ≡ true) × (is_issued s ≡ false)
+  joined-not-issued Gfence h = (refl, refl)
+  joined-not-issued (Statement.Addr at) h = (refl, refl)
+  joined-not-issued _ h = absurd (false≢true h)
 
   -- a fence that was passed was entered
-  passed-entered : (J : List Event) (a i : ℕ) → Atomic script rules J → is_entered (statement script a i) ≡ true → done (Passed a i) J ≡ true → done (Entered a i) J ≡ true
+  passed-entered : (J : List Event) (a i : ℕ) → Atomic script rules J → has_join (statement script a i) ≡ true → done (Passed a i) J ≡ true → done (Entered a i) J ≡ true
   passed-entered [] a i h is d = absurd (both_ways _ (done-nil (Passed a i)) d)
   passed-entered (e ∷ J) a i h is d =
       ⊎_elim
@@ -181,7 +181,7 @@ module _ (script : Script) (rules : Rules) where
       now (Pass b j) k same =
           let x : a ≡ b = cc in
           let y : i ≡ j = cc in
-          let is' = subst (λ u. is_entered (statement script u j) ≡ true) x (subst (λ u. is_entered (statement script a u) ≡ true) y is) in
+          let is' = subst (λ u. has_join (statement script u j) ≡ true) x (subst (λ u. has_join (statement script a u) ≡ true) y is) in
           let there = subst (λ c. cond c (done (Entered b j) J ≡ true) (why script rules J b j ≡ None)) is' k.order.1 in
           subst (λ u. done (Entered u i) J ≡ true) (sym x) (subst (λ u. done (Entered b u) J ≡ true) (sym y) there)
       now (Issue b j) k same = absurd (cc)
@@ -212,7 +212,7 @@ module _ (script : Script) (rules : Rules) where
 
     join-entered : (J : List Event) (a i : ℕ) → Atomic script rules J → Has script a i → has_join (statement script a i) ≡ true → i < next J a → done (Entered a i) J ≡ true
     join-entered J a i h has j l =
-        let e = has_join-entered (statement script a i) j in
+        let e = joined-not-issued (statement script a i) j in
         ⊎_elim
         (λ (x : done (Issued a i) J ≡ true). absurd (both_ways _ e.1 (kind script rules (Issued a i) J h x)))
         (λ (y : (done (Refused a i) J ≡ true) ⊎ (done (Passed a i) J ≡ true)).

@@ -14,14 +14,14 @@ use Rattle.lapi_base.specs.declared.event.Event.{Event}
 use Rattle.lapi_base.specs.declared.event.Event.TheVariants.{Issue, Refuse, Enter, Pass, Copy, Begin, End}
 use Rattle.lapi_base.specs.Below.{below}
 use Rattle.lapi_base.specs.Names.{leg_eq, Issued, Refused, Entered, Passed, Copied, Landed, Begun, Ended, deed, done, message}
-use Rattle.lapi_base.specs.Operations.{statements, statement, receiver, is_data, is_am, is_gfence, has_back, table_rounds}
+use Rattle.lapi_base.specs.Operations.{statements, statement, receiver, is_data, is_am, is_gfence, has_back, table_rounds, has_join}
 use Rattle.lapi_base.specs.Handlers.{has_completion, answers}
 use Rattle.lapi_base.specs.Counters.{count}
 use Rattle.lapi_base.specs.Refusals.{next, gfence_rounds, round_of, partner, join_landed, joined, why}
 use Rattle.lapi_base.specs.declared.reply.Reply.TheVariants.{Idle}
 use Rattle.lapi_base.specs.Jobs.{is_job, queue, runs}
 use Rattle.lapi_base.specs.Record.{Run, out, is_acked, all_numbers, data_done, data_clear, followed, reply_with, event_if, proposed, unless_refused, add_event, step, begin_first, begin_at, begin, end_at, end, note_of}
-use Rattle.lapi_base.specs.Atomic.{Keeps, needs, land_needs, only_if, to_land, to_follow, has_message, has_statement, is_issued, is_passed, is_entered, is_first, is_run, landed_before, data_landed, partner_cleared, all_cleared, pass_allowed}
+use Rattle.lapi_base.specs.Atomic.{Keeps, needs, land_needs, only_if, to_land, to_follow, has_message, has_statement, is_issued, is_passed, is_first, is_run, landed_before, data_landed, partner_cleared, all_cleared, pass_allowed}
 use Rattle.lapi_laws.proofs.NumberLaws.{all-weaker, below-all, list_all-at, every_below-at, every_below-from, filter-all, filter-push}
 use Rattle.lapi_laws.proofs.Deeds.{done-cases, done-later, done-head, done-all-later, name_eq-refl, leg_eq-true}
 use Rattle.lapi_laws.proofs.Out.{get-front, get-back, all-get}
@@ -149,14 +149,14 @@ module _ (script : Script) (rules : Rules) where
         (s.fences b k g old))
         s
 
-    pass-sound : is_passed (statement script a i) ≡ true → pass_allowed script rules r.journal a i (statement script a i) ≡ true → cond (is_entered (statement script a i)) (done (Entered a i) r.journal ≡ true) (why script rules r.journal a i ≡ None) → Sound script rules (Pass a i ∷ r.journal) r.wire r.handed
+    pass-sound : is_passed (statement script a i) ≡ true → pass_allowed script rules r.journal a i (statement script a i) ≡ true → cond (has_join (statement script a i)) (done (Entered a i) r.journal ≡ true) (why script rules r.journal a i ≡ None) → Sound script rules (Pass a i ∷ r.journal) r.wire r.handed
     unfolding needs
     pass-sound kind allowed order =
         add_silent script rules (Pass a i) r.journal r.wire r.handed tt
         (record { there = and_from _ _ is kind; once = new-pass; after = refl; jobs = refl; waits = allowed; order = (refl, order) })
         (quiet-fences (Pass a i) r.journal r.wire r.handed (λ b j x. cc) (λ b j x. cc) s) s
 
-    enter-sound : is_entered (statement script a i) ≡ true → done (Entered a i) r.journal ≡ false → why script rules r.journal a i ≡ None → (is_gfence (statement script a i) ≡ true → landed_before script rules r.journal a i ≡ true) → Sound script rules (Enter a i ∷ r.journal) r.wire r.handed
+    enter-sound : has_join (statement script a i) ≡ true → done (Entered a i) r.journal ≡ false → why script rules r.journal a i ≡ None → (is_gfence (statement script a i) ≡ true → landed_before script rules r.journal a i ≡ true) → Sound script rules (Enter a i ∷ r.journal) r.wire r.handed
     unfolding needs
     enter-sound kind new e clear =
         add_silent script rules (Enter a i) r.journal r.wire r.handed tt
@@ -196,7 +196,7 @@ module _ (script : Script) (rules : Rules) where
                 pass-sound
                 (subst (λ x. is_passed x ≡ true) (sym e) refl)
                 (subst (λ x. pass_allowed script rules r.journal a i x ≡ true) (sym e) t)
-                (subst (λ x. cond (is_entered x) (done (Entered a i) r.journal ≡ true) (why script rules r.journal a i ≡ None)) (sym e) none)
+                (subst (λ x. cond (has_join x) (done (Entered a i) r.journal ≡ true) (why script rules r.journal a i ≡ None)) (sym e) none)
             | false ↦ λ t. s
           ] refl
       proposed-sound Fence e =
@@ -205,7 +205,7 @@ module _ (script : Script) (rules : Rules) where
                 pass-sound
                 (subst (λ x. is_passed x ≡ true) (sym e) refl)
                 (subst (λ x. pass_allowed script rules r.journal a i x ≡ true) (sym e) (clear-landed r a i s t))
-                (subst (λ x. cond (is_entered x) (done (Entered a i) r.journal ≡ true) (why script rules r.journal a i ≡ None)) (sym e) none)
+                (subst (λ x. cond (has_join x) (done (Entered a i) r.journal ≡ true) (why script rules r.journal a i ≡ None)) (sym e) none)
             | false ↦ λ t. s
           ] refl
       proposed-sound Gfence e =
@@ -217,12 +217,12 @@ module _ (script : Script) (rules : Rules) where
                       pass-sound
                       (subst (λ x. is_passed x ≡ true) (sym e) refl)
                       (subst (λ x. pass_allowed script rules r.journal a i x ≡ true) (sym e) (joined-cleared r a i s room g entered t))
-                      (subst (λ x. cond (is_entered x) (done (Entered a i) r.journal ≡ true) (why script rules r.journal a i ≡ None)) (sym e) entered)
+                      (subst (λ x. cond (has_join x) (done (Entered a i) r.journal ≡ true) (why script rules r.journal a i ≡ None)) (sym e) entered)
                   | false ↦ λ t. s
                 ] refl
             | false ↦ λ entered.
                 elim (data_clear script r a i) as (λ b. data_clear script r a i ≡ b → SoundRun script rules (add_event script rules r (event_if script rules b (Enter a i)))) [
-                  | true ↦ λ t. enter-sound (subst (λ x. is_entered x ≡ true) (sym e) refl) entered none (λ _. clear-landed r a i s t)
+                  | true ↦ λ t. enter-sound (subst (λ x. has_join x ≡ true) (sym e) refl) entered none (λ _. clear-landed r a i s t)
                   | false ↦ λ t. s
                 ] refl
           ] refl
@@ -234,10 +234,10 @@ module _ (script : Script) (rules : Rules) where
                       pass-sound
                       (subst (λ x. is_passed x ≡ true) (sym e) refl)
                       (subst (λ x. pass_allowed script rules r.journal a i x ≡ true) (sym e) (or_right (not (nat_le at script.memory)) _ t))
-                      (subst (λ x. cond (is_entered x) (done (Entered a i) r.journal ≡ true) (why script rules r.journal a i ≡ None)) (sym e) entered)
+                      (subst (λ x. cond (has_join x) (done (Entered a i) r.journal ≡ true) (why script rules r.journal a i ≡ None)) (sym e) entered)
                   | false ↦ λ t. s
                 ] refl
-            | false ↦ λ entered. enter-sound (subst (λ x. is_entered x ≡ true) (sym e) refl) entered none (λ g. absurd (false≢true (subst (λ x. is_gfence x ≡ true) e g)))
+            | false ↦ λ entered. enter-sound (subst (λ x. has_join x ≡ true) (sym e) refl) entered none (λ g. absurd (false≢true (subst (λ x. is_gfence x ≡ true) e g)))
           ] refl
 
     stepped : SoundRun script rules (add_event script rules r (unless_refused script rules r a i (why script rules r.journal a i)))

@@ -14,9 +14,9 @@ use Rattle.lapi_base.specs.declared.message.MsgName.{MsgName}
 use Rattle.lapi_base.specs.declared.event.Event.{Event}
 use Rattle.lapi_base.specs.declared.event.Event.TheVariants.{Issue, Enter}
 use Rattle.lapi_base.specs.Names.{Deed, Issued, Entered, Copied, Landed, Begun, Ended, deed, done, message}
-use Rattle.lapi_base.specs.Operations.{statements, statement, address, target_pieces, origin_pieces, is_rmw, target_of, target, own_counter, tgt_counter, org_counter, cmpl_counter}
+use Rattle.lapi_base.specs.Operations.{statements, statement, address, target_pieces, origin_pieces, is_rmw, target_of, target, own_counter, tgt_counter, org_counter, cmpl_counter, is_am}
 use Rattle.lapi_base.specs.Handlers.{handler_of, user_header, has_completion}
-use Rattle.lapi_base.specs.Refusals.{option_any, is_known, lies_within, counters_of, is_message, is_vector, too_long, is_misaligned, why_by, why}
+use Rattle.lapi_base.specs.Refusals.{option_any, is_known, lies_within, counters_of, is_vector, too_long, is_misaligned, why_by, why}
 use Rattle.lapi_base.specs.Atomic.{Atomic, Keeps, needs, copy_needs, only_if, to_land, has_statement}
 use Rattle.lapi_base.specs.Receiving.{NamesCounter}
 use Rattle.lapi_laws.proofs.NumberLaws.{all-weaker}
@@ -81,8 +81,8 @@ module _ (script : Script) where
       pub org : NamesCounter script (org_counter s)
       pub cmpl : NamesCounter script (cmpl_counter s)
       pub short : too_long script s ≡ false
-      pub handler : is_message s ≡ true → handler_of s < length rules.headers
-      pub header : is_message s ≡ true → (length (user_header s) ≤ 64) × (length (user_header s) % 4 ≡ 0)
+      pub handler : is_am s ≡ true → handler_of s < length rules.headers
+      pub header : is_am s ≡ true → (length (user_header s) ≤ 64) × (length (user_header s) % 4 ≡ 0)
       pub count : is_vector s ≡ true → length (target_pieces s) ≡ length (origin_pieces s)
       pub lengths : is_vector s ≡ true → AllByRecursion (λ (pq : Piece × Piece). pq.0.len ≡ pq.1.len) (zip (target_pieces s) (origin_pieces s))
       pub words : is_rmw s ≡ true → AllByRecursion (IsAligned d) (target_pieces s) × AllByRecursion (IsAligned d) (origin_pieces s)
@@ -117,9 +117,9 @@ module _ (script : Script) where
           org = counter-is (org_counter s) two.1;
           cmpl = counter-is (cmpl_counter s) three.1;
           short = more.0;
-          handler = λ is. ltb-true (handler_of s) (length rules.headers) (not-false (nat_lt (handler_of s) (length rules.headers)) (not-both (is_message s) _ is handlers.0));
+          handler = λ is. ltb-true (handler_of s) (length rules.headers) (not-false (nat_lt (handler_of s) (length rules.headers)) (not-both (is_am s) _ is handlers.0));
           header = λ is.
-              let both = or_parts (nat_lt 64 (length (user_header s))) (not (length (user_header s) % 4 == 0)) (not-both (is_message s) _ is handlers.1.0) in
+              let both = or_parts (nat_lt 64 (length (user_header s))) (not (length (user_header s) % 4 == 0)) (not-both (is_am s) _ is handlers.1.0) in
               (ltb-false 64 (length (user_header s)) both.0, eqb-true (length (user_header s) % 4) 0 (not-false (length (user_header s) % 4 == 0) both.1));
           count = λ is. eqb-true (length to) (length from) (not-false (length to == length from) (not-both (is_vector s) _ is vectors.0));
           lengths = λ is.
