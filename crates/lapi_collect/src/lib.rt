@@ -8,6 +8,3 @@ mod rounds;
 
 pub use outstanding::Outstanding;
 pub use rounds::{AddressTable, Rounds};
-
-#[cfg(test)]
-mod tests;

@@ -4,6 +4,3 @@
 mod counters;
 
 pub use counters::Counters;
-
-#[cfg(test)]
-mod tests;

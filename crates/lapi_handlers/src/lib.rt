@@ -18,6 +18,3 @@ pub use finished::Finished;
 pub use handlers::Handlers;
 pub use header_fn::HeaderFn;
 pub use job::Job;
-
-#[cfg(test)]
-mod tests;

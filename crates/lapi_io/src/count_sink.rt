@@ -51,18 +51,3 @@ impl Sink for CountSink {
         Ok(piece.len())
     }
 }
-
-#[cfg(test)]
-mod tests {
-    use super::*;
-    use crate::sink::write_all;
-
-    #[test]
-    fn counts_bytes(rt: HostRuntime) {
-        let mut sink = CountSink::new();
-        for piece in ["abc", "", "defgh"] {
-            assert_eq!(rt; write_all(&mut sink, piece.as_bytes()), Ok(()));
-        }
-        assert_eq!(rt; sink.taken(), 8);
-    }
-}

@@ -50,22 +50,3 @@ impl Source for SureSource {
         Ok(n)
     }
 }
-
-#[cfg(test)]
-mod tests {
-    use super::*;
-    use crate::source::read_all;
-    use std::test::Fail;
-
-    #[test]
-    fn gives_all_bytes(rt: HostRuntime) -> Result<(), Fail> {
-        let mut source = SureSource::new(b"abcdefg".to_vec(rt.alloc())?);
-        let mut buf = [0; 4];
-        assert_eq!(rt; source.read(&mut buf), Ok(4));
-        assert_eq!(rt; buf, *b"abcd");
-        let rest = read_all(rt.alloc(), &mut source, 3)?;
-        assert_eq!(rt; rest.as_slice(), b"efg".as_slice());
-        assert_eq!(rt; source.read(&mut buf), Ok(0));
-        Ok(())
-    }
-}

@@ -6,6 +6,3 @@ mod task_memory;
 
 pub use read_modify_write::rmw;
 pub use task_memory::TaskMemory;
-
-#[cfg(test)]
-mod tests;

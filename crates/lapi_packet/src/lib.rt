@@ -24,6 +24,3 @@ pub use decoding::decode;
 pub use encoding::encode;
 pub use laws::spelling_laws;
 pub use validity::valid;
-
-#[cfg(test)]
-mod tests;

@@ -4,4 +4,3 @@ pub mod LowBits
 pub mod NameLaws
 pub mod PartialLaws
 pub mod PutLaws
-pub mod Rooms

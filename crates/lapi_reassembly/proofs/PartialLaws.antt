@@ -66,13 +66,6 @@ pub fragment-at : (unit received j : ℕ) (bytes : List ℕ) → j < fragments_i
 unfolding fragments_of
 fragment-at unit received j bytes below = get_or-map-range_with_len (chunk unit received bytes) 0 (fragments_in unit (length bytes)) j j None below (omega arith)
 
-pub missing_where_clear : (unit received j : ℕ) (bytes : List ℕ) → received / 2 ^ j % 2 ≡ 0 → get_or (fragments_of unit received bytes) j None ≡ None
-missing_where_clear unit received j bytes clear =
-    ⊎_elim
-    (λ (lt : j < fragments_in unit (length bytes)). fragment-at unit received j bytes lt ∙ ap (λ b. cond (b == 1) (Some (fragment_bytes unit j bytes)) None) clear)
-    (λ (ge : fragments_in unit (length bytes) ≤ j). get_or_past (fragments_of unit received bytes) j None (omega (arith, ge, length-fragments unit received bytes)))
-    (cases_lt j (fragments_in unit (length bytes)))
-
 -- a list that tells each fragment as the fields do
 pub fragments-by_all : (unit received : ℕ) (bytes : List ℕ) (fragments : List (Option (List ℕ))) → length fragments ≡ fragments_in unit (length bytes) → ((j : ℕ) → j < fragments_in unit (length bytes) → get_or fragments j None ≡ chunk unit received bytes j) → fragments ≡ fragments_of unit received bytes
 unfolding fragments_of

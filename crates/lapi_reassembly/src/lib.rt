@@ -10,6 +10,3 @@ mod put;
 pub use message::Message;
 pub use partials::Partials;
 pub use put::Put;
-
-#[cfg(test)]
-mod tests;

@@ -2,9 +2,6 @@ ghost use Rattle.std.specs.Prelude.{◌≡◌, ◌⊎◌, ℕ, ◌+◌, ◌*◌,
 ghost use Rattle.lapi_base.specs.Fragments.{fragments_in, fragment_length};
 ghost use Rattle.lapi_reassembly.specs.Partial.{IsPartial, nothing_of, with_fragment, is_whole, message};
 
-#[cfg(test)]
-mod allowed;
-
 use crate::head_copy::copy_of;
 use crate::message::Message;
 use lapi_base::{Bytes, Head, HeaderOut, Leg, Memory, MsgName};

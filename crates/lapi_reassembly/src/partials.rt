@@ -5,9 +5,6 @@ ghost use Rattle.lapi_base.specs.Fragments.{fragments_in, fragment_length, IsPay
 ghost use Rattle.lapi_reassembly.specs.Partial.{Gathered, IsUnit, nothing_of, with_fragment, is_whole, message};
 ghost use Rattle.lapi_reassembly.specs.Partials.{partial, is_there, HasRoom, Agrees, IsMissing, gathered, put_of, kept_of};
 
-#[cfg(test)]
-pub(crate) mod allowed;
-
 use crate::partial::Partial;
 use crate::put::Put;
 use lapi_base::{Head, HeaderOut, Memory, MsgName};

@@ -5,3 +5,4 @@ pub mod Pairs
 pub mod Progress
 pub mod ScheduleLines
 pub mod SpanWords
+mod WorkedLines

@@ -19,6 +19,3 @@ pub use packet::write_packet;
 pub use report::write_report;
 pub use trace::write_trace;
 pub use wire::write_wire;
-
-#[cfg(test)]
-mod tests;

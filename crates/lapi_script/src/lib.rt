@@ -19,6 +19,3 @@ mod write;
 
 pub use read::read_input;
 pub use write::{line_text, write_input};
-
-#[cfg(test)]
-mod tests;

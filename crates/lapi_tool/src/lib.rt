@@ -10,6 +10,3 @@ mod views;
 mod words;
 
 pub use command::run;
-
-#[cfg(test)]
-mod tests;

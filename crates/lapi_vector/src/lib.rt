@@ -4,6 +4,3 @@
 mod pieces;
 
 pub use pieces::Pieces;
-
-#[cfg(test)]
-mod tests;

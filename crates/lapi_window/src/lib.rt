@@ -9,6 +9,3 @@ mod took;
 pub use recv_window::RecvWindow;
 pub use send_window::SendWindow;
 pub use took::Took;
-
-#[cfg(test)]
-mod tests;

@@ -1,0 +1,67 @@
+//! Runs the rows of a table and tells which give another status or text than the table says.
+//!
+//! The table comes on standard input. A row is the lines from `row NAME` to `end`; between rows stand lines that begin
+//! with `#`, or nothing. `directive.rt` says what may stand in a row.
+#![tactic(auto)]
+
+mod directive;
+mod input;
+mod ran;
+mod repeats;
+mod row;
+mod table;
+
+use anyhow::Context;
+use ran::Ran;
+use row::Row;
+use std::alloc::Global;
+use std::io::{self, BufRead, BufReader};
+use table::Table;
+
+fn main(rt: HostRuntime) -> anyhow::Result<()> {
+    let alloc = rt.alloc();
+    let mut table = Table::new(alloc);
+    let mut differ = 0u64;
+    for (i, line) in BufReader::new(alloc, rt.reader())?.lines(alloc).enumerate() {
+        let line = line?;
+        let ended = table
+            .take(alloc, line.as_str())
+            .context(format_args!("line {} of the table", i + 1))?;
+        if ended && !has_passed(&rt, alloc, &table)? {
+            differ = differ.saturating_add(1);
+        }
+    }
+    println!(rt; "{} rows, {differ} differ", table.rows().len())?;
+    Ok(())
+}
+
+/// Runs the last row and prints what came of it.
+fn has_passed(rt: &impl Print, alloc: Global, table: &Table) -> anyhow::Result<bool> {
+    let row = table.rows().last().context("no row")?;
+    let ran = row.run(alloc)?;
+    let passed = row.accepts(&ran);
+    if passed {
+        println!(rt; "row {} ok", row.name())?;
+    } else {
+        print_difference(rt, row, &ran)?;
+    }
+    Ok(passed)
+}
+
+/// Prints the statuses, and the first line that is another one.
+fn print_difference(rt: &impl Print, row: &Row, ran: &Ran) -> io::Result<()> {
+    println!(rt; "row {} differs", row.name())?;
+    println!(rt; "status {}, wanted {}", ran.status(), row.status())?;
+    let mut found = ran.text().lines();
+    for (i, wanted) in row.text().lines().enumerate() {
+        let line = found.next().unwrap_or("(no line)");
+        if line != wanted {
+            println!(rt; "line {}: {line}", i + 1)?;
+            return println!(rt; "wanted: {wanted}");
+        }
+    }
+    match found.next() {
+        Some(line) => println!(rt; "one more line: {line}"),
+        None => println!(rt; "{} bytes, wanted {}", ran.held().len(), row.text().len()),
+    }
+}

@@ -1,0 +1,8 @@
+//! Tests of the crates that stand on tasks or read and write the texts of a run, beside the table of `lapi_rows`: what
+//! no command prints.
+#![tactic(auto)]
+
+#[cfg(test)]
+mod ends;
+#[cfg(test)]
+mod written;
