@@ -12,8 +12,9 @@ use Rattle.lapi_base.specs.Layout.{window_of, holds_back}
 use Rattle.lapi_base.specs.Below.{least_missing}
 use Rattle.lapi_base.specs.Names.{name_eq, Copied, Headed, Landed}
 use Rattle.lapi_base.specs.Operations.{statement, is_am, sender, receiver}
-use Rattle.lapi_base.specs.Record.{Run, out, base, is_sent, is_delivered, is_acked, packets, fresh, at_once, sends}
-use Rattle.lapi_base.specs.Headline.{Happened}
+use Rattle.lapi_base.specs.Record.{Run, out, base, is_sent, is_delivered, is_acked, data_done, data_clear, packets, fresh, at_once, sends}
+use Rattle.lapi_base.specs.Atomic.{data_landed}
+use Rattle.lapi_base.specs.Headline.{Happened, EarlierLanded}
 use Rattle.lapi_base.specs.Valid.{ValidScript}
 
 module _ (script : Script) (rules : Rules) where
@@ -81,3 +82,11 @@ module _ (script : Script) (rules : Rules) where
   -- a header handler was called exactly where the message is an active one's and one of its numbers was delivered
   abbrev pub HeadsWhenOneCame : Run → Type 0
   HeadsWhenOneCame r = (m : MsgName) → Happened (Headed m) r.journal ↔ (IsActive m × (n : ℕ) × HasNumber r m n × WasDelivered r m n)
+
+  -- where an operation is data-done, its data have landed
+  abbrev pub DoneHaveLanded : Run → Type 0
+  DoneHaveLanded r = (a i : ℕ) → data_done script r a i ≡ true → data_landed script rules r.journal a i ≡ true
+
+  -- so where a task is data-clear before a statement, the data of all its earlier operations have landed
+  abbrev pub ClearHaveLanded : Run → Type 0
+  ClearHaveLanded r = (a i : ℕ) → data_clear script r a i ≡ true → EarlierLanded script rules r.journal a i

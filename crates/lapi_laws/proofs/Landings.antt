@@ -1,4 +1,4 @@
--- A message has landed exactly where all its numbers were delivered.
+-- A message has landed exactly where all its numbers were delivered, and data that are done have landed.
 use Rattle.std.proofs.Common.{◌≡◌, ℕ, true, List, ap}
 use Rattle.std.specs.List.{AllByRecursion}
 use Rattle.std.proofs.lemmas.Bool.{and_parts, and_from}
@@ -12,9 +12,11 @@ use Rattle.lapi_base.specs.declared.event.Event.TheVariants.{Head}
 use Rattle.lapi_base.specs.Names.{leg_eq, Deed, Copied, Headed, Landed, deed, done, message}
 use Rattle.lapi_base.specs.Atomic.{Atomic, Keeps, needs, land_needs}
 use Rattle.lapi_base.specs.Headline.{HoldsOfRuns}
-use Rattle.lapi_base.specs.Links.{IsActive, LandsWhenAllCame, HeadsWhenOneCame}
+use Rattle.lapi_base.specs.Links.{IsActive, LandsWhenAllCame, HeadsWhenOneCame, DoneHaveLanded, ClearHaveLanded}
 use Rattle.lapi_laws.proofs.Deeds.{leg_eq-true}
 use Rattle.lapi_laws.proofs.Backward.{closed, shown}
+use Rattle.lapi_laws.proofs.Sound.{landed_before-at}
+use Rattle.lapi_laws.proofs.Turns.{done-landed, clear-landed}
 use Rattle.lapi_laws.proofs.Runs.{run-sound}
 
 module _ (script : Script) (rules : Rules) where
@@ -52,3 +54,10 @@ pub heads-when-one-came : HoldsOfRuns HeadsWhenOneCame
 heads-when-one-came script rules spells size refusal acts v m =
     let s = run-sound script rules spells size refusal acts v in
     (λ d. let x = s.headed m d in (headed-active script rules _ m s.atomic d, x.0, x.1.0, x.1.1), λ h. s.heads m (and_from _ _ h.0.1 (ap (λ l. leg_eq l Go) h.0.0)) h.1 h.2 h.3)
+
+pub done-have-landed : HoldsOfRuns DoneHaveLanded
+done-have-landed script rules spells size refusal acts v a i h = done-landed script rules _ a i (run-sound script rules spells size refusal acts v) h
+
+pub clear-have-landed : HoldsOfRuns ClearHaveLanded
+clear-have-landed script rules spells size refusal acts v a i h j l operates issued =
+    landed_before-at script rules _ a i j (clear-landed script rules _ a i (run-sound script rules spells size refusal acts v) h) l operates issued
