@@ -56,13 +56,13 @@ module _ (script : Script) (rules : Rules) where
   abbrev pub FewArePartial : Run → Type 0
   FewArePartial r = (a b : ℕ) (ms : List MsgName) → IsDistinct name_eq ms → AllByRecursion (IsPartlyDelivered r a b) ms → length ms ≤ window_of script
 
-  -- every number on a wire of a valid script is below 2^22
+  -- a link of a valid script has at most 2^22 numbers, sent or not
+  abbrev pub NumbersAreFew : Run → Type 0
+  NumbersAreFew r = ValidScript script → (a b : ℕ) → length (out script r.journal a b) ≤ 2 ^ 22
+
+  -- so every number on a wire is below 2^22, and fits in four bytes
   abbrev pub NumbersAreSmall : Run → Type 0
   NumbersAreSmall r = ValidScript script → (a b n : ℕ) → is_sent r a b n ≡ true → n < 2 ^ 22
-
-  -- so every number on a wire fits in four bytes
-  abbrev pub NumbersFit : Run → Type 0
-  NumbersFit r = ValidScript script → (a b n : ℕ) → is_sent r a b n ≡ true → n < 2 ^ 32
 
   -- number n is one of message m on its link, and was delivered there
   abbrev pub HasNumber : Run → MsgName → ℕ → Type 0
