@@ -6,7 +6,7 @@ ghost use Rattle.lapi_base.specs.Final.{is_idle, is_settled};
 ghost use Rattle.lapi_base.specs.Record.{Run, tick};
 ghost use Rattle.lapi_base.specs.Seen.{no_rules};
 ghost use Rattle.lapi_task.specs.Performed.{IsPerformed};
-ghost use Rattle.lapi_task.specs.Does.{IsAt, Does};
+ghost use Rattle.lapi_task.specs.Does.{IsAt, IsAtSome, Does};
 
 use crate::outcome::Outcome;
 use crate::task::Task;
@@ -16,11 +16,12 @@ use std::alloc::Global;
 impl Task {
     /// Sends again what was sent and is not acknowledged.
     pub fn tick(&mut self, alloc: Global, out: &mut Outcome) -> Result<(), Memory>
+        requires { (script : Script) × IsPerformed script × IsAtSome script self.old }
         ensures { OnOk result ((script : Script) (t : ℕ) (r : Run) → IsPerformed script → IsAt script t self.old r → Does script t r (tick script no_rules r t) self.new out.old out.new) }
     {
         for (to, sender) in self.senders.iter().enumerate() {
             let Ok(to) = u32::try_from(to) else {
-                return Err(Memory);
+                unreachable!()
             };
             sender.resend(alloc, to, &mut out.entries)?;
         }
