@@ -45,7 +45,7 @@ module _ (script : Script) (rules : Rules) where
 
   -- every packet on a wire goes between tasks that there are, and from the wire's one end to its other
   abbrev pub PacketsArePlaced : Run → Type 0
-  PacketsArePlaced r = ValidScript script → ValidRules rules → (a b k : ℕ) (p : Packet) → slice_get (r.wire a b) k ≡ Some p → (a < script.tasks) × (b < script.tasks) × GoesFrom a b p
+  PacketsArePlaced r = (a b k : ℕ) (p : Packet) → slice_get (r.wire a b) k ≡ Some p → (a < script.tasks) × (b < script.tasks) × GoesFrom a b p
 
   -- every packet on a wire has a spelling
   abbrev pub PacketsAreSpelled : Run → Type 0

@@ -1,16 +1,20 @@
 -- What is bounded on a link: how far numbers run ahead, how many messages are there in part, how great numbers
--- get. These are words of this project for its laws.
-use Rattle.std.specs.Prelude.{◌≡◌, ℕ, ◌+◌, ◌^◌, ◌<◌, ◌≤◌, true, false, List, [], ◌∷◌, length, slice_get, Some}
+-- get; and what the numbers that were delivered say of messages. These are words of this project for its laws.
+use Rattle.std.specs.Prelude.{◌≡◌, ◌↔◌, ℕ, ◌+◌, ◌^◌, ◌<◌, ◌≤◌, true, false, List, [], ◌∷◌, length, slice_get, Some}
 use Rattle.std.specs.List.{AllByRecursion, IsDistinct}
 use Rattle.lapi_base.specs.declared.script.Script.{Script}
 use Rattle.lapi_base.specs.declared.rule.Rules.{Rules}
+use Rattle.lapi_base.specs.declared.message.Leg.TheVariants.{Go}
 use Rattle.lapi_base.specs.declared.message.MsgName.{MsgName}
 use Rattle.lapi_base.specs.declared.event.Event.{Event}
 use Rattle.lapi_base.specs.declared.packet.Packet.{Packet}
 use Rattle.lapi_base.specs.Layout.{window_of, holds_back}
 use Rattle.lapi_base.specs.Below.{least_missing}
-use Rattle.lapi_base.specs.Names.{name_eq}
-use Rattle.lapi_base.specs.Record.{Run, out, least_undelivered, base, is_sent, is_delivered, is_acked, packets, fresh, at_once, sends}
+use Rattle.lapi_base.specs.Names.{name_eq, Copied, Headed, Landed}
+use Rattle.lapi_base.specs.Operations.{statement, is_am, sender, receiver}
+use Rattle.lapi_base.specs.Record.{Run, out, least_undelivered, base, is_sent, is_delivered, is_acked, data_done, data_clear, packets, fresh, at_once, sends}
+use Rattle.lapi_base.specs.Atomic.{data_landed}
+use Rattle.lapi_base.specs.Headline.{Happened, EarlierLanded}
 use Rattle.lapi_base.specs.Valid.{ValidScript}
 
 module _ (script : Script) (rules : Rules) where
@@ -48,10 +52,37 @@ module _ (script : Script) (rules : Rules) where
   abbrev pub FewArePartial : Run → Type 0
   FewArePartial r = (a b : ℕ) (ms : List MsgName) → IsDistinct name_eq ms → AllByRecursion (IsPartlyDelivered r a b) ms → length ms ≤ window_of script
 
-  -- every number on a wire of a valid script is below 2^22
+  -- a link of a valid script has at most 2^22 numbers, sent or not
+  abbrev pub NumbersAreFew : Run → Type 0
+  NumbersAreFew r = ValidScript script → (a b : ℕ) → length (out script r.journal a b) ≤ 2 ^ 22
+
+  -- so every number on a wire is below 2^22, and fits in four bytes
   abbrev pub NumbersAreSmall : Run → Type 0
   NumbersAreSmall r = ValidScript script → (a b n : ℕ) → is_sent r a b n ≡ true → n < 2 ^ 22
 
-  -- so every number on a wire fits in four bytes
-  abbrev pub NumbersFit : Run → Type 0
-  NumbersFit r = ValidScript script → (a b n : ℕ) → is_sent r a b n ≡ true → n < 2 ^ 32
+  -- number n is one of message m on its link, and was delivered there
+  abbrev pub HasNumber : Run → MsgName → ℕ → Type 0
+  HasNumber r m n = IsNumberOf r (sender script m) (receiver script m) m n
+
+  abbrev pub WasDelivered : Run → MsgName → ℕ → Type 0
+  WasDelivered r m n = is_delivered r (sender script m) (receiver script m) n ≡ true
+
+  -- a message has landed exactly where it was copied and all its numbers were delivered
+  abbrev pub LandsWhenAllCame : Run → Type 0
+  LandsWhenAllCame r = (m : MsgName) → Happened (Landed m) r.journal ↔ (Happened (Copied m) r.journal × ((n : ℕ) → HasNumber r m n → WasDelivered r m n))
+
+  -- it carries the data of an active message
+  abbrev pub IsActive : MsgName → Type 0
+  IsActive m = (m.leg ≡ Go) × (is_am (statement script m.origin m.statement) ≡ true)
+
+  -- a header handler was called exactly where the message is an active one's and one of its numbers was delivered
+  abbrev pub HeadsWhenOneCame : Run → Type 0
+  HeadsWhenOneCame r = (m : MsgName) → Happened (Headed m) r.journal ↔ (IsActive m × (n : ℕ) × HasNumber r m n × WasDelivered r m n)
+
+  -- where an operation is data-done, its data have landed
+  abbrev pub DoneHaveLanded : Run → Type 0
+  DoneHaveLanded r = (a i : ℕ) → data_done script r a i ≡ true → data_landed script rules r.journal a i ≡ true
+
+  -- so where a task is data-clear before a statement, the data of all its earlier operations have landed
+  abbrev pub ClearHaveLanded : Run → Type 0
+  ClearHaveLanded r = (a i : ℕ) → data_clear script r a i ≡ true → EarlierLanded script rules r.journal a i

@@ -21,6 +21,7 @@ pub mod HandedOver
 pub mod Rows
 pub mod Settled
 pub mod Once
+pub mod Landings
 pub mod Places
 pub mod Fences
 pub mod Counts

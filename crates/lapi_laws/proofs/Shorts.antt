@@ -26,7 +26,7 @@ use Rattle.lapi_base.specs.Record.{out, is_number, has_number}
 use Rattle.lapi_base.specs.Atomic.{Atomic, Keeps, has_message, needs, copy_needs, only_if, to_land}
 use Rattle.lapi_base.specs.Valid.{ValidScript, ValidStatement}
 use Rattle.lapi_base.specs.Headline.{HoldsOfRuns}
-use Rattle.lapi_base.specs.Links.{NumbersAreSmall, NumbersFit}
+use Rattle.lapi_base.specs.Links.{NumbersAreFew, NumbersAreSmall}
 use Rattle.lapi_laws.proofs.NumberLaws.{any-all}
 use Rattle.lapi_laws.proofs.Deeds.{done-head, done-later}
 use Rattle.lapi_laws.proofs.Backward.{Atomic-head, Atomic-tail, closed, shown}
@@ -263,9 +263,10 @@ module _ (script : Script) (rules : Rules) where
       omega arith
 
 -- the laws, of every run
+pub links-few : HoldsOfRuns NumbersAreFew
+links-few script rules spells size refusal acts v valid a b =
+    let s = run-sound script rules spells size refusal acts v in
+    numbers-few script rules valid _ a b s.atomic (λ m d. copied-few script rules _ m s.atomic d)
+
 pub numbers-small : HoldsOfRuns NumbersAreSmall
 numbers-small script rules spells size refusal acts v = λ valid a b n h. let s = run-sound script rules spells size refusal acts v in sent-small script rules _ _ _ valid s a b n h
-
--- and so the numbers fit in four bytes
-pub numbers-fit : HoldsOfRuns NumbersFit
-numbers-fit script rules spells size refusal acts v = λ valid a b n h. let l = numbers-small script rules spells size refusal acts v valid a b n h in omega arith

@@ -68,7 +68,7 @@ module _ (script : Script) (rules : Rules) where
       (subst (λ b. slice_get (cond b (gfence_rounds script d) (table_rounds script d)) (round_of script a i) ≡ Some j) g e)).1
 
   -- Data that are done have landed.
-  done-landed : (r : Run) (a j : ℕ) → SoundRun script rules r → data_done script r a j ≡ true → data_landed script rules r.journal a j ≡ true
+  pub done-landed : (r : Run) (a j : ℕ) → SoundRun script rules r → data_done script r a j ≡ true → data_landed script rules r.journal a j ≡ true
   unfolding data_done
   done-landed r a j s =
       elim (has_back (statement script a j)) as (λ b. cond b (done (Landed (message a j Back)) r.journal) (done (Copied (message a j Go)) r.journal && all_numbers script (out script r.journal a (receiver script (message a j Go))) (message a j Go) (is_acked r a (receiver script (message a j Go)))) ≡ true → done (Landed (message a j (cond b Back Go))) r.journal ≡ true) [
@@ -79,7 +79,7 @@ module _ (script : Script) (rules : Rules) where
             s.arrived m both.0 (λ n x. acked-delivered script rules r.journal r.wire r.handed s a (receiver script m) n (all_numbers-at script (out script r.journal a (receiver script m)) m (is_acked r a (receiver script m)) both.1 n x.0 x.1))
       ]
 
-  clear-landed : (r : Run) (a i : ℕ) → SoundRun script rules r → data_clear script r a i ≡ true → landed_before script rules r.journal a i ≡ true
+  pub clear-landed : (r : Run) (a i : ℕ) → SoundRun script rules r → data_clear script r a i ≡ true → landed_before script rules r.journal a i ≡ true
   unfolding data_clear
   clear-landed r a i s h =
       landed_before-from script rules r.journal a i

@@ -1,6 +1,6 @@
 //! What is bounded on every link.
 ghost use Rattle.lapi_base.specs.Headline.{HoldsOfRuns};
-ghost use Rattle.lapi_base.specs.Links.{AckedAreDelivered, SentAreInWindow, StaysInWindow, OwedAreHeldBack, TellsAtOnce, FewArePartial, NumbersAreSmall, NumbersFit};
+ghost use Rattle.lapi_base.specs.Links.{AckedAreDelivered, SentAreInWindow, StaysInWindow, OwedAreHeldBack, TellsAtOnce, FewArePartial, NumbersAreFew, NumbersAreSmall};
 
 /// What is acknowledged was delivered, and what was sent lies in the window of the sender, and of the receiver.
 pub fn window_is_kept()
@@ -21,8 +21,8 @@ pub fn few_are_partial()
     ensures { HoldsOfRuns FewArePartial }
 {}
 
-/// The numbers of a valid script's packets stay small, so they fit in four bytes.
+/// A link of a valid script has few numbers, sent or not, so those of its packets stay small and fit in four bytes.
 pub fn numbers_are_small()
+    ensures few { HoldsOfRuns NumbersAreFew }
     ensures small { HoldsOfRuns NumbersAreSmall }
-    ensures fit { HoldsOfRuns NumbersFit }
 {}

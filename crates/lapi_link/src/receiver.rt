@@ -43,7 +43,7 @@ impl Receiver {
         Ok(Receiver { window, partials })
     }
 
-    /// Takes a packet that was handed over.
+    /// Takes a packet that was handed over. Its number lies in the window: below the least missing one plus the window.
     pub fn arrive(&mut self, alloc: Global, packet: &DataPacket) -> Result<Arrival, Memory>
         requires { (script : Script) × (ps : List Packet) × ReceivesFor script self.old ps × Fits script ps packet.now }
         ensures kept { OnOk result ((script : Script) (ps : List Packet) → ReceivesFor script self.old ps → Fits script ps packet.now → ReceivesFor script self.new (Data packet.now ∷ ps)) }
@@ -51,7 +51,8 @@ impl Receiver {
     {
         match self.window.take(packet.seq) {
             Took::Fresh => put(&mut self.partials, alloc, packet),
-            Took::Repeat | Took::Beyond => Ok(Arrival::Repeat),
+            Took::Repeat => Ok(Arrival::Repeat),
+            Took::Beyond => unreachable!(),
         }
     }
 

@@ -50,11 +50,11 @@ unfolding bits_of
 bits-even zero p h = refl
 bits-even (suc n) p h = subst (λ (b : Bool). (cond b 1 0 + 2 * bits_of n (λ i. p (suc i))) % 2 ≡ 0) (sym h) (let x = bits_of n (λ i. p (suc i)) in let e : (0 + 2 * x) % 2 ≡ 0 = omega arith in e)
 
-module _ (script : Script) (rules : Rules) (valid : ValidScript script) where
+module _ (script : Script) (rules : Rules) where
   -- an acknowledgement of the wire from a to b
   abbrev pub IsTold : (a b : ℕ) → Packet → Type 0
   IsTold a b (Data p) = Unit {0}
-  IsTold a b (Ack from to base bits) = (from ≡ a) × (to ≡ b) × (a < script.tasks) × (b < script.tasks) × (base < 2 ^ 32) × (bits < 2 ^ window_of script) × (bits % 2 ≡ 0)
+  IsTold a b (Ack from to base bits) = (from ≡ a) × (to ≡ b) × (a < script.tasks) × (b < script.tasks) × (ValidScript script → base < 2 ^ 32) × (bits < 2 ^ window_of script) × (bits % 2 ≡ 0)
 
   -- the numbers that were delivered are those of the link, also with one more packet
   delivered-below : (r : Run) (a b : ℕ) (p : DataPacket) (n : ℕ) → SoundRun script rules r → Fits script rules r.journal r.handed a b (Data p) → is_delivered (with_handed script rules r a b (Data p)) a b n ≡ true → n < length (out script r.journal a b)
@@ -87,10 +87,9 @@ module _ (script : Script) (rules : Rules) (valid : ValidScript script) where
       let count = length (out script r.journal a b) in
       let q = is_delivered r a b in
       let least = least_missing count q in
-      let few = numbers-few script rules valid r.journal a b atomic (λ m d. copied-few script rules r.journal m atomic d) in
       let below = least_missing-le count q in
       let first : least + 0 ≡ least = omega arith in
-      (refl, refl, lb, la, omega arith, bits-small (window_of script) (λ i. q (least + i)), bits-even (window_of script) (λ i. q (least + i)) (ap q first ∙ least-not r a b room))
+      (refl, refl, lb, la, λ valid. let few = numbers-few script rules valid r.journal a b atomic (λ m d. copied-few script rules r.journal m atomic d) in omega arith, bits-small (window_of script) (λ i. q (least + i)), bits-even (window_of script) (λ i. q (least + i)) (ap q first ∙ least-not r a b room))
 
   abbrev pub ToldRun : Run → Type 0
   ToldRun r = (a b : ℕ) → AllByRecursion (IsTold a b) (r.wire a b)
@@ -173,5 +172,5 @@ module _ (script : Script) (rules : Rules) (valid : ValidScript script) where
     run-told acts v = after-told acts start v (start-sound script rules) (λ a b e. absurd (false≢true e)) (λ a b. tt)
 
 -- so it is with every record
-pub record-told : HoldsOfRecords (λ script rules r. (valid : ValidScript script) → ToldRun script rules valid r)
-record-told = of-runs (λ script rules r. (valid : ValidScript script) → ToldRun script rules valid r) (λ script rules spells size refusal acts v valid. run-told script rules valid spells size refusal acts v)
+pub record-told : HoldsOfRecords ToldRun
+record-told = of-runs ToldRun (λ script rules spells size refusal acts v. run-told script rules spells size refusal acts v)

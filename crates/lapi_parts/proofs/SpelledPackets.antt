@@ -256,13 +256,31 @@ ends-small script ans a d Note s la ld h = (ld, la)
 ends-small script ans a d Echo s la ld h = (ld, la)
 ends-small script ans a d (Join e) s la ld h = (la, ltb-true e script.tasks (and_parts (nat_lt e script.tasks) (not (e == a)) (and_parts (has_join s) (nat_lt e script.tasks && not (e == a)) h).1).0)
 
-module _ (script : Script) (rules : Rules) (valid : ValidScript script) (few : ValidRules rules) where
+module _ (script : Script) (rules : Rules) where
   -- each message that was copied goes between tasks that there are
   pub copied-ends : (J : List Event) (m : MsgName) → Atomic script rules J → done (Copied m) J ≡ true → (sender script m < script.tasks) × (receiver script m < script.tasks)
   copied-ends J m h d =
       let is = and_parts _ _ (there script rules (Copied m) J h d) in
       ends-small script (answers script rules m.origin m.statement) m.origin (target script m.origin m.statement) m.leg (statement script m.origin m.statement) (ltb-true m.origin script.tasks (and_parts (nat_lt m.origin script.tasks) (nat_lt m.statement (length (statements script m.origin))) is.0).0) (copied-accepted script rules J m h d).target is.1
 
+  -- a packet of a wire goes between its ends
+  packet-from : Packet → ℕ
+  packet-from (Data p) = p.from
+  packet-from (Ack from to base bits) = from
+
+  packet-to : Packet → ℕ
+  packet-to (Data p) = p.to
+  packet-to (Ack from to base bits) = to
+
+  wire-placed : (r : Run) (a b : ℕ) (p : Packet) → SoundRun script rules r → IsOfNumber script rules r.journal a b p → IsTold script rules a b p → (a < script.tasks) × (b < script.tasks) × GoesFrom a b p
+  unfolding data_packet packet-from packet-to
+  wire-placed r a b (Data p) s of told =
+      let copied = out-copied script r.journal a b p.seq (p.name, p.fragment) of.0 in
+      let ends = copied-ends r.journal p.name s.atomic copied.0 in
+      (subst (λ (n : ℕ). n < script.tasks) copied.1 ends.0, subst (λ (n : ℕ). n < script.tasks) copied.2 ends.1, (ap packet-from of.1 ∙ copied.1, ap packet-to of.1 ∙ copied.2))
+  wire-placed r a b (Ack from to base bits) s of told = (told.2, told.3, (told.0, told.1))
+
+module _ (script : Script) (rules : Rules) (valid : ValidScript script) (few : ValidRules rules) where
   -- its length and its head keep their rules
   size-kept : (m : MsgName) → has_leg script (answers script rules m.origin m.statement) m.origin m.leg (statement script m.origin m.statement) ≡ true → Accepted script rules (target script m.origin m.statement) (statement script m.origin m.statement) → is_length First m.leg (written.head_number (head_by script m m.leg (statement script m.origin m.statement))) (message_length script m) ≡ true
   unfolding message_length
@@ -288,7 +306,7 @@ module _ (script : Script) (rules : Rules) (valid : ValidScript script) (few : V
       let leg = is.1 in
       let fine = copied-accepted script rules J m h c in
       let tasks : script.tasks ≤ 8 = valid.tasks.1 in
-      let ends = copied-ends J m h c in
+      let ends = copied-ends script rules J m h c in
       let from : sender script m < script.tasks = ends.0 in
       let to : receiver script m < script.tasks = ends.1 in
       let own : a < script.tasks = ltb-true a script.tasks place.0 in
@@ -310,7 +328,7 @@ module _ (script : Script) (rules : Rules) (valid : ValidScript script) (few : V
       (all-take IsByte unit (drop (unit * j) bytes) (all-drop IsByte (unit * j) bytes ((values-small script rules valid J).bytes m)))
 
   -- a packet of a wire
-  wire-spelled : (r : Run) (a b : ℕ) (p : Packet) → SoundRun script rules r → IsOfNumber script rules r.journal a b p → IsTold script rules valid a b p → Spells p (written.packet p)
+  wire-spelled : (r : Run) (a b : ℕ) (p : Packet) → SoundRun script rules r → IsOfNumber script rules r.journal a b p → IsTold script rules a b p → Spells p (written.packet p)
   wire-spelled r a b (Data p) s of told =
       let copied = out-copied script r.journal a b p.seq (p.name, p.fragment) of.0 in
       let room = slice_get_within (out script r.journal a b) p.seq (p.name, p.fragment) of.0 in
@@ -323,31 +341,15 @@ module _ (script : Script) (rules : Rules) (valid : ValidScript script) (few : V
       let y : to ≡ b = told.1 in
       let la : a < script.tasks = told.2 in
       let lb : b < script.tasks = told.3 in
-      acknowledgement-spelled from to base bits (omega arith) (omega arith) told.4 (subst (λ k. bits < 2 ^ k) (first-window script valid) told.5) told.6
-
-  packet-from : Packet → ℕ
-  packet-from (Data p) = p.from
-  packet-from (Ack from to base bits) = from
-
-  packet-to : Packet → ℕ
-  packet-to (Data p) = p.to
-  packet-to (Ack from to base bits) = to
-
-  wire-placed : (r : Run) (a b : ℕ) (p : Packet) → SoundRun script rules r → IsOfNumber script rules r.journal a b p → IsTold script rules valid a b p → (a < script.tasks) × (b < script.tasks) × GoesFrom a b p
-  unfolding data_packet packet-from packet-to
-  wire-placed r a b (Data p) s of told =
-      let copied = out-copied script r.journal a b p.seq (p.name, p.fragment) of.0 in
-      let ends = copied-ends r.journal p.name s.atomic copied.0 in
-      (subst (λ (n : ℕ). n < script.tasks) copied.1 ends.0, subst (λ (n : ℕ). n < script.tasks) copied.2 ends.1, (ap packet-from of.1 ∙ copied.1, ap packet-to of.1 ∙ copied.2))
-  wire-placed r a b (Ack from to base bits) s of told = (told.2, told.3, (told.0, told.1))
+      acknowledgement-spelled from to base bits (omega arith) (omega arith) (told.4 valid) (subst (λ k. bits < 2 ^ k) (first-window script valid) told.5) told.6
 
 pub packets-placed : HoldsOfRecords PacketsArePlaced
-packets-placed script rules r is = λ valid few a b k p at.
-    wire-placed script rules valid few r a b p (record-sound script rules r is) (all-get (IsOfNumber script rules r.journal a b) (r.wire a b) k p (put-of-number script rules r is a b) at) (all-get (IsTold script rules valid a b) (r.wire a b) k p (record-told script rules r is valid a b) at)
+packets-placed script rules r is = λ a b k p at.
+    wire-placed script rules r a b p (record-sound script rules r is) (all-get (IsOfNumber script rules r.journal a b) (r.wire a b) k p (put-of-number script rules r is a b) at) (all-get (IsTold script rules a b) (r.wire a b) k p (record-told script rules r is a b) at)
 
 pub packets-written : HoldsOfRecords PacketsAreWritten
 packets-written script rules r is = λ valid few a b k p at.
-    wire-spelled script rules valid few r a b p (record-sound script rules r is) (all-get (IsOfNumber script rules r.journal a b) (r.wire a b) k p (put-of-number script rules r is a b) at) (all-get (IsTold script rules valid a b) (r.wire a b) k p (record-told script rules r is valid a b) at)
+    wire-spelled script rules valid few r a b p (record-sound script rules r is) (all-get (IsOfNumber script rules r.journal a b) (r.wire a b) k p (put-of-number script rules r is a b) at) (all-get (IsTold script rules a b) (r.wire a b) k p (record-told script rules r is a b) at)
 
 pub packets-spelled : HoldsOfRecords PacketsAreSpelled
 packets-spelled script rules r is = λ valid few a b k p at. (written.packet p, packets-written script rules r is valid few a b k p at)

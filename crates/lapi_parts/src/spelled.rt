@@ -2,8 +2,8 @@
 ghost use Rattle.lapi_base.specs.Entries.{PacketsArePlaced, PacketsAreSpelled, PacketsAreWritten};
 ghost use Rattle.lapi_base.specs.Seen.{HoldsOfRecords};
 
-/// Each packet on a wire of a valid script's record goes from the wire's one end to its other, and has a spelling: the
-/// bytes that are written for it.
+/// Each packet on a wire goes from the wire's one end to its other, so none reaches another task than its own. On a wire
+/// of a valid script it has a spelling: the bytes that are written for it.
 pub fn packets_are_spelled()
     ensures placed { HoldsOfRecords PacketsArePlaced }
     ensures spelled { HoldsOfRecords PacketsAreSpelled }

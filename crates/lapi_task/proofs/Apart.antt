@@ -30,7 +30,7 @@ use Rattle.lapi_parts.proofs.OtherTasks.{others-stay}
 use Rattle.lapi_parts.proofs.Records.{record-sound}
 use Rattle.lapi_parts.proofs.SameParts.{SamePart, same-part, bytes-same, told-statements, told-links, told-jobs, told-memory}
 use Rattle.lapi_task.specs.declared.task.Task.{Task}
-use Rattle.lapi_task.specs.Apart.{TasksStayApart}
+use Rattle.lapi_task.specs.Apart.{TasksStayApart, StandsByPart}
 use Rattle.lapi_task.specs.Sends.{SendsFor, packet_at, spelled}
 use Rattle.lapi_task.specs.StandsFor.{is_uncopied, SenderAt, ReceiverAt, HoldsFor, StandsFor}
 
@@ -145,3 +145,6 @@ pub stays-apart : TasksStayApart
 stays-apart script t task r act p h valid apart =
     let s = performed script no_rules r act in
     stands-same script t r s h.recorded (more-record script no_rules r act h.recorded valid) (sym (others-stay script no_rules r h.recorded act t apart)) task h.stands
+
+pub stands-by-part : StandsByPart
+stands-by-part script t task r s h is e = record { recorded = is; known = h.known; stands = stands-same script t r s h.recorded is e task h.stands }

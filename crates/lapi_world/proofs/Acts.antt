@@ -80,14 +80,9 @@ module _ (script : Script) where
   pub step-replies : (r : Run) (t : ℕ) (reply : Reply) → (step script no_rules r t).replies ≡ r.replies ++ reply ∷ [] → (performed script no_rules r (acts.Step t)).replies ≡ r.replies ++ reply ∷ []
   step-replies r t reply h = ap (λ (s : Run). s.replies) (performed-step r t) ∙ h
 
-  -- there is no other
-  pub no-other : (act : Act) → is_built_act act ≡ true → ((t : ℕ) → act ≡ acts.Step t → ⊥) → ((t : ℕ) → act ≡ acts.Poll t → ⊥) → ((t : ℕ) → act ≡ acts.Tick t → ⊥) → ((a b k : ℕ) → act ≡ acts.Deliver a b k → ⊥) → ⊥
-  unfolding is_built_act
-  no-other (acts.Step t) h s p i d = s t refl
-  no-other (acts.Poll t) h s p i d = p t refl
-  no-other (acts.Tick t) h s p i d = i t refl
-  no-other (acts.Deliver a b k) h s p i d = d a b k refl
-  no-other _ h s p i d = false≢true h
+  -- an act that is built is none that isn't
+  pub unbuilt : (act other : Act) → is_built_act act ≡ true → is_built_act other ≡ false → act ≡ other → ⊥
+  unbuilt act other built isn same = false≢true (sym isn ∙ sym (ap is_built_act same) ∙ built)
 
   moved : (r s : Run) (u : ℕ) → ((task : Task) → StandsFor script u task r → StandsFor script u task s) → (o : Option Task) → TaskAt script r u o → TaskAt script s u o
   moved r s u f None h = absurd h

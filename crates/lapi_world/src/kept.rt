@@ -81,7 +81,8 @@ impl Kept {
             Act::Poll(t) => self.poll(alloc, script, *t),
             Act::Tick(t) => self.tick(alloc, script, *t),
             Act::Deliver { a, b, k } => self.deliver(alloc, script, *a, *b, *k),
-            _ => Ok(Reply::Idle),
+            Act::Cut { .. } | Act::Inject { .. } | Act::Begin { .. } | Act::End { .. } =>
+                unreachable!(),
         }
     }
 

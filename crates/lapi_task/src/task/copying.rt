@@ -32,10 +32,10 @@ impl Task {
         ensures event { OnOk result ((t : ℕ) (r : Run) (i : ℕ) (rest : List ℕ) → CopiesNext script.now t self.old r i rest → (events.new ≡ events.old ++ IsCopy (message t i Go) ∷ []) × (self.new.uncopied.items ≡ rest)) }
     {
         let Some(i) = self.uncopied.pop_front() else {
-            return Ok(());
+            unreachable!()
         };
         let Some(put) = put_at(script, self.number, i) else {
-            return Ok(());
+            unreachable!()
         };
         self.copy(alloc, put, i)?;
         events.push(Event::Copy(MsgName {

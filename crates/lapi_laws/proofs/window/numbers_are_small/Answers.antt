@@ -1,8 +1,8 @@
-use Rattle.lapi_laws.proofs.Shorts.{numbers-small, numbers-fit}
+use Rattle.lapi_laws.proofs.Shorts.{links-few, numbers-small}
 use Rattle.lapi_laws.proofs.window.numbers_are_small.Goals as goal
+
+pub returns-clause-few : goal.returns-clause-few
+returns-clause-few c = links-few
 
 pub returns-clause-small : goal.returns-clause-small
 returns-clause-small c = numbers-small
-
-pub returns-clause-fit : goal.returns-clause-fit
-returns-clause-fit c = numbers-fit

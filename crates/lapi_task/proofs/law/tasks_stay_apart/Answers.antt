@@ -1,5 +1,8 @@
-use Rattle.lapi_task.proofs.Apart.{stays-apart}
+use Rattle.lapi_task.proofs.Apart.{stands-by-part, stays-apart}
 use Rattle.lapi_task.proofs.law.tasks_stay_apart.Goals as goal
 
-pub returns : goal.returns
-returns c = stays-apart
+pub returns-clause-part : goal.returns-clause-part
+returns-clause-part c = stands-by-part
+
+pub returns-clause-others : goal.returns-clause-others
+returns-clause-others c = stays-apart

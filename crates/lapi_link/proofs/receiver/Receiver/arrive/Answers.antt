@@ -1,23 +1,20 @@
-use Rattle.std.proofs.Common.{◌≡◌, ◌≢◌, ◌⊎◌, ◌↔◌, Bool, true, false, List, ◌∷◌, refl, sym, ◌∙◌, subst, ⊎_elim, inl, inr}
+use Rattle.std.proofs.Common.{◌≡◌, ◌≢◌, ◌↔◌, Bool, true, false, ◌∷◌, refl, sym, ◌∙◌, subst}
 use Rattle.std.proofs.lemmas.Bool.{false_from_ne_true}
 use Rattle.std.proofs.lemmas.Result.{IfOk-weaker, on_ok_weaker}
-use Rattle.lapi_base.specs.declared.script.Script.{Script}
-use Rattle.lapi_base.specs.declared.packet.Packet.{Packet}
 use Rattle.lapi_base.specs.declared.packet.Packet.TheVariants.{Data}
 use Rattle.lapi_window.specs.declared.took.Took.{Took}
-use Rattle.lapi_window.specs.declared.took.Took.TheVariants.{Repeat, Beyond, Fresh}
-use Rattle.lapi_window.specs.RecvWindow.{Receiving, is_taken}
-use Rattle.lapi_link.specs.Receiver.{ReceivesFor, Fits}
+use Rattle.lapi_window.specs.declared.took.Took.TheVariants.{Repeat, Fresh}
+use Rattle.lapi_window.specs.RecvWindow.{Receiving}
+use Rattle.lapi_link.specs.Receiver.{ReceivesFor}
 use Rattle.lapi_link.proofs.ArrivalLaws.{reached, repeat-kept, repeat-arrival, fresh-agrees, fresh-fragment, fresh-missing, fresh-room, fresh-arrival, fresh-kept}
 use Rattle.lapi_link.proofs.receiver.Receiver.arrive.Goals as goal
 
 not_taken : (b : Bool) → (Fresh ≡ Repeat) ↔ (b ≡ true) → b ≡ false
 not_taken b told = false_from_ne_true b (λ e. let same = told.1 e in absurd (cc))
 
--- neither answer is that it was taken now
-not_fresh : (took : Took) → (took ≡ Repeat) ⊎ (took ≡ Beyond) → took ≢ Fresh
-not_fresh took (inl e) = λ f. absurd (cc)
-not_fresh took (inr e) = λ f. absurd (cc)
+-- what was taken before isn't taken now
+not_fresh : (took : Took) → took ≡ Repeat → took ≢ Fresh
+not_fresh took e = λ f. absurd (cc)
 
 pub put-requires-clause-message : goal.put-requires-clause-message
 put-requires-clause-message c =
@@ -45,16 +42,19 @@ returns-in-Fresh-clause-arrival c =
     IfOk-weaker c.put.result _ _ (λ arrival answer script ps receives fits.
     answer ∙ fresh-arrival script ps c.args.packet.now c.self.inside.window c.self.inside.partials c.args.self.now c.self.view_is receives fits (not_taken _ c.in-Fresh.ensures.repeat)) c.put.ensures.answer
 
+-- so the packet's number was taken before
 pub returns-in-Repeat : goal.returns-in-Repeat
 returns-in-Repeat c =
-    let taken : (script : Script) (ps : List Packet) → ReceivesFor script c.args.self.now ps → Fits script ps c.args.packet.now → is_taken c.self.inside.window c.args.packet.now.seq ≡ true = λ script ps receives fits.
-    ⊎_elim
-    (λ (e : c.take.result ≡ Repeat). c.take.ensures.repeat.0 e)
-    (λ (e : c.take.result ≡ Beyond). absurd (reached script ps c.args.packet.now c.self.inside.window c.self.inside.partials c.args.self.now c.self.view_is receives fits (c.take.ensures.beyond.0 e)))
-    c.in-Repeat.is in record {
+    let taken = c.take.ensures.repeat.0 c.in-Repeat.is in
+    record {
       kept = λ script ps receives fits.
           subst (λ (w : Receiving). ReceivesFor script (record { window = w; partials = c.self.inside.partials }) (Data c.args.packet.now ∷ ps)) (sym (c.take.ensures.unchanged (not_fresh c.take.result c.in-Repeat.is)))
-          (repeat-kept script ps c.args.packet.now c.self.inside.window c.self.inside.partials c.args.self.now c.self.view_is receives fits (taken script ps receives fits));
+          (repeat-kept script ps c.args.packet.now c.self.inside.window c.self.inside.partials c.args.self.now c.self.view_is receives fits taken);
       arrival = λ script ps receives fits.
-          repeat-arrival script ps c.args.packet.now c.self.inside.window c.self.inside.partials c.args.self.now c.self.view_is receives fits (taken script ps receives fits);
+          repeat-arrival script ps c.args.packet.now c.self.inside.window c.self.inside.partials c.args.self.now c.self.view_is receives fits taken;
     }
+
+-- and no packet's number lies beyond the window
+pub unreachable-requires : goal.unreachable-requires
+unreachable-requires c =
+    reached c.requires.0 c.requires.1 c.args.packet.now c.self.inside.window c.self.inside.partials c.args.self.now c.self.view_is c.requires.2 c.requires.3 (c.take.ensures.beyond.0 c.in-Beyond.is)

@@ -5,15 +5,15 @@ use Rattle.lapi_task.proofs.CopyLaws.{popped-is, found-put, no-put, copyable, co
 use Rattle.lapi_task.proofs.Lists.{on-ok}
 use Rattle.lapi_task.proofs.task.Task.copy_next.Goals as goal
 
-pub returns-in_default-put_at-clause-stands : goal.returns-in_default-put_at-clause-stands
-returns-in_default-put_at-clause-stands c = λ t r i rest h.
+pub unreachable-requires-in_default-put_at : goal.unreachable-requires-in_default-put_at
+unreachable-requires-in_default-put_at c =
+    let t = c.requires.next.0 in
+    let r = c.requires.next.1 in
+    let i = c.requires.next.2 in
+    let rest = c.requires.next.3 in
+    let h = c.requires.next.4 in
     let pop = popped-is c.pop_front.result c.args.self.now.uncopied.items c.pop_front.new.self.items rest c.in-Some.i i c.pop_front.ensures.items c.in-Some.is h.first in
-    absurd (no-put c.args.script.now c.requires.script t c.args.self.now r i rest h c.args.self.now.number c.in-Some.i c.put_at.result h.stands.holds.number pop.0 c.put_at.ensures c.in_default-put_at.is)
-
-pub returns-in_default-put_at-clause-event : goal.returns-in_default-put_at-clause-event
-returns-in_default-put_at-clause-event c = λ t r i rest h.
-    let pop = popped-is c.pop_front.result c.args.self.now.uncopied.items c.pop_front.new.self.items rest c.in-Some.i i c.pop_front.ensures.items c.in-Some.is h.first in
-    absurd (no-put c.args.script.now c.requires.script t c.args.self.now r i rest h c.args.self.now.number c.in-Some.i c.put_at.result h.stands.holds.number pop.0 c.put_at.ensures c.in_default-put_at.is)
+    no-put c.args.script.now c.requires.script t c.args.self.now r i rest h c.args.self.now.number c.in-Some.i c.put_at.result h.stands.holds.number pop.0 c.put_at.ensures c.in_default-put_at.is
 
 pub copy-requires : goal.copy-requires
 copy-requires c =

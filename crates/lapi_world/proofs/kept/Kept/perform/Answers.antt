@@ -1,5 +1,19 @@
-use Rattle.lapi_world.proofs.Acts.{no-other}
+use Rattle.std.proofs.Common.{refl, inl, inr}
+use Rattle.lapi_base.specs.Built.{is_built_act}
+use Rattle.lapi_world.proofs.Acts.{unbuilt}
 use Rattle.lapi_world.proofs.kept.Kept.perform.Goals as goal
 
-pub returns-in_default : goal.returns-in_default
-returns-in_default c = absurd (no-other c.args.script.now c.args.act.now c.requires.act.1 c.in_default.not-Step c.in_default.not-Poll c.in_default.not-Tick c.in_default.not-Deliver)
+-- none of these forms is built
+pub unreachable-requires : goal.unreachable-requires
+unfolding is_built_act
+unreachable-requires c =
+    elim c.in-Cut.is [
+      | inl cut ↦ unbuilt c.args.script.now _ _ c.requires.act.1 refl cut.4
+      | inr rest ↦ elim rest [
+        | inl inject ↦ unbuilt c.args.script.now _ _ c.requires.act.1 refl inject.3
+        | inr jobs ↦ elim jobs [
+          | inl begin ↦ unbuilt c.args.script.now _ _ c.requires.act.1 refl begin.2
+          | inr end ↦ unbuilt c.args.script.now _ _ c.requires.act.1 refl end.2
+        ]
+      ]
+    ]
