@@ -126,8 +126,8 @@ least_missing-is (suc n) p b all lacks le =
     (cases_lt b (suc n))
 
 -- The least number that a set lacks is the same, whichever bound of the set it is looked for below.
-pub lacks : (n : ℕ) (p : ℕ → Bool) → ((k : ℕ) → p k ≡ true → k < n) → p (least_missing n p) ≡ false
-lacks n p h =
+pub least_missing-lacks : (n : ℕ) (p : ℕ → Bool) → ((k : ℕ) → p k ≡ true → k < n) → p (least_missing n p) ≡ false
+least_missing-lacks n p h =
     ⊎_elim
     (λ (lt : least_missing n p < n). least_missing-not n p lt)
     (λ (ge : n ≤ least_missing n p). false_from_ne_true _ (λ yes. let b : least_missing n p < n = h (least_missing n p) yes in absurd (omega arith)))
@@ -135,8 +135,8 @@ lacks n p h =
 
 pub least_missing-same : (n m : ℕ) (p : ℕ → Bool) → ((k : ℕ) → p k ≡ true → k < n) → ((k : ℕ) → p k ≡ true → k < m) → least_missing n p ≡ least_missing m p
 least_missing-same n m p h g =
-    let one : least_missing n p ≤ least_missing m p = least_missing-least n p (least_missing m p) (lacks m p g) in
-    let two : least_missing m p ≤ least_missing n p = least_missing-least m p (least_missing n p) (lacks n p h) in
+    let one : least_missing n p ≤ least_missing m p = least_missing-least n p (least_missing m p) (least_missing-lacks m p g) in
+    let two : least_missing m p ≤ least_missing n p = least_missing-least m p (least_missing n p) (least_missing-lacks n p h) in
     omega arith
 
 -- the numbers that `below` lists

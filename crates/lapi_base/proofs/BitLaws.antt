@@ -77,7 +77,7 @@ all_bits n word h =
     eq-eqb word (2 ^ n - 1)
     (same_from_bits_below n word (2 ^ n - 1) h (omega (arith, pow_pos n)) (λ k l. one_bit word k (every_below-at n (has_bit word) k e l) ∙ sym (bit_at_ones n k l))))
 
-no_bit : (n i : ℕ) → (has_bit n i ≡ true → ⊥) → bit_at n i ≡ 0
+pub no_bit : (n i : ℕ) → (has_bit n i ≡ true → ⊥) → bit_at n i ≡ 0
 no_bit n i h =
     ⊎_elim
     (λ (e : bit_at n i ≡ 1). absurd (h (has_bit-true n i e)))

@@ -1,7 +1,5 @@
 pub mod Chunks
 pub mod Lookups
-pub mod LowBits
-pub mod NameLaws
 pub mod PartialLaws
 pub mod PutLaws
 pub mod Rooms

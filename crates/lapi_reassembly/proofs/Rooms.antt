@@ -9,9 +9,9 @@ use Rattle.std.proofs.lemmas.Map.Made.{length-le_from_is_member}
 use Rattle.slab.specs.Slab.{Slab, get, values, slab_len}
 use Rattle.lapi_base.specs.declared.message.MsgName.{MsgName}
 use Rattle.lapi_base.specs.Names.{name_eq}
+use Rattle.lapi_base.proofs.NameLaws.{name_eq-false, name_eq-refl, name_eq-true}
 use Rattle.lapi_reassembly.specs.Partial.{Gathered}
 use Rattle.lapi_reassembly.specs.Partials.{Gathering, found, partial, is_there, HasRoom, IsGathering}
-use Rattle.lapi_reassembly.proofs.NameLaws.{name_eq-refl, name_eq-true, name_eq-false}
 use Rattle.lapi_reassembly.proofs.Lookups.{names_of, length-kept, same_some}
 use Rattle.lapi_reassembly.proofs.PutLaws.{is_found}
 

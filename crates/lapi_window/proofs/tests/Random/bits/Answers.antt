@@ -2,7 +2,7 @@ use Rattle.std.proofs.Common.{◌≡◌, ℕ, ◌*◌, ◌%◌, ◌^◌, ◌<◌
 use Rattle.std.proofs.lemmas.Bool.{cases_lt, both_ways}
 use Rattle.std.proofs.lemmas.Nat.{one_shl, pow_pos, and_le_l}
 use Rattle.lapi_base.specs.Below.{has_bit}
-use Rattle.lapi_window.proofs.BitLaws.{has_bit-above}
+use Rattle.lapi_base.proofs.BitLaws.{has_bit-above}
 use Rattle.lapi_window.proofs.tests.Random.bits.Goals as goal
 
 -- a number below 2 ^ k has its bits below k
