@@ -19,7 +19,7 @@ use Rattle.lapi_base.specs.declared.head.NoteOp.TheVariants as notes
 use Rattle.lapi_base.specs.declared.event.Event.{Event}
 use Rattle.lapi_base.specs.Form.{Done, ◌>>=◌, bytes_form, IsSpelled}
 use Rattle.lapi_base.specs.Fragments.{fragments_in}
-use Rattle.lapi_base.specs.Layout.{First, unit_of, longest_of, window_of}
+use Rattle.lapi_base.specs.Layout.{First, unit_of}
 use Rattle.lapi_base.specs.Heads.{is_operation, operation_form, head_form}
 use Rattle.lapi_base.specs.Spelling.{task_form, kind_form, front_form, acknowledgement_form, is_leg, leg_of, leg_form, name_form, is_length, length_form, fragments, fragment_form, fragment_size, data_form, packet_form, Spells}
 use Rattle.lapi_base.specs.Written as written
@@ -33,8 +33,10 @@ use Rattle.lapi_base.specs.Valid.{IsByte, ValidScript, ValidRules, ValidStatemen
 use Rattle.lapi_base.specs.Seen.{HoldsOfRecords}
 use Rattle.lapi_base.specs.Entries.{GoesFrom, carried, IsOfNumber, PacketsArePlaced, PacketsAreSpelled, PacketsAreWritten}
 use Rattle.lapi_base.specs.Handlers.{answers}
-use Rattle.lapi_laws.proofs.Deeds.{eqb-refl}
-use Rattle.lapi_laws.proofs.Out.{all-get, out-copied}
+use Rattle.lapi_base.proofs.ListLaws.{all-get}
+use Rattle.lapi_base.proofs.TestLaws.{eqb-refl}
+use Rattle.lapi_laws.proofs.Still.{copied-ends}
+use Rattle.lapi_laws.proofs.Out.{out-copied}
 use Rattle.lapi_laws.proofs.Backward.{there}
 use Rattle.lapi_laws.proofs.Lines.{SoundRun}
 use Rattle.lapi_laws.proofs.Shorts.{statements-few, numbers-few, copied-short, copied-few}
@@ -249,21 +251,8 @@ counts-same : (script : Script) → ValidScript script → (m : MsgName) → fra
 unfolding fragment_count
 counts-same script valid m = let n = message_length script m in let e : max 1 ((n + 255) / 256) ≡ max (n / 256 + min 1 (n % 256)) 1 = omega arith in ap (λ u. fragments_in u n) (first-unit script valid) ∙ e
 
-ends-small : (script : Script) (answers : Bool) (a d : ℕ) (leg : Leg) (s : Statement) → a < script.tasks → d < script.tasks → has_leg script answers a leg s ≡ true → (from_by a d leg < script.tasks) × (to_by a d leg < script.tasks)
-ends-small script ans a d Go s la ld h = (la, ld)
-ends-small script ans a d Back s la ld h = (ld, la)
-ends-small script ans a d Note s la ld h = (ld, la)
-ends-small script ans a d Echo s la ld h = (ld, la)
-ends-small script ans a d (Join e) s la ld h = (la, ltb-true e script.tasks (and_parts (nat_lt e script.tasks) (not (e == a)) (and_parts (has_join s) (nat_lt e script.tasks && not (e == a)) h).1).0)
-
 module _ (script : Script) (rules : Rules) (valid : ValidScript script) (few : ValidRules rules) where
-  -- each message that was copied goes between tasks that there are
-  pub copied-ends : (J : List Event) (m : MsgName) → Atomic script rules J → done (Copied m) J ≡ true → (sender script m < script.tasks) × (receiver script m < script.tasks)
-  copied-ends J m h d =
-      let is = and_parts _ _ (there script rules (Copied m) J h d) in
-      ends-small script (answers script rules m.origin m.statement) m.origin (target script m.origin m.statement) m.leg (statement script m.origin m.statement) (ltb-true m.origin script.tasks (and_parts (nat_lt m.origin script.tasks) (nat_lt m.statement (length (statements script m.origin))) is.0).0) (copied-accepted script rules J m h d).target is.1
-
-  -- its length and its head keep their rules
+  -- a message's length and its head keep their rules
   size-kept : (m : MsgName) → has_leg script (answers script rules m.origin m.statement) m.origin m.leg (statement script m.origin m.statement) ≡ true → Accepted script rules (target script m.origin m.statement) (statement script m.origin m.statement) → is_length First m.leg (written.head_number (head_by script m m.leg (statement script m.origin m.statement))) (message_length script m) ≡ true
   unfolding message_length
   size-kept m g f = length-kept script rules valid few m m.leg (statement script m.origin m.statement) g f
@@ -288,7 +277,7 @@ module _ (script : Script) (rules : Rules) (valid : ValidScript script) (few : V
       let leg = is.1 in
       let fine = copied-accepted script rules J m h c in
       let tasks : script.tasks ≤ 8 = valid.tasks.1 in
-      let ends = copied-ends J m h c in
+      let ends = copied-ends script rules J m h c in
       let from : sender script m < script.tasks = ends.0 in
       let to : receiver script m < script.tasks = ends.1 in
       let own : a < script.tasks = ltb-true a script.tasks place.0 in
@@ -337,7 +326,7 @@ module _ (script : Script) (rules : Rules) (valid : ValidScript script) (few : V
   unfolding data_packet packet-from packet-to
   wire-placed r a b (Data p) s of told =
       let copied = out-copied script r.journal a b p.seq (p.name, p.fragment) of.0 in
-      let ends = copied-ends r.journal p.name s.atomic copied.0 in
+      let ends = copied-ends script rules r.journal p.name s.atomic copied.0 in
       (subst (λ (n : ℕ). n < script.tasks) copied.1 ends.0, subst (λ (n : ℕ). n < script.tasks) copied.2 ends.1, (ap packet-from of.1 ∙ copied.1, ap packet-to of.1 ∙ copied.2))
   wire-placed r a b (Ack from to base bits) s of told = (told.2, told.3, (told.0, told.1))
 

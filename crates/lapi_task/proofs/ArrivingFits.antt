@@ -17,8 +17,7 @@ use Rattle.lapi_base.specs.Packets.{data_packet}
 use Rattle.lapi_base.specs.Receiving.{FitsScript, IsThereInPart}
 use Rattle.lapi_base.specs.Record.{Run, is_delivered}
 use Rattle.lapi_base.specs.Seen.{no_rules, IsRecord}
-use Rattle.lapi_laws.proofs.NumberLaws.{every_below-at}
-use Rattle.lapi_laws.proofs.Out.{all-get, out-copied}
+use Rattle.lapi_laws.proofs.Out.{out-copied}
 use Rattle.lapi_laws.proofs.Shorts.{copied-short}
 use Rattle.lapi_laws.proofs.Sound.{Fits as IsOf}
 use Rattle.lapi_link.specs.Receiver.{is_complete, IsPartOnly, Fits}
@@ -31,6 +30,8 @@ use Rattle.lapi_parts.proofs.Records.{record-sound}
 use Rattle.lapi_task.specs.Performed.{IsPerformed}
 use Rattle.lapi_parts.proofs.FirstLayout.{first-unit, first-longest}
 use Rattle.lapi_base.specs.Valid.{ValidScript}
+use Rattle.lapi_base.proofs.BelowLaws.{every_below-at}
+use Rattle.lapi_base.proofs.ListLaws.{all-get}
 
 payload_in : Packet → List ℕ
 payload_in (Data p) = p.payload
