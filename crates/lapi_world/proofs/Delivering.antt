@@ -13,6 +13,7 @@ use Rattle.lapi_base.specs.Record.{Run, deliver, deliver_entry, hand_over, reply
 use Rattle.lapi_base.specs.Seen.{no_rules, IsRecord, performed}
 use Rattle.lapi_base.specs.Spelling.{packet_form, Spells}
 use Rattle.lapi_base.specs.Written as written
+use Rattle.lapi_base.proofs.ListLaws.{found-at}
 use Rattle.lapi_link.specs.Sender.{SendingEnd}
 use Rattle.lapi_packet.proofs.Answering.{ok_is}
 use Rattle.lapi_packet.proofs.Forms.{answer_spelled}
@@ -24,7 +25,6 @@ use Rattle.lapi_task.specs.StandsFor.{SenderAt}
 use Rattle.lapi_world.specs.declared.kept.Kept.{Kept}
 use Rattle.lapi_world.specs.Stands.{TaskAt, Stands}
 use Rattle.lapi_world.proofs.Acts.{task-read, performed-deliver}
-use Rattle.lapi_world.proofs.Lists.{found-at}
 
 module _ (script : Script) where
   deliver-none : (r : Run) (a b k : ℕ) → slice_get (r.wire a b) k ≡ None → performed script no_rules r (Deliver a b k) ≡ reply_with script no_rules r Absent

@@ -5,7 +5,7 @@ use Rattle.lapi_base.specs.declared.schedule.Line.{Line}
 use Rattle.lapi_base.specs.Built.{is_built_act}
 use Rattle.lapi_base.specs.Spelling.{spells_packet}
 use Rattle.lapi_base.specs.Valid.{ValidLine}
-use Rattle.lapi_laws.proofs.NumberLaws.{all-append}
+use Rattle.lapi_base.proofs.ListLaws.{all-append}
 use Rattle.lapi_world.proofs.tests.schedule_of.Goals as goal
 
 pub loop-plan-preserved : goal.loop-plan-preserved

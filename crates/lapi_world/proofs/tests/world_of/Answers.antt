@@ -1,6 +1,6 @@
 use Rattle.std.proofs.Common.{◌≡◌, [], length, false, ap, ◌∙◌}
 use Rattle.lapi_base.specs.Seen.{Seen, no_rules}
-use Rattle.lapi_world.proofs.Lists.{if-ok}
+use Rattle.lapi_base.proofs.Results.{if-ok}
 use Rattle.lapi_world.proofs.tests.world_of.Goals as goal
 
 pub new-requires-clause-schedule : goal.new-requires-clause-schedule
