@@ -1,12 +1,16 @@
 -- The numbers that packets have, and the least that none of them has.
-use Rattle.std.proofs.Common.{◌≡◌, ℕ, suc, ◌<◌, ◌≤◌, ◌==◌, max, true, false, ◌||◌, List, [], ◌∷◌, ◌++◌, ⊎_elim, arith, ◌^◌}
+use Rattle.std.proofs.Common.{◌≡◌, ℕ, suc, ◌<◌, ◌≤◌, ◌==◌, max, true, false, ◌||◌, List, [], ◌∷◌, ◌++◌, ⊎_elim, arith, ◌^◌, Some}
 use Rattle.std.specs.List.{list_any}
 use Rattle.std.proofs.lemmas.Bool.{false≢true, eqb-true, or_cases, cases_lt, false_from_ne_true}
 use Rattle.std.proofs.lemmas.List.Folds.{list_any-append}
+use Rattle.std.specs.Prelude.{slice_get}
 use Rattle.lapi_base.specs.declared.packet.Packet.{Packet}
 use Rattle.lapi_base.specs.declared.packet.Packet.TheVariants.{Data, Ack}
 use Rattle.lapi_base.specs.Record.{is_number, has_number, base}
-use Rattle.lapi_base.specs.Arrived.{number_bound, least_number}
+use Rattle.lapi_base.specs.declared.packet.DataPacket.{DataPacket}
+use Rattle.lapi_base.specs.Arrived.{has_some, is_part_of, number_bound, least_number}
+use Rattle.lapi_base.proofs.ListLaws.{any-get}
+use Rattle.lapi_base.proofs.NameLaws.{name_eq-refl}
 use Rattle.lapi_base.proofs.BelowLaws.{least_missing-not, least_missing-least}
 
 pub number-append : (xs ys : List Packet) (n : ℕ) → has_number (xs ++ ys) n ≡ (has_number xs n || has_number ys n)
@@ -38,3 +42,8 @@ least-absent ps =
 pub least-small : (ps : List Packet) → ((n : ℕ) → has_number ps n ≡ true → n < 2 ^ 22) → least_number ps ≤ 2 ^ 22
 unfolding least_number
 least-small ps few = least_missing-least (number_bound ps) (has_number ps) (2 ^ 22) (false_from_ne_true _ (λ there. let l : 2 ^ 22 < 2 ^ 22 = few (2 ^ 22) there in absurd (omega arith)))
+
+-- a packet that is there is one of its message
+pub some-there : (ps : List Packet) (k : ℕ) (p : DataPacket) → slice_get ps k ≡ Some (Data p) → has_some ps p.name ≡ true
+unfolding has_some
+some-there ps k p at = any-get (is_part_of p.name) ps k (Data p) at (name_eq-refl p.name)

@@ -16,7 +16,6 @@ use Rattle.lapi_base.proofs.UptoLaws.{length-over, over-at}
 use Rattle.lapi_collect.specs.declared.rounds.Round.{Round}
 use Rattle.lapi_collect.specs.Rounds.{Joins, joined, is_complete, joined_in, joins_of, IsRound, AreRounds}
 
-
 pub length-joins : (tasks : ℕ) (rows : List Round) → length (joins_of tasks rows).rounds ≡ length rows
 unfolding joins_of
 length-joins tasks rows = length-map rows (λ r. map (joined_in r) (upto tasks))

@@ -11,7 +11,6 @@ use Rattle.lapi_collect.specs.FlagWords.{is_in, IsLeastBetween}
 use Rattle.lapi_collect.specs.Outstanding.{is_open, flags_of, IsLeast, IsOutstanding}
 use Rattle.lapi_collect.proofs.Flags.{inserted, removed}
 
-
 zero_at : (room i : ℕ) → get_or {A = ℕ} (replicate room 0) i 0 ≡ 0
 zero_at room i =
     ⊎_elim

@@ -10,7 +10,7 @@ use Rattle.lapi_base.specs.declared.packet.Packet.TheVariants.{Data, Ack}
 use Rattle.lapi_base.specs.declared.packet.DataPacket.{DataPacket}
 use Rattle.lapi_base.specs.Names.{name_eq}
 use Rattle.lapi_base.specs.Record.{has_number}
-use Rattle.lapi_base.specs.Arrived.{is_fragment, is_part_of, has_fragment, has_some, payload_of}
+use Rattle.lapi_base.specs.Arrived.{is_fragment, has_fragment, has_some, payload_of}
 use Rattle.lapi_base.proofs.ListLaws.{any-get}
 use Rattle.lapi_base.proofs.NameLaws.{name_eq-refl, name_eq-true}
 use Rattle.lapi_link.specs.Receiver.{packet_of, fragment_at}
@@ -55,10 +55,6 @@ none-found (Data p ∷ ps) m h =
       | false ↦ λ g. none-found ps m g
     ] h
 none-found (Ack from to base bits ∷ ps) m h = none-found ps m h
-
-pub some-there : (ps : List Packet) (k : ℕ) (p : DataPacket) → slice_get ps k ≡ Some (Data p) → has_some ps p.name ≡ true
-unfolding has_some
-some-there ps k p at = any-get (is_part_of p.name) ps k (Data p) at (name_eq-refl p.name)
 
 -- Its fragments.
 pub no-fragment : (ps : List Packet) (m : MsgName) (j : ℕ) → has_some ps m ≡ false → has_fragment ps m j ≡ false

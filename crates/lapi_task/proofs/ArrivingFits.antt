@@ -21,7 +21,7 @@ use Rattle.lapi_laws.proofs.Out.{out-copied}
 use Rattle.lapi_laws.proofs.Shorts.{copied-short}
 use Rattle.lapi_laws.proofs.Sound.{Fits as IsOf}
 use Rattle.lapi_link.specs.Receiver.{is_complete, IsPartOnly, Fits}
-use Rattle.lapi_link.proofs.HeldPackets.{packet-found, some-there}
+use Rattle.lapi_link.proofs.HeldPackets.{packet-found}
 use Rattle.lapi_parts.proofs.ArrivingPackets.{counts-is, length-is, repeats-known}
 use Rattle.lapi_parts.proofs.ExactBytes.{Exact, record-exact}
 use Rattle.lapi_parts.proofs.InReach.{packets-in-reach}
@@ -32,6 +32,7 @@ use Rattle.lapi_parts.proofs.FirstLayout.{first-unit, first-longest}
 use Rattle.lapi_base.specs.Valid.{ValidScript}
 use Rattle.lapi_base.proofs.BelowLaws.{every_below-at}
 use Rattle.lapi_base.proofs.ListLaws.{all-get}
+use Rattle.lapi_base.proofs.PacketNumbers.{some-there}
 
 payload_in : Packet → List ℕ
 payload_in (Data p) = p.payload

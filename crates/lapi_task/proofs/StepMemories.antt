@@ -10,7 +10,7 @@ use Rattle.lapi_base.specs.Values.{Write, values, memory_bytes, byte_after, writ
 use Rattle.lapi_base.proofs.TestLaws.{eqb-refl}
 use Rattle.lapi_base.proofs.UptoLaws.{is-over, length-over, over-at, over-same}
 use Rattle.lapi_memory.specs.TaskMemory.{written}
-use Rattle.lapi_memory.proofs.Writes.{byte_written}
+use Rattle.lapi_base.proofs.MemoryLaws.{byte_written}
 
 -- the bytes that are read are those of the places
 pub read-over : (f : ℕ → ℕ) (size at len : ℕ) → at + len ≤ size → take len (drop at (map f (upto size))) ≡ map (λ k. f (at + k)) (upto len)
