@@ -24,14 +24,14 @@ use Rattle.lapi_base.specs.Refusals.{next, why}
 use Rattle.lapi_base.specs.Jobs.{queue, runs}
 use Rattle.lapi_base.specs.Packets.{data_packet}
 use Rattle.lapi_base.specs.Layout.{holds_back}
-use Rattle.lapi_base.specs.Record.{Run, start, out, has_number, packet_of, packets, ready, fresh, stale, copy_each, followed, arrival, ack, owed_ack, sends, at_once, with_handed, hand_over, deliver_entry, deliver, reply_with, unless_refused, add_event, step, poll, tick, begin_first, begin_at, begin, end_at, end, after_end, cut_entry, perform, after, run_of}
+use Rattle.lapi_base.specs.Record.{Run, start, out, has_number, packet_of, packets, ready, fresh, stale, copy_each, followed, arrival, ack, owed_ack, sends, at_once, with_handed, hand_over, deliver_entry, deliver, reply_with, unless_refused, add_event, step, poll, tick, begin_first, begin_at, begin, end_at, end, after_end, cut_entry, perform, run_of}
 use Rattle.lapi_base.specs.Atomic.{Atomic}
 use Rattle.lapi_base.specs.Valid.{ValidAct}
 use Rattle.lapi_base.specs.Headline.{HoldsOfAtomic}
 use Rattle.lapi_base.specs.Seen.{HoldsOfRecords}
 use Rattle.lapi_base.specs.Entries.{carried, CarriedIsFixed, IsOfNumber, PutAreOfNumber, HandedAreOfNumber}
 use Rattle.lapi_base.proofs.ListLaws.{all-any, all-append, all-flat_map, all-get}
-use Rattle.lapi_base.proofs.NameLaws.{done-later, name_eq-true}
+use Rattle.lapi_base.proofs.NameLaws.{name_eq-true}
 use Rattle.lapi_base.proofs.EveryRun.{after-keeps}
 use Rattle.lapi_base.proofs.NameLaws.{done-grown}
 use Rattle.lapi_laws.proofs.Out.{out-copied}

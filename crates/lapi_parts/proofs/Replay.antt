@@ -13,7 +13,7 @@ use Rattle.lapi_base.specs.declared.message.Leg.TheVariants.{Go, Back, Note, Ech
 use Rattle.lapi_base.specs.declared.message.MsgName.{MsgName}
 use Rattle.lapi_base.specs.declared.event.Event.{Event}
 use Rattle.lapi_base.specs.declared.event.Event.TheVariants.{Issue, Refuse, Enter, Pass, Copy, Head, Land, Begin, End}
-use Rattle.lapi_base.specs.Names.{message, name_eq, Deed, Copied, Landed, done}
+use Rattle.lapi_base.specs.Names.{message, name_eq, Copied, Landed, done}
 use Rattle.lapi_base.specs.Operations.{upto, statement, target, from_by, to_by, sender, receiver, is_am, is_rmw, has_back, fragment_count}
 use Rattle.lapi_base.specs.Handlers.{number_of, word_bytes, buffer, effect_of, answer_of, answer_pieces}
 use Rattle.lapi_base.specs.Values.{Memories, Write, Values, gathered, scattered, byte_after, new_word, at_target, at_origin, land_writes, store_writes, writes, with_bytes, land_bytes, source_by, bytes_after, held_after, values}
@@ -28,7 +28,7 @@ use Rattle.lapi_base.proofs.NameLaws.{done-head, done-later, name_eq-true}
 use Rattle.lapi_base.proofs.TestLaws.{eqb-refl}
 use Rattle.lapi_base.proofs.NameLaws.{done-grown}
 use Rattle.lapi_laws.proofs.Once.{atomic-end}
-use Rattle.lapi_laws.proofs.Backward.{Atomic-head, Atomic-tail}
+use Rattle.lapi_laws.proofs.Backward.{Atomic-head}
 use Rattle.lapi_laws.proofs.Sound.{Fits, landed-copied, before}
 use Rattle.lapi_laws.proofs.Lines.{SoundRun}
 use Rattle.lapi_parts.proofs.ExactBytes.{ExactRun, stays, stays-grown}

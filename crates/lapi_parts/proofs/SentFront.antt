@@ -1,7 +1,7 @@
 -- The numbers of a link go out in order: those that were sent are all below some bound.
 use Rattle.std.proofs.Common.{◌≡◌, ℕ, zero, suc, ◌+◌, ◌-◌, min, map, ◌<◌, ◌≤◌, ◌==◌, Bool, true, false, cond, ◌&&◌, ◌||◌, not, List, [], ◌∷◌, ◌++◌, length, Option, Some, None, refl, sym, ap, ◌∙◌, subst, ⊎_elim, arith, inl, inr}
 use Rattle.std.specs.Prelude.{slice_get, nat_lt}
-use Rattle.std.specs.List.{AllByRecursion, list_any, flat_map}
+use Rattle.std.specs.List.{list_any, flat_map}
 use Rattle.std.proofs.lemmas.Bool.{false≢true, and_parts, and_from, cond_both, eqb-true, eq-eqb, or_cases, or_left, or_right, lt-ltb, ltb-true, cases_lt, cases_Bool, cond-true, cond-false, le-ltb, ltb-false, both_ways, false_from_ne_true}
 use Rattle.std.proofs.lemmas.List.Concat.{flat_map-cons}
 use Rattle.std.proofs.lemmas.List.{map-append}
@@ -21,11 +21,11 @@ use Rattle.lapi_base.specs.Operations.{upto, statements}
 use Rattle.lapi_base.specs.Refusals.{next, why}
 use Rattle.lapi_base.specs.Jobs.{queue, runs}
 use Rattle.lapi_base.specs.Packets.{data_packet}
-use Rattle.lapi_base.specs.Record.{Run, start, out, is_number, has_number, is_sent, is_acked, base, packet_of, packets, ready, fresh, stale, copy_each, ack, sends, at_once, with_handed, hand_over, deliver_entry, deliver, reply_with, unless_refused, add_event, step, poll, tick, begin_first, begin_at, begin, end_at, end, cut_entry, perform, after, run_of}
+use Rattle.lapi_base.specs.Record.{Run, start, out, has_number, is_sent, is_acked, base, packet_of, packets, ready, fresh, stale, copy_each, ack, sends, at_once, with_handed, hand_over, deliver_entry, deliver, reply_with, unless_refused, add_event, step, poll, tick, begin_first, begin_at, begin, end_at, end, cut_entry, perform, run_of}
 use Rattle.lapi_base.specs.Seen.{HoldsOfRecords}
 use Rattle.lapi_base.specs.Sending.{SentAreFront, SentHaveBound, PollsSendNext}
 use Rattle.lapi_base.proofs.BelowLaws.{below-all, below-has, least_missing-below, least_missing-not}
-use Rattle.lapi_base.proofs.ListLaws.{all-flat_map, any-all, get-some}
+use Rattle.lapi_base.proofs.ListLaws.{get-some}
 use Rattle.lapi_base.proofs.PacketNumbers.{number-append}
 use Rattle.lapi_base.proofs.EveryRun.{after-any}
 use Rattle.lapi_laws.proofs.SentWindow.{packets-number, sends-number, ack-entry}
