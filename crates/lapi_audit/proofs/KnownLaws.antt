@@ -19,7 +19,7 @@ use Rattle.lapi_base.specs.Counters.{is_counter, copy_tells, land_tells, tells, 
 use Rattle.lapi_base.specs.Refusals.{option_any, why, why_by}
 use Rattle.lapi_base.specs.Atomic.{Atomic, Keeps, needs, copy_needs, land_needs, to_follow, to_land, only_if}
 use Rattle.lapi_laws.proofs.Backward.{Atomic-head, Atomic-tail, shown}
-use Rattle.lapi_laws.proofs.NumberLaws.{list_all-each}
+use Rattle.lapi_base.proofs.ListLaws.{list_all-each}
 use Rattle.lapi_laws.proofs.Shorts.{none-tests, last-of}
 
 any-none : {X : Type 0} (p : X → Bool) (xs ys : List X) → list_any p (xs ++ ys) ≡ false → (list_any p xs ≡ false) × (list_any p ys ≡ false)

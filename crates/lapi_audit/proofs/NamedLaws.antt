@@ -18,7 +18,7 @@ use Rattle.lapi_base.specs.Handlers.{has_completion}
 use Rattle.lapi_base.specs.Refusals.{why}
 use Rattle.lapi_base.specs.Atomic.{Atomic, Keeps, is_there, has_message, needs, copy_needs, land_needs, to_land, only_if}
 use Rattle.lapi_base.specs.Valid.{ValidScript}
-use Rattle.lapi_laws.proofs.NumberLaws.{list_all-each}
+use Rattle.lapi_base.proofs.ListLaws.{list_all-each}
 use Rattle.lapi_laws.proofs.Shorts.{last-of}
 use Rattle.lapi_calls.specs.Places.{task_of, statement_of}
 use Rattle.lapi_calls.specs.Setting.{completes, target_by}

@@ -16,7 +16,7 @@ use Rattle.lapi_base.specs.Operations.{statements, statement, has_leg, is_am}
 use Rattle.lapi_base.specs.Handlers.{answers}
 use Rattle.lapi_base.specs.Atomic.{is_there, has_statement, has_message}
 use Rattle.lapi_base.specs.Valid.{ValidScript}
-use Rattle.lapi_laws.proofs.Deeds.{leg_eq-true, done-cons}
+use Rattle.lapi_base.proofs.NameLaws.{leg_eq-true, done-cons}
 use Rattle.lapi_audit.specs.declared.operation.Transit.{Transit}
 use Rattle.lapi_audit.specs.declared.operation.Operation.{Operation}
 use Rattle.lapi_audit.specs.Noted.{still, blank, transit_of, with_transit, noted, after, JoinIsBelow, HasJoinBelow, operation, with_operation, noted_in, stood, HasStates, OperationsStand}

@@ -13,7 +13,7 @@ use Rattle.lapi_base.specs.Counters.{count}
 use Rattle.lapi_base.specs.Jobs.{landed_jobs, queue, runs}
 use Rattle.lapi_base.specs.Refusals.{next}
 use Rattle.lapi_base.specs.Valid.{ValidScript}
-use Rattle.lapi_laws.proofs.Deeds.{done-nil}
+use Rattle.lapi_base.proofs.NameLaws.{done-nil}
 use Rattle.lapi_audit.specs.declared.operation.Operation.{Operation}
 use Rattle.lapi_audit.specs.declared.operation.Transit.{Transit}
 use Rattle.lapi_audit.specs.Counts.{CountsStand}

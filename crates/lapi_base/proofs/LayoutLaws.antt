@@ -1,6 +1,7 @@
 -- What a layout sets, by its number.
-use Rattle.std.proofs.Common.{◌≡◌, ℕ, ◌==◌, true, false, cond, refl}
-use Rattle.lapi_base.specs.Layout.{First, Second, layout_of, longest, longest_active, has_echo, most_lines, most_injected}
+use Rattle.std.proofs.Common.{◌≡◌, ℕ, ◌<◌, lit<, ◌==◌, true, false, cond, refl}
+use Rattle.lapi_base.specs.declared.script.Script.{Script}
+use Rattle.lapi_base.specs.Layout.{Layout, First, Second, layout_of, window, window_of, longest, longest_active, has_echo, most_lines, most_injected}
 
 pub longest_by : (n : ℕ) → longest (layout_of n) ≡ cond (n == 2) 65536 16384
 longest_by n = elim (n == 2) as (λ b. longest (cond b Second First) ≡ cond b 65536 16384) [ true ↦ refl | false ↦ refl ]
@@ -16,3 +17,12 @@ most_lines_by n = elim (n == 2) as (λ b. most_lines (cond b Second First) ≡ c
 
 pub most_injected_by : (n : ℕ) → most_injected (layout_of n) ≡ cond (n == 2) 1280 640
 most_injected_by n = elim (n == 2) as (λ b. most_injected (cond b Second First) ≡ cond b 1280 640) [ true ↦ refl | false ↦ refl ]
+
+-- every layout has a window
+pub window-positive : (script : Script) → 0 < window_of script
+unfolding window_of
+window-positive script = each (layout_of script.layout)
+  where
+    each : (l : Layout) → 0 < window l
+    each First = lit< tt
+    each Second = lit< tt

@@ -8,8 +8,8 @@ use Rattle.lapi_base.specs.declared.statement.Statement.TheVariants.{Store, Gfen
 use Rattle.lapi_base.specs.Operations.{address, target_of, statement, spans, target, is_data}
 use Rattle.lapi_base.specs.Values.{Memories, gathered}
 use Rattle.lapi_base.specs.Landing.{one_span}
-use Rattle.lapi_laws.proofs.Deeds.{eqb-refl}
-use Rattle.lapi_laws.proofs.Out.{all-get}
+use Rattle.lapi_base.proofs.TestLaws.{eqb-refl}
+use Rattle.lapi_base.proofs.ListLaws.{all-get}
 use Rattle.lapi_blocks.specs.declared.plan.Op.{Op}
 use Rattle.lapi_blocks.specs.declared.plan.Op.TheVariants.{Set, Get}
 use Rattle.lapi_blocks.specs.declared.plan.Plan.{Plan}

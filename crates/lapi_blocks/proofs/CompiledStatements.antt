@@ -8,11 +8,11 @@ use Rattle.lapi_base.specs.declared.statement.Statement.{Statement}
 use Rattle.lapi_base.specs.declared.statement.Statement.TheVariants.{Store, Fence, Gfence}
 use Rattle.lapi_base.specs.Below.{below}
 use Rattle.lapi_base.specs.Operations.{upto, statements, statement, is_gfence}
-use Rattle.lapi_laws.proofs.NumberLaws.{below-all}
-use Rattle.lapi_laws.proofs.Deeds.{eqb-refl}
-use Rattle.lapi_laws.proofs.Places.{upto-length}
+use Rattle.lapi_base.proofs.BelowLaws.{below-all}
+use Rattle.lapi_base.proofs.TestLaws.{eqb-refl}
+use Rattle.lapi_base.proofs.UptoLaws.{upto-length}
 use Rattle.lapi_laws.proofs.Turns.{below-place}
-use Rattle.lapi_parts.proofs.SentFront.{get-some}
+use Rattle.lapi_base.proofs.ListLaws.{get-some}
 use Rattle.lapi_blocks.specs.declared.plan.Op.{Op}
 use Rattle.lapi_blocks.specs.declared.plan.Op.TheVariants.{Set, Get}
 use Rattle.lapi_blocks.specs.declared.plan.Plan.{Plan}

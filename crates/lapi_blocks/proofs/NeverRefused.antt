@@ -17,9 +17,9 @@ use Rattle.lapi_base.specs.Layout.{Layout, First, Second, layout_of, longest, lo
 use Rattle.lapi_base.specs.Operations.{upto, address, pieces_of, total, statement, is_gfence}
 use Rattle.lapi_base.specs.Refusals.{first_reason, why_by, why}
 use Rattle.std.proofs.lemmas.List.Sums.{sum_by-cons}
-use Rattle.lapi_laws.proofs.NumberLaws.{below-all}
-use Rattle.lapi_laws.proofs.Places.{upto-length}
-use Rattle.lapi_laws.proofs.Deeds.{eqb-refl}
+use Rattle.lapi_base.proofs.BelowLaws.{below-all}
+use Rattle.lapi_base.proofs.UptoLaws.{upto-length}
+use Rattle.lapi_base.proofs.TestLaws.{eqb-refl}
 use Rattle.lapi_blocks.specs.declared.plan.Op.{Op}
 use Rattle.lapi_blocks.specs.declared.plan.Op.TheVariants.{Set, Get}
 use Rattle.lapi_blocks.specs.declared.plan.Plan.{Plan}

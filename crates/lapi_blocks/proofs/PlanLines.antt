@@ -19,14 +19,14 @@ use Rattle.lapi_base.specs.Spelling.{refusal}
 use Rattle.lapi_base.specs.Written.{packet_size}
 use Rattle.lapi_base.specs.Refusals.{next}
 use Rattle.lapi_base.specs.Record.{Run, start, out, has_number, joins, to_copy_of, ready, after, run_of}
-use Rattle.lapi_laws.proofs.Deeds.{done-nil}
-use Rattle.lapi_laws.proofs.Lines.{SoundRun, all-flat_map, all-any}
+use Rattle.lapi_base.proofs.NameLaws.{done-nil}
+use Rattle.lapi_laws.proofs.Lines.{SoundRun}
+use Rattle.lapi_base.proofs.ListLaws.{all-flat_map, all-any, get-some}
 use Rattle.lapi_laws.proofs.Runs.{start-sound}
 use Rattle.lapi_laws.proofs.Follows.{Owes, after-owes}
 use Rattle.lapi_base.specs.Operations.{upto, statements, statement, is_am, target_of, sender, receiver, is_data, has_join, has_leg, cmpl_counter, length_by, message_length, fragment_count}
 use Rattle.lapi_laws.proofs.Places.{place-below}
 use Rattle.lapi_laws.proofs.Still.{back-data}
-use Rattle.lapi_parts.proofs.SentFront.{get-some}
 use Rattle.lapi_blocks.specs.declared.plan.Op.{Op}
 use Rattle.lapi_blocks.specs.declared.plan.Op.TheVariants.{Set, Get}
 use Rattle.lapi_blocks.specs.declared.plan.Plan.{Plan}

@@ -10,8 +10,8 @@ use Rattle.lapi_base.specs.declared.statement.Statement.{Statement}
 use Rattle.lapi_base.specs.declared.statement.Statement.TheVariants.{Gfence}
 use Rattle.lapi_base.specs.Operations.{upto, statements, statement}
 use Rattle.lapi_base.specs.Valid.{IsU32, IsByte, ValidVector, ValidStatement, ValidScript}
-use Rattle.lapi_laws.proofs.NumberLaws.{below-all}
-use Rattle.lapi_laws.proofs.Places.{upto-length}
+use Rattle.lapi_base.proofs.BelowLaws.{below-all}
+use Rattle.lapi_base.proofs.UptoLaws.{upto-length}
 use Rattle.lapi_blocks.specs.declared.plan.Op.{Op}
 use Rattle.lapi_blocks.specs.declared.plan.Op.TheVariants.{Set, Get}
 use Rattle.lapi_blocks.specs.declared.plan.Plan.{Plan}

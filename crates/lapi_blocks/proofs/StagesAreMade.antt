@@ -11,7 +11,7 @@ use Rattle.lapi_base.specs.Below.{below}
 use Rattle.lapi_base.specs.Operations.{upto, statement, is_data}
 use Rattle.lapi_base.specs.Values.{gathered}
 use Rattle.lapi_base.specs.Landing.{one_span}
-use Rattle.lapi_laws.proofs.Arrival.{some-same}
+use Rattle.lapi_base.proofs.ListLaws.{some-same}
 use Rattle.lapi_blocks.specs.declared.plan.Op.{Op}
 use Rattle.lapi_blocks.specs.declared.plan.Op.TheVariants.{Set, Get}
 use Rattle.lapi_blocks.specs.declared.plan.Plan.{Plan}

@@ -13,7 +13,7 @@ use Rattle.lapi_base.specs.Below.{below}
 use Rattle.lapi_base.specs.Operations.{upto, address, shifted, pieces_of, spans}
 use Rattle.lapi_base.specs.Values.{Memories, gathered}
 use Rattle.std.specs.List.{AllByRecursion}
-use Rattle.lapi_laws.proofs.NumberLaws.{below-all}
+use Rattle.lapi_base.proofs.BelowLaws.{below-all}
 use Rattle.lapi_epochs.specs.Stages.{covers}
 use Rattle.lapi_blocks.specs.Plans.{byte_at}
 use Rattle.lapi_epochs.proofs.GatheredPieces.{in_piece, in_piece-at, covers-cons, line-same}

@@ -4,7 +4,7 @@ use Rattle.std.specs.Prelude.{nat_lt, slice_get}
 use Rattle.std.proofs.lemmas.Bool.{and_parts, and_from, both_ways, cond_both, eqb-true, cases_lt, cases_eq, cases_Bool, ltb-true, lt-ltb, le-ltb, or_left}
 use Rattle.std.proofs.lemmas.Nat.{div_below, mod_below}
 use Rattle.lapi_base.specs.declared.span.Span.{Span}
-use Rattle.lapi_laws.proofs.Deeds.{eqb-refl}
+use Rattle.lapi_base.proofs.TestLaws.{eqb-refl}
 use Rattle.lapi_blocks.specs.declared.plan.Op.{Op}
 use Rattle.lapi_blocks.specs.declared.plan.Plan.{Plan}
 use Rattle.lapi_epochs.specs.Epochs.{epoch, Has}

@@ -5,8 +5,8 @@ use Rattle.std.proofs.lemmas.Nat.Bits.{bit_at-trailing_zeros}
 use Rattle.std.proofs.lemmas.List.{get_or-set_same, get_or-set_other}
 use Rattle.std.proofs.lemmas.Bool.{eq-eqb, ne_eqb, cases_eq, cases_lt}
 use Rattle.lapi_base.specs.Below.{has_bit}
+use Rattle.lapi_base.proofs.BitLaws.{has_bit-clear, has_bit-false, has_bit-set, has_bit-true, has_bit-zero}
 use Rattle.lapi_collect.specs.FlagWords.{is_in, IsLeastBetween}
-use Rattle.lapi_collect.proofs.Bits.{has_bit-set, has_bit-clear, has_bit-zero, has_bit-true, has_bit-false}
 
 -- in one word, numbers are told apart by their bits
 same_word : (k n : ℕ) → k / 64 ≡ n / 64 → (k % 64 == n % 64) ≡ (k == n)

@@ -10,10 +10,11 @@ use Rattle.std.proofs.lemmas.List.{length-map, length-set, get_or-map, get_or_pa
 use Rattle.std.proofs.lemmas.List.Elements.{All-set, All-replicate}
 use Rattle.lapi_base.specs.Below.{has_bit}
 use Rattle.lapi_base.specs.Operations.{upto}
+use Rattle.lapi_base.proofs.BelowLaws.{every_below-at, every_below-same}
+use Rattle.lapi_base.proofs.BitLaws.{all_bits, has_bit-set, has_bit-zero}
+use Rattle.lapi_base.proofs.UptoLaws.{length-over, over-at}
 use Rattle.lapi_collect.specs.declared.rounds.Round.{Round}
 use Rattle.lapi_collect.specs.Rounds.{Joins, joined, is_complete, joined_in, joins_of, IsRound, AreRounds}
-use Rattle.lapi_collect.proofs.Bits.{has_bit-set, has_bit-zero, every_below-at, every_below-same, all_bits}
-use Rattle.lapi_collect.proofs.Upto.{length_map_upto, get_or_map_upto}
 
 pub length-joins : (tasks : ℕ) (rows : List Round) → length (joins_of tasks rows).rounds ≡ length rows
 unfolding joins_of
@@ -25,7 +26,7 @@ row_at tasks rows r row lt = get_or-map (λ x. map (joined_in x) (upto tasks)) r
 
 pub joined_at : (tasks : ℕ) (rows : List Round) (t r : ℕ) (row : Round) → t < tasks → r < length rows → joined (joins_of tasks rows) t r ≡ joined_in (get_or rows r row) t
 joined_at tasks rows t r row known lt =
-    ap (λ xs. get_or xs t None) (row_at tasks rows r row lt) ∙ get_or_map_upto (joined_in (get_or rows r row)) tasks t None known
+    ap (λ xs. get_or xs t None) (row_at tasks rows r row lt) ∙ over-at (joined_in (get_or rows r row)) tasks t None known
 
 joined_past : (tasks : ℕ) (rows : List Round) (t r : ℕ) → length rows ≤ r → joined (joins_of tasks rows) t r ≡ None
 joined_past tasks rows t r ge =
@@ -36,7 +37,7 @@ joined_unknown tasks rows t r row ge =
     ⊎_elim
     (λ (lt : r < length rows).
     ap (λ xs. get_or xs t None) (row_at tasks rows r row lt)
-    ∙ get_or_past (map (joined_in (get_or rows r row)) (upto tasks)) t None (let e = length_map_upto (joined_in (get_or rows r row)) tasks in omega arith))
+    ∙ get_or_past (map (joined_in (get_or rows r row)) (upto tasks)) t None (let e = length-over (joined_in (get_or rows r row)) tasks in omega arith))
     (λ (past : length rows ≤ r). joined_past tasks rows t r past)
     (cases_lt r (length rows))
 
@@ -166,5 +167,5 @@ unfolding joins_of
 entry_there tasks task round rows row read known lt complete =
     let there = joined_at tasks rows task round row known lt ∙ ap (λ x. joined_in x task) (sym read) in
     let bit : has_bit row.joined task ≡ true =
-    sym (is_joined (has_bit row.joined task) (get_or row.values task 0)) ∙ sym (ap is_some there) ∙ every_below-at tasks (λ t. is_some (joined (joins_of tasks rows) t round)) complete task known in
+    sym (is_joined (has_bit row.joined task) (get_or row.values task 0)) ∙ sym (ap is_some there) ∙ every_below-at tasks (λ t. is_some (joined (joins_of tasks rows) t round)) task complete known in
     sym (there ∙ ap (λ b. cond b (Some (get_or row.values task 0)) None) bit)

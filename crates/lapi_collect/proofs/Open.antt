@@ -5,11 +5,11 @@ use lib.Dec.{leb}
 use Rattle.std.proofs.lemmas.Bool.{cases_lt, cases_eq, eq-eqb, ne_eqb, le-leb, leb-true, both_ways}
 use Rattle.std.proofs.lemmas.List.{length-set, get_or-set_same, get_or-set_other, get_or_past, ext_get_or, length-replicate, get_or-replicate}
 use Rattle.lapi_base.specs.Below.{has_bit}
+use Rattle.lapi_base.proofs.BitLaws.{has_bit-zero}
+use Rattle.lapi_base.proofs.UptoLaws.{length-over, over-at}
 use Rattle.lapi_collect.specs.FlagWords.{is_in, IsLeastBetween}
 use Rattle.lapi_collect.specs.Outstanding.{is_open, flags_of, IsLeast, IsOutstanding}
-use Rattle.lapi_collect.proofs.Bits.{has_bit-zero}
 use Rattle.lapi_collect.proofs.Flags.{inserted, removed}
-use Rattle.lapi_collect.proofs.Upto.{length_map_upto, get_or_map_upto}
 
 zero_at : (room i : ℕ) → get_or {A = ℕ} (replicate room 0) i 0 ≡ 0
 zero_at room i =
@@ -20,11 +20,11 @@ zero_at room i =
 
 pub length-flags : (n : ℕ) (words : List ℕ) → length (flags_of n words) ≡ n
 unfolding flags_of
-length-flags n words = length_map_upto (is_in words) n
+length-flags n words = length-over (is_in words) n
 
 flag_of : (n : ℕ) (words : List ℕ) (k : ℕ) → k < n → is_open (flags_of n words) k ≡ is_in words k
 unfolding flags_of
-flag_of n words k lt = get_or_map_upto (is_in words) n k false lt
+flag_of n words k lt = over-at (is_in words) n k false lt
 
 pub open_is : (n : ℕ) (words : List ℕ) → ((k : ℕ) → n ≤ k → is_in words k ≡ false) → (k : ℕ) → is_open (flags_of n words) k ≡ is_in words k
 open_is n words known k =

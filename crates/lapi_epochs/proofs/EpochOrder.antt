@@ -16,8 +16,9 @@ use Rattle.lapi_base.specs.Operations.{statements, statement, is_data, is_gfence
 use Rattle.lapi_base.specs.Refusals.{next, gfence_rounds, round_of, first_reason, why_by, why}
 use Rattle.lapi_base.specs.Atomic.{Atomic, Keeps, has_statement, is_issued, is_passed, data_landed}
 use Rattle.lapi_base.specs.Headline.{StandsAfter, HoldsOfAtomic}
-use Rattle.lapi_laws.proofs.NumberLaws.{filter-push, filter-all, below-all, all-weaker}
-use Rattle.lapi_laws.proofs.Deeds.{done-nil, done-cases, done-later, done-head}
+use Rattle.lapi_base.proofs.ListLaws.{filter-push, filter-all, all-weaker}
+use Rattle.lapi_base.proofs.BelowLaws.{below-all}
+use Rattle.lapi_base.proofs.NameLaws.{done-nil, done-cases, done-later, done-head}
 use Rattle.lapi_laws.proofs.Backward.{Atomic-head, Atomic-tail, shown, there, behind, next-later}
 use Rattle.lapi_laws.proofs.Once.{atomic-end}
 use Rattle.lapi_laws.proofs.Fences.{gfence-is, global-fences-wait}

@@ -7,7 +7,7 @@ use Rattle.lapi_base.specs.declared.span.Span.{Span}
 use Rattle.lapi_base.specs.Below.{below}
 use Rattle.lapi_base.specs.Operations.{upto}
 use Rattle.lapi_base.specs.Values.{Memories, gathered, scattered, byte_after}
-use Rattle.lapi_laws.proofs.Places.{upto-length}
+use Rattle.lapi_base.proofs.UptoLaws.{upto-length}
 use Rattle.lapi_epochs.specs.Stages.{covers}
 
 pub upto-nth : (n k : ℕ) → k < n → get_or (upto n) k 0 ≡ k

@@ -22,8 +22,8 @@ use Rattle.lapi_base.specs.Landing.{one_span}
 use Rattle.lapi_base.specs.Entries.{carried}
 use Rattle.lapi_base.specs.Headline.{HoldsOfAtomic}
 use Rattle.lapi_laws.proofs.Lines.{answer-completion}
-use Rattle.lapi_laws.proofs.NumberLaws.{list_all-each}
-use Rattle.lapi_laws.proofs.Deeds.{name_eq-refl, done-nil, done-cases, done-later, done-head}
+use Rattle.lapi_base.proofs.ListLaws.{list_all-each}
+use Rattle.lapi_base.proofs.NameLaws.{name_eq-refl, done-nil, done-cases, done-later, done-head}
 use Rattle.lapi_laws.proofs.Backward.{Atomic-head, Atomic-tail, closed, behind}
 use Rattle.lapi_laws.proofs.Shorts.{last-of}
 use Rattle.lapi_laws.proofs.Sound.{landed-copied}

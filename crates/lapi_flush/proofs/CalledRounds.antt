@@ -25,10 +25,12 @@ use Rattle.lapi_base.specs.Written.{packet_size}
 use Rattle.lapi_base.specs.Refusals.{next, gfence_rounds, round_of, partner, join_landed, joined, why}
 use Rattle.lapi_base.specs.Below.{below}
 use Rattle.lapi_base.specs.Record.{Run, ready, is_acked, all_numbers, data_done, data_clear, event_if, note_of, out, has_number, has_ack, followed, proposed, unless_refused, add_event, reply_with, with_events, step, perform, after}
-use Rattle.lapi_laws.proofs.NumberLaws.{all-append, all-weaker, list_all-at, every_below-from}
+use Rattle.lapi_base.proofs.ListLaws.{all-append, all-weaker, list_all-at}
+use Rattle.lapi_base.proofs.BelowLaws.{every_below-from}
 use Rattle.lapi_laws.proofs.Sound.{implied-from}
 use Rattle.lapi_laws.proofs.Arrival.{all_numbers-from}
-use Rattle.lapi_laws.proofs.Deeds.{eqb-refl, done-nil, done-cases, done-later, done-head}
+use Rattle.lapi_base.proofs.TestLaws.{eqb-refl}
+use Rattle.lapi_base.proofs.NameLaws.{done-nil, done-cases, done-later, done-head}
 use Rattle.lapi_laws.proofs.Lines.{SoundRun}
 use Rattle.lapi_laws.proofs.Still.{back-data}
 use Rattle.lapi_laws.proofs.Turns.{step-sound, below-place}

@@ -22,16 +22,16 @@ use Rattle.lapi_base.specs.Written.{packet_size}
 use Rattle.lapi_base.specs.Record.{Run, out, base, is_number, has_number, is_sent, is_acked, is_delivered, packet_of, packets, fresh, poll, perform, after}
 use Rattle.lapi_base.specs.Atomic.{Atomic}
 use Rattle.lapi_base.specs.Seen.{HoldsOfRecords}
-use Rattle.lapi_laws.proofs.NumberLaws.{all-append, any-all}
-use Rattle.lapi_laws.proofs.Deeds.{eqb-refl}
-use Rattle.lapi_laws.proofs.Out.{get-front, all-get}
-use Rattle.lapi_laws.proofs.Places.{get-right}
+use Rattle.lapi_base.proofs.ListLaws.{all-append, any-all, get-front, all-get, get-right, get-some}
+use Rattle.lapi_base.proofs.TestLaws.{eqb-refl}
 use Rattle.lapi_laws.proofs.Sound.{Fits, known, number-known, acked-delivered}
 use Rattle.lapi_laws.proofs.Lines.{SoundRun, poll-sound}
 use Rattle.lapi_laws.proofs.Told.{IsData, packets-data}
 use Rattle.lapi_parts.proofs.Records.{record-sound}
 use Rattle.lapi_parts.proofs.Replay.{done-later-all}
-use Rattle.lapi_parts.proofs.SentFront.{number-append, get-some, below-has, packets-have}
+use Rattle.lapi_parts.proofs.SentFront.{packets-have}
+use Rattle.lapi_base.proofs.PacketNumbers.{number-append}
+use Rattle.lapi_base.proofs.BelowLaws.{below-has}
 use Rattle.lapi_parts.proofs.HandedPackets.{out-has, out-below, out-unique}
 use Rattle.lapi_flush.specs.Served.{delivers, served, IsAck, AddsAcks, AddsEvents, IsPart, AllNamed}
 use Rattle.lapi_flush.specs.Flushed.{data_count, sum_to, all_data, IsCalm, polled, part_acts, link_acts, flush, IsFlushed, FlushesAreFlushed}

@@ -15,13 +15,13 @@ use Rattle.lapi_base.specs.Jobs.{is_job, queue, runs}
 use Rattle.lapi_base.specs.Record.{Run, out, base, has_number, is_number, is_sent, is_acked, fresh, ready}
 use Rattle.lapi_base.specs.Atomic.{has_statement, has_message}
 use Rattle.lapi_base.specs.Final.{Quiet}
-use Rattle.lapi_laws.proofs.NumberLaws.{any-all, list_all-at}
+use Rattle.lapi_base.proofs.ListLaws.{any-all, list_all-at}
 use Rattle.lapi_laws.proofs.Backward.{there}
 use Rattle.lapi_laws.proofs.Workers.{Waiting, queue-waiting, begun}
 use Rattle.lapi_laws.proofs.Out.{out-copied}
 use Rattle.lapi_laws.proofs.Sound.{Fits, number-known}
 use Rattle.lapi_laws.proofs.Lines.{SoundRun}
-use Rattle.lapi_laws.proofs.Still.{below-empty}
+use Rattle.lapi_base.proofs.BelowLaws.{below-none}
 use Rattle.lapi_epochs.specs.Epochs.{Has}
 use Rattle.lapi_flush.specs.Settled.{IsSettled, HasNoNotes}
 use Rattle.lapi_epochs.proofs.EpochOrder.{has-of}
@@ -60,7 +60,7 @@ module _ (script : Script) (rules : Rules) (plain : (a i : ℕ) → Has script a
   unfolding fresh
   nothing-fresh a b la lb =
       let len = length (out script r.journal a b) in
-      below-empty len (λ n. not (is_sent r a b n) && nat_lt n (base script (record r { journal = r.journal }) a b + window_of script)) (λ n l. and_left _ _ (ap not ((s.calm a b la lb).sent n ∙ lt-ltb n len l)))
+      below-none len (λ n. not (is_sent r a b n) && nat_lt n (base script (record r { journal = r.journal }) a b + window_of script)) (λ n l. and_left _ _ (ap not ((s.calm a b la lb).sent n ∙ lt-ltb n len l)))
 
   -- all that was sent goes between tasks, and is acknowledged
   sent-acked : (a b n : ℕ) → is_sent r a b n ≡ true → is_acked r a b n ≡ true

@@ -25,9 +25,10 @@ use Rattle.lapi_base.specs.Spelling.{refusal}
 use Rattle.lapi_base.specs.Written.{packet_size}
 use Rattle.lapi_base.specs.Record.{followed, Run, out, all_numbers, some_number, note_of, after_land, has_number, has_ack, covers, is_number, is_delivered, is_acked, arrival, ack, with_handed, hand_over, deliver_entry, deliver, reply_with, perform, after}
 use Rattle.lapi_base.specs.Seen.{HoldsOfRecords}
-use Rattle.lapi_laws.proofs.NumberLaws.{least_missing-not, all-append}
-use Rattle.lapi_laws.proofs.Deeds.{eqb-refl}
-use Rattle.lapi_laws.proofs.Out.{get-front, get-back, all-get, out-later}
+use Rattle.lapi_base.proofs.BelowLaws.{least_missing-not}
+use Rattle.lapi_base.proofs.ListLaws.{all-append, get-front, get-back, all-get}
+use Rattle.lapi_base.proofs.TestLaws.{eqb-refl}
+use Rattle.lapi_laws.proofs.Out.{out-later}
 use Rattle.lapi_laws.proofs.Sound.{Fits, known, acked-delivered}
 use Rattle.lapi_laws.proofs.SentWindow.{number-append}
 use Rattle.lapi_laws.proofs.Lines.{SoundRun, deliver-sound}

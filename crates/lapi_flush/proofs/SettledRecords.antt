@@ -19,11 +19,11 @@ use Rattle.lapi_base.specs.Written.{packet_size}
 use Rattle.lapi_base.specs.Record.{Run, out, joins, to_copy_of, ready, after, note_of}
 use Rattle.lapi_base.specs.Atomic.{Atomic, needs, to_land, only_if, has_statement}
 use Rattle.lapi_base.specs.Seen.{record_of, IsRecord, HoldsOfRecords}
-use Rattle.lapi_laws.proofs.NumberLaws.{list_all-at, all-weaker}
-use Rattle.lapi_laws.proofs.Deeds.{done-later, done-head}
+use Rattle.lapi_base.proofs.ListLaws.{list_all-at, all-weaker}
+use Rattle.lapi_base.proofs.NameLaws.{done-later, done-head}
 use Rattle.lapi_laws.proofs.Backward.{Atomic-head, Atomic-tail, closed, there}
 use Rattle.lapi_laws.proofs.Shorts.{last-of}
-use Rattle.lapi_laws.proofs.Places.{upto-length}
+use Rattle.lapi_base.proofs.UptoLaws.{upto-length}
 use Rattle.lapi_laws.proofs.Follows.{Stand, Owes, after-owes, run-owes}
 use Rattle.lapi_laws.proofs.Quiet.{upto-each, joins-each, join-no_data, target-room}
 use Rattle.lapi_laws.proofs.Lines.{SoundRun}

@@ -17,7 +17,7 @@ use Rattle.lapi_base.specs.Written.{packet_size}
 use Rattle.lapi_base.specs.Refusals.{next}
 use Rattle.lapi_base.specs.Record.{Run, out, joins, to_copy_of, ready, copy_each, perform, after}
 use Rattle.lapi_base.specs.Seen.{HoldsOfRecords}
-use Rattle.lapi_laws.proofs.Deeds.{done-cases, done-later, done-head}
+use Rattle.lapi_base.proofs.NameLaws.{done-cases, done-later, done-head}
 use Rattle.lapi_laws.proofs.Lines.{SoundRun}
 use Rattle.lapi_parts.proofs.Records.{record-sound}
 use Rattle.lapi_parts.proofs.LocalQuestions.{by_points}

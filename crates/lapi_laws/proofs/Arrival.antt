@@ -20,8 +20,11 @@ use Rattle.lapi_base.specs.Names.{name_eq, leg_eq, Deed, Issued, Entered, Copied
 use Rattle.lapi_base.specs.Operations.{statement, sender, receiver, is_am, is_gfence, has_back}
 use Rattle.lapi_base.specs.Record.{out, is_number, has_number, is_of, all_numbers, some_number}
 use Rattle.lapi_base.specs.Atomic.{Atomic, Keeps, needs, copy_needs, land_needs, landed_before, has_message}
-use Rattle.lapi_laws.proofs.NumberLaws.{all-weaker, every_below-at, every_below-from, every_below-fails, list_all-at}
-use Rattle.lapi_laws.proofs.Deeds.{done-cases, done-later, done-head, name_eq-true, name_eq-refl, leg_eq-true, eqb-refl}
+use Rattle.lapi_base.proofs.BelowLaws.{every_below-at, every_below-fails, every_below-from}
+use Rattle.lapi_base.proofs.ListLaws.{some-same}
+use Rattle.lapi_base.proofs.ListLaws.{all-weaker, list_all-at}
+use Rattle.lapi_base.proofs.NameLaws.{done-cases, done-head, done-later, leg_eq-true, name_eq-refl, name_eq-true}
+use Rattle.lapi_base.proofs.TestLaws.{eqb-refl, same_tests}
 use Rattle.lapi_laws.proofs.Out.{out-later, out-copied}
 use Rattle.lapi_laws.proofs.Backward.{Atomic-cons, closed, there}
 use Rattle.lapi_laws.proofs.Sound.{Lists, Fits, IsOf, Got, IsHeadGo, Sound, all-later, fits-more, of-later, before, landed_before-later, add_known}
@@ -70,14 +73,6 @@ some_number-from script pairs m set n j x h =
           absurd (both_ways _ (not-true _ no) (and_from _ _ (is_of-from script m (slice_get pairs n) j x) h))
       | false ↦ λ e. refl
     ] refl
-
-same_tests : (x y : Bool) → (x ≡ true → y ≡ true) → (y ≡ true → x ≡ true) → x ≡ y
-same_tests true y f g = sym (f refl)
-same_tests false true f g = g refl
-same_tests false false f g = refl
-
-pub some-same : {X : Type 0} (x y : X) → Some x ≡ Some y → x ≡ y
-some-same x y h = cc
 
 -- data that come back are no active message's
 pub back_no_am : (s : Statement) → has_back s ≡ true → is_am s ≡ false

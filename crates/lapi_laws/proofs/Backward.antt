@@ -10,8 +10,9 @@ use Rattle.lapi_base.specs.Names.{Deed, Issued, Refused, Entered, Passed, Copied
 use Rattle.lapi_base.specs.Refusals.{next}
 use Rattle.lapi_base.specs.Operations.{statement}
 use Rattle.lapi_base.specs.Atomic.{Atomic, Keeps, needs, has_statement, has_message, is_issued}
-use Rattle.lapi_laws.proofs.NumberLaws.{list_all-each}
-use Rattle.lapi_laws.proofs.Deeds.{done-nil, done-cases, done-all-later, eqb-refl}
+use Rattle.lapi_base.proofs.ListLaws.{list_all-each}
+use Rattle.lapi_base.proofs.NameLaws.{done-all-later, done-cases, done-nil}
+use Rattle.lapi_base.proofs.TestLaws.{eqb-refl}
 
 -- the next statement of a task
 pub next-later : (e : Event) (J : List Event) (a : ℕ) → next J a ≤ next (e ∷ J) a

@@ -14,7 +14,8 @@ use Rattle.lapi_base.specs.Operations.{statement}
 use Rattle.lapi_base.specs.Counters.{tells, issued_count, passed_count, count}
 use Rattle.lapi_base.specs.Atomic.{Atomic, Keeps, pass_allowed}
 use Rattle.lapi_base.specs.Headline.{taken_by, announced, taken_at, taken, IsNotSet, StartsAt, CountersAddUp, HoldsOfAtomic}
-use Rattle.lapi_laws.proofs.Deeds.{done-nil, done-head, done-later, done-cases, eqb-refl}
+use Rattle.lapi_base.proofs.NameLaws.{done-cases, done-head, done-later, done-nil}
+use Rattle.lapi_base.proofs.TestLaws.{eqb-refl}
 use Rattle.lapi_laws.proofs.Backward.{Atomic-head, Atomic-tail}
 
 -- a statement sets the counter or not

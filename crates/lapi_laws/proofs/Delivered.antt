@@ -10,7 +10,8 @@ use Rattle.lapi_base.specs.declared.packet.Packet.{Packet}
 use Rattle.lapi_base.specs.declared.packet.Packet.TheVariants.{Data, Ack}
 use Rattle.lapi_base.specs.Record.{Run, out, is_number, covers, has_number, has_ack, is_sent}
 use Rattle.lapi_base.specs.Final.{Quiet, WasHanded, AllDelivered}
-use Rattle.lapi_laws.proofs.NumberLaws.{any-all, least_missing-least}
+use Rattle.lapi_base.proofs.BelowLaws.{least_missing-least}
+use Rattle.lapi_base.proofs.ListLaws.{any-all}
 use Rattle.lapi_laws.proofs.Lines.{SoundRun}
 use Rattle.lapi_laws.proofs.Sound.{Fits, number-known, acked-delivered}
 use Rattle.lapi_laws.proofs.SentWindow.{WindowRun}

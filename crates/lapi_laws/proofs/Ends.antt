@@ -15,8 +15,8 @@ use Rattle.lapi_base.specs.Jobs.{is_job, runs}
 use Rattle.lapi_base.specs.Record.{Run, joins, to_copy_of, ready, after_land, note_of, after_end}
 use Rattle.lapi_base.specs.Atomic.{only_if, to_land, to_follow, chain, join_chain}
 use Rattle.lapi_base.specs.Final.{Quiet, Final}
-use Rattle.lapi_laws.proofs.NumberLaws.{all-append, list_all-at}
-use Rattle.lapi_laws.proofs.Deeds.{eqb-refl}
+use Rattle.lapi_base.proofs.ListLaws.{all-append, list_all-at}
+use Rattle.lapi_base.proofs.TestLaws.{eqb-refl}
 use Rattle.lapi_laws.proofs.Backward.{there}
 use Rattle.lapi_laws.proofs.Workers.{begun}
 use Rattle.lapi_laws.proofs.Lines.{SoundRun, to-land, answer-completion}

@@ -13,8 +13,8 @@ use Rattle.lapi_base.specs.Operations.{statements, statement, is_gfence, table_r
 use Rattle.lapi_base.specs.Refusals.{gfence_rounds, round_of, partner}
 use Rattle.lapi_base.specs.Atomic.{Atomic, landed_before, all_cleared, partner_cleared, pass_allowed}
 use Rattle.lapi_base.specs.Headline.{StandsAfter, FencesWait, HasJoined, GlobalFencesWait, HoldsOfAtomic}
-use Rattle.lapi_laws.proofs.NumberLaws.{every_below-at, below-all}
-use Rattle.lapi_laws.proofs.Out.{all-get}
+use Rattle.lapi_base.proofs.BelowLaws.{below-all, every_below-at}
+use Rattle.lapi_base.proofs.ListLaws.{all-get}
 use Rattle.lapi_laws.proofs.Sound.{landed_before-at}
 use Rattle.lapi_laws.proofs.Places.{place-below}
 use Rattle.lapi_laws.proofs.Once.{keeps-at}

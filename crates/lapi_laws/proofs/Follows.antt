@@ -25,9 +25,10 @@ use Rattle.lapi_base.specs.Counters.{count}
 use Rattle.lapi_base.specs.Refusals.{next, joined, why}
 use Rattle.lapi_base.specs.Jobs.{queue, runs}
 use Rattle.lapi_base.specs.Record.{Run, start, out, has_number, all_numbers, some_number, ready, copy_each, followed, poll, tick, note_of, after_land, after_end, arrival, hand_over, deliver, deliver_entry, data_clear, event_if, proposed, unless_refused, add_event, reply_with, step, begin_first, begin_at, begin, end_at, end, cut_entry, perform, after, run_of}
-use Rattle.lapi_laws.proofs.Deeds.{done-nil, done-cases, done-later, done-head}
+use Rattle.lapi_base.proofs.ListLaws.{all-weaker}
+use Rattle.lapi_base.proofs.NameLaws.{done-cases, done-head, done-later, done-nil}
+use Rattle.lapi_base.proofs.EveryRun.{after-any}
 use Rattle.lapi_laws.proofs.Sound.{before}
-use Rattle.lapi_laws.proofs.NumberLaws.{all-weaker}
 
 abbrev pub Stand : List Event → List Event → Type 0
 Stand J es = AllByRecursion (λ e. done (deed e) J ≡ true) es
@@ -196,9 +197,7 @@ module _ (script : Script) (rules : Rules) where
     perform-owes r (Act.End t w) o = elim (runs r.journal t w) as (λ x. Owes (end_at script rules r t w x).journal) [ None ↦ o | Some m ↦ owes-end m t w r.journal o ]
 
     pub after-owes : (acts : List Act) (r : Run) → Owes r.journal → Owes (after script rules size refusal r acts).journal
-    unfolding after
-    after-owes [] r o = o
-    after-owes (act ∷ acts) r o = after-owes acts (perform script rules size refusal r act) (perform-owes r act o)
+    after-owes acts r o = after-any script rules size refusal (λ q. Owes q.journal) perform-owes acts r o
 
     pub run-owes : (acts : List Act) → Owes (run_of script rules size refusal acts).journal
     unfolding run_of

@@ -21,8 +21,7 @@ use Rattle.lapi_base.specs.Refusals.{next, why}
 use Rattle.lapi_base.specs.Jobs.{queue, runs}
 use Rattle.lapi_base.specs.Record.{Run, start, reply_with, add_event, unless_refused, deliver_entry, begin_at, begin_first, end_at, cut_entry, hand_over, ack, at_once, followed, with_handed, step, poll, tick, deliver, begin, end, perform, after, run_of, handed_by, deliveries, is_numbered, owes_by, owes, packets, sends, stale, copy_each, ready}
 use Rattle.lapi_base.specs.Operations.{statements}
-use Rattle.lapi_laws.proofs.NumberLaws.{all-append}
-use Rattle.lapi_laws.proofs.Out.{get-front}
+use Rattle.lapi_base.proofs.ListLaws.{all-append, get-front}
 
 -- what a line hands over is the same however the wire grows
 abbrev IsFixed : (wire : List Packet) → (from to : ℕ) → Act → Reply → Type 0

@@ -13,7 +13,7 @@ use Rattle.lapi_base.specs.Names.{leg_eq, Deed, Copied, Headed, Landed, deed, do
 use Rattle.lapi_base.specs.Atomic.{Atomic, Keeps, needs, land_needs}
 use Rattle.lapi_base.specs.Headline.{HoldsOfRuns}
 use Rattle.lapi_base.specs.Links.{IsActive, LandsWhenAllCame, HeadsWhenOneCame, DoneHaveLanded, ClearHaveLanded}
-use Rattle.lapi_laws.proofs.Deeds.{leg_eq-true}
+use Rattle.lapi_base.proofs.NameLaws.{leg_eq-true}
 use Rattle.lapi_laws.proofs.Backward.{closed, shown}
 use Rattle.lapi_laws.proofs.Sound.{landed_before-at}
 use Rattle.lapi_laws.proofs.Turns.{done-landed, clear-landed}

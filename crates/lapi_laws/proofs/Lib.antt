@@ -1,5 +1,3 @@
-pub mod NumberLaws
-pub mod Deeds
 pub mod Out
 pub mod Backward
 pub mod Workers

@@ -1,7 +1,7 @@
 -- Each schedule line keeps what holds of every record: those that move packets.
-use Rattle.std.proofs.Common.{◌≡◌, ℕ, ◌+◌, ◌-◌, ◌<◌, ◌==◌, Bool, true, false, cond, ◌&&◌, not, List, [], ◌∷◌, ◌++◌, length, map, filter, Option, Some, None, refl, sym, subst, ⊎_elim, arith}
+use Rattle.std.proofs.Common.{◌≡◌, ℕ, ◌+◌, ◌-◌, ◌<◌, ◌==◌, Bool, true, false, cond, ◌&&◌, not, List, [], ◌∷◌, ◌++◌, length, filter, Option, Some, None, refl, sym, subst, ⊎_elim, arith}
 use Rattle.std.specs.Prelude.{slice_get, is_some, nat_lt}
-use Rattle.std.specs.List.{AllByRecursion, list_any, flat_map}
+use Rattle.std.specs.List.{AllByRecursion, list_any}
 use Rattle.std.proofs.lemmas.Bool.{and_parts, and_from, both_ways, cond_both, eqb-true, or_cases, false_from_ne_true, and_left, and_right, not_from_false, ltb-true, ltb-false, lt-ltb}
 use Rattle.lapi_base.specs.Layout.{window_of, holds_back}
 use Rattle.lapi_base.specs.declared.script.Script.{Script}
@@ -21,24 +21,15 @@ use Rattle.lapi_base.specs.Handlers.{has_completion, answers}
 use Rattle.lapi_base.specs.Packets.{data_packet}
 use Rattle.lapi_base.specs.Record.{Run, out, is_number, has_number, joins, to_copy_of, ready, copy_each, followed, packet_of, packets, fresh, ack, owed_ack, sends, poll, stale, tick, note_of, after_land, arrival, at_once, with_handed, hand_over, deliver, deliver_entry}
 use Rattle.lapi_base.specs.Atomic.{Atomic, Keeps, needs, copy_needs, only_if, to_land, to_follow, has_message, has_statement}
-use Rattle.lapi_laws.proofs.NumberLaws.{all-filter, all-weaker, all-append, below-all, list_all-at, least_missing-below, has_bit-of}
-use Rattle.lapi_laws.proofs.Deeds.{done-head, done-all-later}
-use Rattle.lapi_laws.proofs.Out.{out-copied, all-get}
+use Rattle.lapi_base.proofs.BelowLaws.{below-all, least_missing-below}
+use Rattle.lapi_base.proofs.BitLaws.{has_bit-of}
+use Rattle.lapi_base.proofs.ListLaws.{all-flat_map, all-map, all-any}
+use Rattle.lapi_base.proofs.ListLaws.{all-append, all-filter, all-get, all-weaker, list_all-at}
+use Rattle.lapi_base.proofs.NameLaws.{done-all-later, done-head}
+use Rattle.lapi_laws.proofs.Out.{out-copied}
 use Rattle.lapi_laws.proofs.Backward.{closed, there}
 use Rattle.lapi_laws.proofs.Sound.{Lists, Fits, Sound, before, add_copy, add_entries, add_known}
 use Rattle.lapi_laws.proofs.Arrival.{back_no_am, now, head_test, land_test, J1, but-1, once-1, sound-land, sound-none, sound-again}
-
-pub all-flat_map : {X Y : Type 0} (P : X → Type 0) (Q : Y → Type 0) (f : X → List Y) (xs : List X) → AllByRecursion P xs → ((x : X) → P x → AllByRecursion Q (f x)) → AllByRecursion Q (flat_map f xs)
-all-flat_map P Q f [] h g = tt
-all-flat_map P Q f (x ∷ xs) h g = all-append Q (f x) (flat_map f xs) (g x h.0) (all-flat_map P Q f xs h.1 g)
-
-pub all-map : {X Y : Type 0} (P : X → Type 0) (Q : Y → Type 0) (f : X → Y) (xs : List X) → AllByRecursion P xs → ((x : X) → P x → Q (f x)) → AllByRecursion Q (map f xs)
-all-map P Q f [] h g = tt
-all-map P Q f (x ∷ xs) h g = (g x h.0, all-map P Q f xs h.1 g)
-
-pub all-any : {X : Type 0} (xs : List X) → AllByRecursion (λ _. Unit {0}) xs
-all-any [] = tt
-all-any (x ∷ xs) = (tt, all-any xs)
 
 all-first : {X : Type 0} (P : X → Type 0) (xs : List X) (y : X) (ys : List X) → AllByRecursion P (xs ++ y ∷ ys) → P y
 all-first P [] y ys h = h.0

@@ -11,8 +11,8 @@ use Rattle.lapi_base.specs.Names.{message, Deed, Headed, Landed, Begun, Ended, d
 use Rattle.lapi_base.specs.Operations.{statement, is_am}
 use Rattle.lapi_base.specs.Atomic.{Atomic, Keeps, needs, land_needs, only_if}
 use Rattle.lapi_base.specs.Headline.{times, StandsAfter, LandsOnce, HandlersOnce, HandlersInOrder, HoldsOfAtomic, HoldsOfJournals}
-use Rattle.lapi_laws.proofs.NumberLaws.{list_all-each}
-use Rattle.lapi_laws.proofs.Deeds.{done-cons, deed_eq-true}
+use Rattle.lapi_base.proofs.ListLaws.{list_all-each}
+use Rattle.lapi_base.proofs.NameLaws.{deed_eq-true, done-cons}
 use Rattle.lapi_laws.proofs.Backward.{Atomic-head, Atomic-tail}
 use Rattle.lapi_laws.proofs.Runs.{run-sound}
 use Rattle.lapi_laws.proofs.Workers.{begun-of}

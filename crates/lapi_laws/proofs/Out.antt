@@ -11,27 +11,9 @@ use Rattle.lapi_base.specs.Below.{below}
 use Rattle.lapi_base.specs.Names.{Copied, done}
 use Rattle.lapi_base.specs.Operations.{upto, sender, receiver, fragment_count, fragments}
 use Rattle.lapi_base.specs.Record.{out}
-use Rattle.lapi_laws.proofs.Deeds.{done-head, done-later}
-
-pub get-front : {X : Type 0} (xs ys : List X) (n : ℕ) (x : X) → slice_get xs n ≡ Some x → slice_get (xs ++ ys) n ≡ Some x
-get-front [] ys n x h = absurd (cc)
-get-front (y ∷ xs) ys zero x h = h
-get-front (y ∷ xs) ys (suc n) x h = get-front xs ys n x h
-
--- what stands in a list that was put together stands in one of its parts
-pub get-parts : {X : Type 0} (xs ys : List X) (n : ℕ) (x : X) → slice_get (xs ++ ys) n ≡ Some x → (slice_get xs n ≡ Some x) ⊎ ((k : ℕ) × (slice_get ys k ≡ Some x))
-get-parts [] ys n x h = inr (n, h)
-get-parts (y ∷ xs) ys zero x h = inl h
-get-parts (y ∷ xs) ys (suc n) x h = get-parts xs ys n x h
-
-pub get-back : {X : Type 0} (xs ys : List X) (x : X) → slice_get (xs ++ x ∷ ys) (length xs) ≡ Some x
-get-back [] ys x = refl
-get-back (y ∷ xs) ys x = get-back xs ys x
-
-pub all-get : {X : Type 0} (P : X → Type 0) (xs : List X) (n : ℕ) (x : X) → AllByRecursion P xs → slice_get xs n ≡ Some x → P x
-all-get P [] n x all h = absurd (cc)
-all-get P (y ∷ xs) zero x all h = subst P (let e : y ≡ x = cc in e) all.0
-all-get P (y ∷ xs) (suc n) x all h = all-get P xs n x all.1 h
+use Rattle.lapi_base.proofs.ListLaws.{get-front, get-parts, get-back, all-get}
+use Rattle.lapi_base.proofs.NameLaws.{done-head, done-later}
+use Rattle.lapi_base.proofs.TestLaws.{eqb-refl}
 
 -- each pair of a message's fragments names the message
 pairs-of : (m : MsgName) (js : List ℕ) → AllByRecursion (λ (pair : MsgName × ℕ). m ≡ pair.0) (map (λ j. (m, j)) js)
@@ -59,7 +41,7 @@ fragments-some script m =
     (r.0, map (λ j. (m, j)) r.1, ap (map (λ j. (m, j))) r.2)
 
 module _ (script : Script) where
-  out-copy : (m : MsgName) (J : List Event) (a b : ℕ) → out script (Copy m ∷ J) a b ≡ cond (sender script m == a && receiver script m == b) (out script J a b ++ fragments script m) (out script J a b)
+  pub out-copy : (m : MsgName) (J : List Event) (a b : ℕ) → out script (Copy m ∷ J) a b ≡ cond (sender script m == a && receiver script m == b) (out script J a b ++ fragments script m) (out script J a b)
   unfolding out
   out-copy m J a b = refl
 
@@ -124,7 +106,7 @@ module _ (script : Script) where
       let a = sender script m in
       let b = receiver script m in
       let some = fragments-some script m in
-      let test : (a == a && b == b) ≡ true = and_from _ _ (Rattle.lapi_laws.proofs.Deeds.eqb-refl a) (Rattle.lapi_laws.proofs.Deeds.eqb-refl b) in (
+      let test : (a == a && b == b) ≡ true = and_from _ _ (eqb-refl a) (eqb-refl b) in (
         some.0,
         subst (λ xs. slice_get xs (length (out script J a b)) ≡ Some (m, some.0)) (sym (cond-true (a == a && b == b) (out script J a b ++ fragments script m) (out script J a b) test))
             (subst (λ xs. slice_get (out script J a b ++ xs) (length (out script J a b)) ≡ Some (m, some.0)) (sym some.2) (get-back (out script J a b) some.1 (m, some.0))),

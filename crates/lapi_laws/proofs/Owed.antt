@@ -1,7 +1,6 @@
 -- What is owed is held back by the layout, and between tasks that there are.
-use Rattle.std.proofs.Common.{◌≡◌, ℕ, ◌<◌, ◌==◌, Bool, true, false, cond, ◌&&◌, ◌||◌, not, List, [], ◌∷◌, ◌++◌, length, Some, None, sym, ap, ◌∙◌, subst, ⊎_elim}
+use Rattle.std.proofs.Common.{◌≡◌, ℕ, ◌<◌, ◌==◌, Bool, true, false, ◌&&◌, List, [], ◌∷◌, ◌++◌, length, Some, None, sym, ap, ◌∙◌, subst, ⊎_elim}
 use Rattle.std.specs.Prelude.{slice_get, nat_lt}
-use Rattle.std.specs.List.{AllByRecursion}
 use Rattle.std.proofs.lemmas.Bool.{both_ways, false≢true, and_parts, cond_both, cond-false, false_from_ne_true, eqb-true, or_cases}
 use Rattle.std.proofs.lemmas.List.{append-nil}
 use Rattle.lapi_base.specs.declared.script.Script.{Script}
@@ -17,9 +16,10 @@ use Rattle.lapi_base.specs.Operations.{statements}
 use Rattle.lapi_base.specs.Refusals.{next, why}
 use Rattle.lapi_base.specs.Jobs.{queue, runs}
 use Rattle.lapi_base.specs.Valid.{ValidAct}
-use Rattle.lapi_base.specs.Record.{Run, start, packets, fresh, ack, owed_ack, at_once, sends, poll, tick, hand_over, deliver, deliver_entry, unless_refused, add_event, reply_with, step, begin_first, begin_at, begin, end_at, end, cut_entry, perform, after, run_of}
+use Rattle.lapi_base.specs.Record.{Run, start, packets, fresh, ack, owed_ack, at_once, poll, tick, hand_over, deliver, deliver_entry, unless_refused, add_event, reply_with, step, begin_first, begin_at, begin, end_at, end, cut_entry, perform, run_of}
 use Rattle.lapi_base.specs.Headline.{HoldsOfRuns}
 use Rattle.lapi_base.specs.Links.{OwedAreHeldBack, TellsAtOnce}
+use Rattle.lapi_base.proofs.EveryRun.{after-keeps}
 
 module _ (script : Script) (rules : Rules) where
   -- a packet that is handed over between tasks that there are
@@ -54,15 +54,10 @@ module _ (script : Script) (rules : Rules) where
         ]
     perform-owed r (Act.End t w) v h = elim (runs r.journal t w) as (λ o. OwedAreHeldBack script rules (end_at script rules r t w o)) [ None ↦ h | Some m ↦ h ]
 
-    after-owed : (acts : List Act) (r : Run) → AllByRecursion (ValidAct script spells) acts → OwedAreHeldBack script rules r → OwedAreHeldBack script rules (after script rules size refusal r acts)
-    unfolding after
-    after-owed [] r v h = h
-    after-owed (act ∷ acts) r v h = after-owed acts (perform script rules size refusal r act) v.1 (perform-owed r act v.0 h)
-
 -- the law, of every run
 pub run-owed : HoldsOfRuns OwedAreHeldBack
 unfolding run_of
-run-owed script rules spells size refusal acts v = after-owed script rules spells size refusal acts start v (λ a b e. absurd (false≢true e))
+run-owed script rules spells size refusal acts v = after-keeps script rules size refusal (ValidAct script spells) (OwedAreHeldBack script rules) (perform-owed script rules spells size refusal) acts start v (λ a b e. absurd (false≢true e))
 
 -- so where the layout holds nothing back, all is told at once
 pub owed-told : (script : Script) (rules : Rules) (r : Run) → OwedAreHeldBack script rules r → TellsAtOnce script rules r

@@ -16,13 +16,14 @@ use Rattle.lapi_base.specs.Atomic.{Atomic}
 use Rattle.lapi_base.specs.Headline.{HoldsOfRuns}
 use Rattle.lapi_base.specs.Layout.{window_of}
 use Rattle.lapi_base.specs.Links.{IsNumberOf, IsPartlyDelivered, FewArePartial}
-use Rattle.lapi_laws.proofs.NumberLaws.{any-all, least_missing-below, window-positive}
-use Rattle.lapi_laws.proofs.Deeds.{name_eq-refl}
-use Rattle.lapi_laws.proofs.Out.{get-front, out-copied}
-use Rattle.lapi_laws.proofs.Arrival.{some-same}
+use Rattle.lapi_base.proofs.BelowLaws.{least_missing-below}
+use Rattle.lapi_base.proofs.LayoutLaws.{window-positive}
+use Rattle.lapi_base.proofs.ListLaws.{any-all, get-front, get-places, get-right, some-same}
+use Rattle.lapi_base.proofs.NameLaws.{name_eq-refl}
+use Rattle.lapi_laws.proofs.Out.{out-copied}
 use Rattle.lapi_laws.proofs.Backward.{Atomic-head, Atomic-tail}
 use Rattle.lapi_laws.proofs.Runs.{run-sound}
-use Rattle.lapi_laws.proofs.Places.{get-places, get-right, fragments-at, fragments-get}
+use Rattle.lapi_laws.proofs.Places.{fragments-at, fragments-get}
 use Rattle.lapi_laws.proofs.Reach.{delivered-reach}
 
 module _ (script : Script) (rules : Rules) where

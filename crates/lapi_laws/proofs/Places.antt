@@ -1,62 +1,17 @@
 -- Places in lists that were put together, in the numbers below a bound, and in a message's fragments.
-use Rattle.std.proofs.Common.{◌≡◌, ◌⊎◌, ℕ, zero, suc, ◌+◌, ◌<◌, ◌≤◌, true, List, [], ◌∷◌, ◌++◌, length, map, filter, Option, Some, refl, ap, ◌∙◌, subst, ⊎_elim, inl, inr, arith}
+use Rattle.std.proofs.Common.{◌≡◌, ℕ, zero, suc, ◌+◌, ◌<◌, ◌≤◌, true, List, [], ◌∷◌, ◌++◌, length, map, filter, Option, Some, ap, ◌∙◌, subst, ⊎_elim, arith}
 use Rattle.std.specs.Prelude.{Bool, nat_lt, slice_get}
-use Rattle.std.proofs.lemmas.Bool.{cond_both, cases_lt, lt-ltb}
-use Rattle.std.proofs.lemmas.List.{length_push}
+use Rattle.std.proofs.lemmas.Bool.{cond_both, lt-ltb}
+use Rattle.std.proofs.lemmas.List.{length-map}
 use Rattle.lapi_base.specs.declared.script.Script.{Script}
 use Rattle.lapi_base.specs.declared.message.MsgName.{MsgName}
 use Rattle.lapi_base.specs.Below.{below}
 use Rattle.lapi_base.specs.Operations.{upto, fragment_count, fragments}
-use Rattle.lapi_laws.proofs.NumberLaws.{all-weaker, below-all, filter-all, filter-push}
-use Rattle.lapi_laws.proofs.Out.{get-front, get-back, all-get}
-use Rattle.lapi_laws.proofs.Arrival.{some-same}
-
--- what stands in a list that was put together stands in one part, at its place there
-pub get-places : {X : Type 0} (xs ys : List X) (n : ℕ) (x : X) → slice_get (xs ++ ys) n ≡ Some x → (slice_get xs n ≡ Some x) ⊎ ((k : ℕ) × ((n ≡ length xs + k) × (slice_get ys k ≡ Some x)))
-get-places [] ys n x h = inr (n, (omega arith, h))
-get-places (y ∷ xs) ys zero x h = inl h
-get-places (y ∷ xs) ys (suc n) x h =
-    ⊎_elim
-    (λ (a : slice_get xs n ≡ Some x). inl a)
-    (λ (b : (k : ℕ) × ((n ≡ length xs + k) × (slice_get ys k ≡ Some x))). inr (b.0, (omega (arith, b.1.0), b.1.1)))
-    (get-places xs ys n x h)
-
--- what stands in the second list stands behind the first
-pub get-right : {X : Type 0} (xs ys : List X) (k : ℕ) (x : X) → slice_get ys k ≡ Some x → slice_get (xs ++ ys) (length xs + k) ≡ Some x
-get-right [] ys k x h = subst (λ n. slice_get ys n ≡ Some x) (let e : k ≡ 0 + k = omega arith in e) h
-get-right (y ∷ xs) ys k x h = subst (λ n. slice_get (y ∷ (xs ++ ys)) n ≡ Some x) (let e : suc (length xs + k) ≡ suc (length xs) + k = omega arith in e) (get-right xs ys k x h)
-
--- the numbers below n: how many they are, and the place of each
-pub upto-length : (n : ℕ) → length (upto n) ≡ n
-unfolding upto below
-upto-length zero = refl
-upto-length (suc n) = length_push (upto n) n ∙ (let e : length (upto n) + 1 ≡ suc n = omega (arith, upto-length n) in e)
-
--- each number stands at its own place
-upto-get : (n j : ℕ) → j < n → slice_get (upto n) j ≡ Some j
-unfolding upto below
-upto-get zero j l = absurd (omega arith)
-upto-get (suc n) j l =
-    ⊎_elim
-    (λ (lt : j < n). get-front (upto n) (n ∷ []) j j (upto-get n j lt))
-    (λ (ge : n ≤ j).
-    let e : n ≡ j = omega arith in
-    subst (λ k. slice_get (upto n ++ n ∷ []) k ≡ Some k) e (subst (λ k. slice_get (upto n ++ n ∷ []) k ≡ Some n) (upto-length n) (get-back (upto n) [] n)))
-    (cases_lt j n)
-
--- and what stands at a place is that number
-upto-at : (n k j : ℕ) → slice_get (upto n) k ≡ Some j → (k ≡ j) × (j < n)
-unfolding upto below
-upto-at zero k j h = absurd (cc)
-upto-at (suc n) k j h =
-    ⊎_elim
-    (λ (a : slice_get (upto n) k ≡ Some j). let r = upto-at n k j a in (r.0, omega (arith, r.1)))
-    (λ (b : (i : ℕ) × ((k ≡ length (upto n) + i) × (slice_get (n ∷ []) i ≡ Some j))). last b.0 b.1.0 b.1.1)
-    (get-places (upto n) (n ∷ []) k j h)
-  where
-    last : (i : ℕ) → k ≡ length (upto n) + i → slice_get (n ∷ []) i ≡ Some j → (k ≡ j) × (j < suc n)
-    last zero e g = let same : n ≡ j = some-same n j g in (omega (arith, e, upto-length n, same), omega (arith, same))
-    last (suc i) e g = absurd (cc)
+use Rattle.lapi_base.proofs.BelowLaws.{below-all}
+use Rattle.lapi_base.proofs.ListLaws.{get-places, get-right}
+use Rattle.lapi_base.proofs.ListLaws.{all-get, all-weaker, filter-all, filter-push, some-same}
+use Rattle.lapi_base.proofs.UptoLaws.{upto-length}
+use Rattle.lapi_base.proofs.UptoLaws.{upto-at, upto-get}
 
 -- what stands in a list of pairs with one name
 map-at : (m : MsgName) (js : List ℕ) (k : ℕ) (x : MsgName × ℕ) → slice_get (map (λ j. (m, j)) js) k ≡ Some x → (m ≡ x.0) × (slice_get js k ≡ Some x.1)
@@ -79,6 +34,11 @@ fragments-at script m k x h = let r = map-at m (upto (fragment_count script m)) 
 pub fragments-get : (script : Script) (m : MsgName) (j : ℕ) → j < fragment_count script m → slice_get (fragments script m) j ≡ Some (m, j)
 unfolding fragments
 fragments-get script m j l = map-get m (upto (fragment_count script m)) j j (upto-get (fragment_count script m) j l)
+
+-- how many fragments a message has
+pub fragments-length : (script : Script) (m : MsgName) → length (fragments script m) ≡ fragment_count script m
+unfolding fragments
+fragments-length script m = length-map (upto (fragment_count script m)) (λ j. (m, j)) ∙ upto-length (fragment_count script m)
 
 -- the numbers below n are below n
 all-below : (n : ℕ) (p : ℕ → Bool) → filter (λ j. nat_lt j n) (below n p) ≡ below n p

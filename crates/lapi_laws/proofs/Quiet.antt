@@ -1,7 +1,7 @@
 -- Once everything is delivered a record is quiet; a quiet record is final, and nothing happens from it without a step.
 use Rattle.std.proofs.Common.{◌≡◌, ◌⊎◌, ℕ, zero, suc, ◌+◌, ◌<◌, ◌≤◌, ◌==◌, Bool, true, false, cond, ◌&&◌, not, List, [], ◌∷◌, ◌++◌, length, filter, map, Option, Some, None, refl, sym, ap, ◌∙◌, subst, ⊎_elim, inl, inr, arith}
-use Rattle.std.specs.Prelude.{slice_get, slice_index_or, nat_lt, is_some, unwrap_or}
-use Rattle.std.specs.List.{list_any, list_all, flat_map, Contains}
+use Rattle.std.specs.Prelude.{nat_lt, is_some, unwrap_or}
+use Rattle.std.specs.List.{list_any, list_all, flat_map}
 use Rattle.std.proofs.lemmas.Bool.{false≢true, and_parts, and_from, both_ways, cond_both, cond-true, cond-false, eqb-true, or_cases, or_right, or_left, ltb-true, lt-ltb, cases_lt, false_from_ne_true, true_from_ne_false, not-true, not-false, not_from_false}
 use Rattle.std.proofs.lemmas.Option.{slice_get_within}
 use Rattle.std.proofs.lemmas.List.{append-nil, map-append}
@@ -16,28 +16,23 @@ use Rattle.lapi_base.specs.declared.rule.Rules.{Rules}
 use Rattle.lapi_base.specs.declared.message.MsgName.{MsgName}
 use Rattle.lapi_base.specs.declared.event.Event.{Event}
 use Rattle.lapi_base.specs.declared.event.Event.TheVariants.{Issue, Refuse, Enter, Pass, Copy, Head, Land, Begin, End}
-use Rattle.lapi_base.specs.declared.packet.Packet.{Packet}
-use Rattle.lapi_base.specs.declared.packet.Packet.TheVariants.{Data, Ack}
 use Rattle.lapi_base.specs.Below.{below, least_missing}
 use Rattle.lapi_base.specs.Names.{name_eq, Deed, Issued, Copied, Landed, Begun, Ended, deed, done}
 use Rattle.lapi_base.specs.Operations.{upto, statement, is_data, has_back, has_join, cmpl_counter, target_of, target, sender, receiver}
 use Rattle.lapi_base.specs.Refusals.{option_any, first_reason, why, why_by}
 use Rattle.lapi_base.specs.Jobs.{is_job, landed_jobs, queue, runs}
 use Rattle.lapi_base.specs.Atomic.{Atomic, Keeps}
-use Rattle.lapi_base.specs.Record.{Run, out, covers, has_number, has_ack, is_sent, is_acked, base, fresh}
+use Rattle.lapi_base.specs.Record.{Run, out, has_ack, is_sent, is_acked, base, fresh}
 use Rattle.lapi_base.specs.Final.{Resting, Quiet}
-use Rattle.lapi_laws.proofs.NumberLaws.{least_missing-least, least_missing-not, window-positive}
-use Rattle.lapi_laws.proofs.Deeds.{done-nil, done-cases, done-later, done-head, name_eq-true, name_eq-refl, eqb-refl}
+use Rattle.lapi_base.proofs.BelowLaws.{below-lacks, least_missing-least, least_missing-not}
+use Rattle.lapi_base.proofs.LayoutLaws.{window-positive}
+use Rattle.lapi_base.proofs.ListLaws.{some-same}
+use Rattle.lapi_base.proofs.NameLaws.{done-cases, done-head, done-later, done-nil, name_eq-refl, name_eq-true}
+use Rattle.lapi_base.proofs.TestLaws.{eqb-refl}
 use Rattle.lapi_laws.proofs.Backward.{Atomic-head, Atomic-tail, shown}
 use Rattle.lapi_laws.proofs.Workers.{is_run-some}
-use Rattle.lapi_laws.proofs.Arrival.{some-same}
-use Rattle.lapi_laws.proofs.Turns.{below-place}
 use Rattle.lapi_laws.proofs.Lines.{SoundRun}
 use Rattle.lapi_laws.proofs.Sound.{before, acked-delivered}
-
--- no number passes where none is listed
-below-none : (n : ℕ) (p : ℕ → Bool) (k : ℕ) → below n p ≡ [] → k < n → p k ≡ true → ⊥
-below-none n p k e l h = false≢true (ap is_some (subst (λ xs. slice_get xs (length (filter (λ j. nat_lt j k) (below n p))) ≡ Some k) e (below-place n p k l h)))
 
 -- what each place below n gives passes
 pub upto-each : {X : Type 0} (t : X → Bool) (f : ℕ → List X) (n i : ℕ) → list_all t (flat_map f (upto n)) ≡ true → i < n → list_all t (f i) ≡ true
@@ -136,7 +131,7 @@ module _ (script : Script) (rules : Rules) where
       let low : least < size = omega (arith, least_missing-least size set n unacked) in
       let missing = least_missing-not size set low in
       let unsent : is_sent r a b least ≡ false = false_from_ne_true _ (λ sent. both_ways _ missing (q.acked a b least sent)) in
-      below-none size (λ k. not (is_sent r a b k) && nat_lt k (least + window_of script)) least (q.resting.no_entry a b la lb) low (and_from _ _ (not_from_false _ unsent) (lt-ltb least (least + window_of script) (let w = window-positive script in let q : least < least + window_of script = omega arith in q))))
+      below-lacks size (λ k. not (is_sent r a b k) && nat_lt k (least + window_of script)) least (q.resting.no_entry a b la lb) low (and_from _ _ (not_from_false _ unsent) (lt-ltb least (least + window_of script) (let w = window-positive script in let q : least < least + window_of script = omega arith in q))))
 
   pub copied-landed : (r : Run) → SoundRun script rules r → Quiet script rules r → (m : MsgName) → sender script m < script.tasks → receiver script m < script.tasks → done (Copied m) r.journal ≡ true → done (Landed m) r.journal ≡ true
   copied-landed r s q m la lb c =

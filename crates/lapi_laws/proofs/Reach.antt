@@ -16,11 +16,13 @@ use Rattle.lapi_base.specs.Operations.{statements}
 use Rattle.lapi_base.specs.Refusals.{next, why}
 use Rattle.lapi_base.specs.Jobs.{queue, runs}
 use Rattle.lapi_base.specs.Valid.{ValidAct}
-use Rattle.lapi_base.specs.Record.{Run, start, out, is_number, has_number, is_delivered, is_acked, ready, copy_each, packets, sends, poll, stale, tick, with_handed, hand_over, deliver, deliver_entry, unless_refused, add_event, reply_with, step, begin_first, begin_at, begin, end_at, end, cut_entry, perform, after, run_of, least_undelivered}
+use Rattle.lapi_base.specs.Record.{Run, start, out, is_number, has_number, is_delivered, is_acked, ready, copy_each, packets, sends, poll, stale, tick, with_handed, hand_over, deliver, deliver_entry, unless_refused, add_event, reply_with, step, begin_first, begin_at, begin, end_at, end, cut_entry, perform, run_of, least_undelivered}
 use Rattle.lapi_base.specs.Headline.{HoldsOfRuns}
 use Rattle.lapi_base.specs.Layout.{window_of}
 use Rattle.lapi_base.specs.Links.{StaysInWindow}
-use Rattle.lapi_laws.proofs.NumberLaws.{least_missing-grows, any-get}
+use Rattle.lapi_base.proofs.BelowLaws.{least_missing-grows}
+use Rattle.lapi_base.proofs.ListLaws.{any-get}
+use Rattle.lapi_base.proofs.EveryRun.{after-any}
 use Rattle.lapi_laws.proofs.Sound.{Lists, acked-delivered}
 use Rattle.lapi_laws.proofs.Runs.{run-sound}
 use Rattle.lapi_laws.proofs.SentWindow.{ack-entry, run-window}
@@ -72,7 +74,7 @@ module _ (script : Script) (rules : Rules) where
       ack-entry script rules r.wire (with_handed script rules r a b (Data p)) a b x y n ∙ handed-sent r a b k (Data p) e h x y n d
 
   module _ (spells : List ℕ → Bool) (size : Packet → ℕ) (refusal : List ℕ → Bad) where
-    -- one line of a schedule, and all of them
+    -- one line of a schedule
     perform-sent : (r : Run) (act : Act) → SentRun r → SentRun (perform script rules size refusal r act)
     unfolding perform step poll tick deliver begin end
     perform-sent r (Step a) h =
@@ -95,16 +97,10 @@ module _ (script : Script) (rules : Rules) where
         ]
     perform-sent r (Act.End t w) h = elim (runs r.journal t w) as (λ o. SentRun (end_at script rules r t w o)) [ None ↦ h | Some m ↦ h ]
 
-    -- from any run on
-    after-sent : (acts : List Act) (r : Run) → SentRun r → SentRun (after script rules size refusal r acts)
-    unfolding after
-    after-sent [] r h = h
-    after-sent (act ∷ acts) r h = after-sent acts (perform script rules size refusal r act) (perform-sent r act h)
-
-    -- and from the start
+    -- and all of them
     pub run-sent : (acts : List Act) → SentRun (run_of script rules size refusal acts)
     unfolding run_of has_number
-    run-sent acts = after-sent acts start (λ a b n h. absurd (false≢true h))
+    run-sent acts = after-any script rules size refusal SentRun perform-sent acts start (λ a b n h. absurd (false≢true h))
 
     -- what was delivered is below the least number that wasn't, plus the window
     pub delivered-reach : (acts : List Act) → AllByRecursion (ValidAct script spells) acts → (a b n : ℕ) → is_delivered (run_of script rules size refusal acts) a b n ≡ true → n < least_undelivered script (run_of script rules size refusal acts) a b + window_of script

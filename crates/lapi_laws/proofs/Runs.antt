@@ -1,5 +1,5 @@
 -- Whatever lines a schedule has, its record is sound.
-use Rattle.std.proofs.Common.{ℕ, Bool, List, [], ◌∷◌, Some, None}
+use Rattle.std.proofs.Common.{ℕ, Bool, List, Some, None}
 use Rattle.std.specs.Prelude.{slice_get}
 use Rattle.std.specs.List.{AllByRecursion}
 use Rattle.lapi_base.specs.declared.script.Script.{Script}
@@ -10,9 +10,10 @@ use Rattle.lapi_base.specs.declared.reply.Bad.{Bad}
 use Rattle.lapi_base.specs.declared.packet.Packet.{Packet}
 use Rattle.lapi_base.specs.Names.{Landed, Copied, Headed, Entered}
 use Rattle.lapi_base.specs.Valid.{ValidAct}
-use Rattle.lapi_base.specs.Record.{Run, start, out, cut_entry, perform, after, run_of}
+use Rattle.lapi_base.specs.Record.{Run, start, out, cut_entry, perform, run_of}
 use Rattle.lapi_base.specs.Atomic.{Atomic}
-use Rattle.lapi_laws.proofs.Deeds.{done-nil}
+use Rattle.lapi_base.proofs.NameLaws.{done-nil}
+use Rattle.lapi_base.proofs.EveryRun.{after-keeps}
 use Rattle.lapi_laws.proofs.Lines.{SoundRun, tick-sound, poll-sound, deliver-sound}
 use Rattle.lapi_laws.proofs.Turns.{step-sound, begin-sound, end-sound}
 use Rattle.std.proofs.lemmas.Bool.{both_ways}
@@ -43,11 +44,6 @@ module _ (script : Script) (rules : Rules) where
     perform-sound r (Act.Begin t w) v s = begin-sound script rules r t w v.0 v.1 s
     perform-sound r (Act.End t w) v s = end-sound script rules r t w s
 
-    pub after-sound : (acts : List Act) (r : Run) → AllByRecursion (ValidAct script spells) acts → SoundRun script rules r → SoundRun script rules (after script rules size refusal r acts)
-    unfolding after
-    after-sound [] r v s = s
-    after-sound (act ∷ acts) r v s = after-sound acts (perform script rules size refusal r act) v.1 (perform-sound r act v.0 s)
-
     pub run-sound : (acts : List Act) → AllByRecursion (ValidAct script spells) acts → SoundRun script rules (run_of script rules size refusal acts)
     unfolding run_of
-    run-sound acts v = after-sound acts start v start-sound
+    run-sound acts v = after-keeps script rules size refusal (ValidAct script spells) (SoundRun script rules) perform-sound acts start v start-sound

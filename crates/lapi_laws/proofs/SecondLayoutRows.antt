@@ -1,5 +1,5 @@
 -- Worked runs of the second layout and of completion handlers that answer, computed by the definitions alone.
-use Rattle.std.proofs.Common.{◌≡◌, ℕ, true, false, List, [], ◌∷◌, ◌++◌, drop, length, take, refl, Option, None, Some}
+use Rattle.std.proofs.Common.{◌≡◌, ℕ, true, false, List, [], ◌∷◌, ◌++◌, drop, take, refl, Option, None, Some}
 use Rattle.lapi_base.specs.declared.address.Addr.TheVariants.{Plain}
 use Rattle.lapi_base.specs.declared.statement.Statement.{Statement}
 use Rattle.lapi_base.specs.declared.statement.Statement.TheVariants.{Store, Put, Am, Fence}
@@ -10,7 +10,6 @@ use Rattle.lapi_base.specs.declared.schedule.Act.{Act}
 use Rattle.lapi_base.specs.declared.schedule.Act.TheVariants.{Step, Poll, Tick, Deliver}
 use Rattle.lapi_base.specs.declared.reply.Reply.TheVariants.{Did, Blocked}
 use Rattle.lapi_base.specs.declared.head.Head.{Head}
-use Rattle.lapi_base.specs.declared.packet.Packet.{Packet}
 use Rattle.lapi_base.specs.declared.packet.Packet.TheVariants.{Data, Ack}
 use Rattle.lapi_base.specs.Names.{message}
 use Rattle.lapi_base.specs.Atomic.{has_message}

@@ -21,9 +21,10 @@ use Rattle.lapi_base.specs.Operations.{statements, sender, fragments}
 use Rattle.lapi_base.specs.Refusals.{next, why}
 use Rattle.lapi_base.specs.Jobs.{queue, runs}
 use Rattle.lapi_base.specs.Packets.{data_packet}
-use Rattle.lapi_base.specs.Record.{Run, start, out, is_number, covers, has_number, has_ack, base, is_sent, ready, copy_each, followed, packet_of, packets, fresh, ack, owed_ack, sends, poll, stale, tick, arrival, at_once, with_handed, hand_over, deliver, deliver_entry, unless_refused, add_event, step, begin_first, begin_at, begin, end_at, end, after_end, cut_entry, perform, after, run_of, reply_with}
-use Rattle.lapi_laws.proofs.NumberLaws.{any-all, below-all, least_missing-grows}
-use Rattle.lapi_laws.proofs.Lines.{all-flat_map}
+use Rattle.lapi_base.specs.Record.{Run, start, out, is_number, covers, has_number, has_ack, base, is_sent, ready, copy_each, followed, packet_of, packets, fresh, ack, owed_ack, sends, poll, stale, tick, arrival, at_once, with_handed, hand_over, deliver, deliver_entry, unless_refused, add_event, step, begin_first, begin_at, begin, end_at, end, after_end, cut_entry, perform, run_of, reply_with}
+use Rattle.lapi_base.proofs.BelowLaws.{below-all, least_missing-grows}
+use Rattle.lapi_base.proofs.ListLaws.{all-flat_map, all-weaker, any-all}
+use Rattle.lapi_base.proofs.EveryRun.{after-any}
 use Rattle.lapi_laws.proofs.Sound.{Lists}
 
 pub or-false : (z : Bool) → (z || false) ≡ z
@@ -116,7 +117,7 @@ module _ (script : Script) (rules : Rules) where
       (λ (x : has_number (r.wire a b) n ≡ true). w a b n x)
       (λ (x : has_number (packets script rules r.journal a b (stale script rules r a b)) n ≡ true).
       packets-number r.journal a b (λ k. k < least_missing (length (out script r.journal a b)) (has_ack (r.handed b a)) + window_of script) (stale script rules r a b)
-      (Rattle.lapi_laws.proofs.NumberLaws.all-weaker (λ k. (k < length (out script r.journal a b)) × ((is_sent r a b k && not (has_ack (r.handed b a) k)) ≡ true)) (λ k. k < least_missing (length (out script r.journal a b)) (has_ack (r.handed b a)) + window_of script) (λ k x. w a b k (and_parts _ _ x.1).0) (stale script rules r a b) (below-all (length (out script r.journal a b)) (λ k. is_sent r a b k && not (has_ack (r.handed b a) k))))
+      (all-weaker (λ k. (k < length (out script r.journal a b)) × ((is_sent r a b k && not (has_ack (r.handed b a) k)) ≡ true)) (λ k. k < least_missing (length (out script r.journal a b)) (has_ack (r.handed b a)) + window_of script) (λ k x. w a b k (and_parts _ _ x.1).0) (stale script rules r a b) (below-all (length (out script r.journal a b)) (λ k. is_sent r a b k && not (has_ack (r.handed b a) k))))
       n x)
       (number-append (r.wire a b) (packets script rules r.journal a b (stale script rules r a b)) n found))
       (λ _ found. w a b n found)
@@ -134,7 +135,7 @@ module _ (script : Script) (rules : Rules) where
       (λ (x : has_number (r.wire a b) n ≡ true). w' a b n x)
       (λ (x : has_number (sends script rules r J a b) n ≡ true).
       packets-number J a b (λ k. k < top) (fresh script rules r J a b)
-      (Rattle.lapi_laws.proofs.NumberLaws.all-weaker (λ k. (k < length (out script J a b)) × ((not (is_sent r a b k) && nat_lt k top) ≡ true)) (λ k. k < top) (λ k x. ltb-true k top (and_parts _ _ x.1).1) (fresh script rules r J a b) (below-all (length (out script J a b)) (λ k. not (is_sent r a b k) && nat_lt k top)))
+      (all-weaker (λ k. (k < length (out script J a b)) × ((not (is_sent r a b k) && nat_lt k top) ≡ true)) (λ k. k < top) (λ k x. ltb-true k top (and_parts _ _ x.1).1) (fresh script rules r J a b) (below-all (length (out script J a b)) (λ k. not (is_sent r a b k) && nat_lt k top)))
       n (sym (sends-number r J a b n) ∙ x))
       (number-append (r.wire a b) (sends script rules r J a b) n found))
       (λ _ found. w' a b n found)
@@ -205,11 +206,6 @@ module _ (script : Script) (rules : Rules) where
     perform-window r (Act.Begin t w) h = begin-window r t w h
     perform-window r (Act.End t w) h = end-window r t w h
 
-    pub after-window : (acts : List Act) (r : Run) → WindowRun r → WindowRun (after script rules size refusal r acts)
-    unfolding after
-    after-window [] r w = w
-    after-window (act ∷ acts) r w = after-window acts (perform script rules size refusal r act) (perform-window r act w)
-
     pub run-window : (acts : List Act) → WindowRun (run_of script rules size refusal acts)
     unfolding run_of has_number
-    run-window acts = after-window acts start (λ a b n h. absurd (false≢true h))
+    run-window acts = after-any script rules size refusal WindowRun perform-window acts start (λ a b n h. absurd (false≢true h))

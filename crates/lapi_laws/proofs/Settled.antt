@@ -12,8 +12,9 @@ use Rattle.lapi_base.specs.Below.{every_below}
 use Rattle.lapi_base.specs.Jobs.{runs}
 use Rattle.lapi_base.specs.Record.{Run, is_number, has_number, is_acked, fresh}
 use Rattle.lapi_base.specs.Final.{Quiet, is_empty, is_told, is_settled, is_idle, is_quiet}
-use Rattle.lapi_laws.proofs.NumberLaws.{every_below-at, every_below-from, any-all, all-weaker, list_all-at}
-use Rattle.lapi_laws.proofs.Deeds.{eqb-refl}
+use Rattle.lapi_base.proofs.BelowLaws.{every_below-at, every_below-from}
+use Rattle.lapi_base.proofs.ListLaws.{all-weaker, any-all, list_all-at, list_all-each}
+use Rattle.lapi_base.proofs.TestLaws.{eqb-refl}
 use Rattle.lapi_laws.proofs.Sound.{Fits, number-known}
 use Rattle.lapi_laws.proofs.Lines.{SoundRun}
 use Rattle.lapi_laws.proofs.Still.{linked}
@@ -28,10 +29,6 @@ empty-of xs e = ap is_empty e
 none-from : {X : Type 0} (o : Option X) → not (is_some o) ≡ true → o ≡ None
 none-from None h = refl
 none-from (Some x) h = absurd (false≢true h)
-
-all-from : {X : Type 0} (t : X → Bool) (xs : List X) → list_all t xs ≡ true → AllByRecursion (λ x. t x ≡ true) xs
-all-from t [] h = tt
-all-from t (x ∷ xs) h = let both = and_parts (t x) (list_all t xs) h in (both.0, all-from t xs both.1)
 
 all-both : {X : Type 0} (P Q : X → Type 0) (xs : List X) → AllByRecursion P xs → AllByRecursion Q xs → AllByRecursion (λ x. P x × Q x) xs
 all-both P Q [] p q = tt
@@ -62,7 +59,7 @@ module _ (script : Script) (rules : Rules) where
             let place = number-known script rules r.journal r.handed a b n found.0 found.1 found.2 in
             let ends = linked script rules r.journal s.atomic a b n (slice_get_within _ n place.0 place.1) in
             let parts = settled-parts r a b (settled a b ends.0 ends.1) in
-            let told = any-all (is_number n) (λ p. is_told script rules r a b p ≡ true) (r.wire a b) (all-from (is_told script rules r a b) (r.wire a b) parts.0) sent in
+            let told = any-all (is_number n) (λ p. is_told script rules r a b p ≡ true) (r.wire a b) (list_all-each (is_told script rules r a b) (r.wire a b) parts.0) sent in
             told-number r a b n told.0 told.2 told.1;
         resting = record {
           none_waits = λ t l. empty-from _ (and_parts _ _ (and_parts _ _ (idle t l)).0).0;

@@ -3,7 +3,7 @@ use Rattle.std.proofs.Common.{◌≡◌, ℕ, zero, suc, ◌+◌, ◌*◌, ◌/�
 use Rattle.std.specs.Prelude.{slice_index_or, nat_lt}
 use Rattle.std.specs.List.{AllByRecursion, IsDistinct}
 use Rattle.std.proofs.lemmas.Bool.{both_ways, and_parts, cond_both, eqb-true, ltb-true, ltb-false, false_from_ne_true, or_parts}
-use Rattle.std.proofs.lemmas.List.{length-append, length-map}
+use Rattle.std.proofs.lemmas.List.{length-append}
 use Rattle.std.proofs.lemmas.Map.Steps.{length-le_from_distinct_below}
 use Rattle.std.proofs.lemmas.Option.{slice_get_within}
 use Rattle.lapi_base.specs.Layout.{Layout, First, Second, layout_of, unit, longest, longest_active, unit_of, longest_of, longest_active_of}
@@ -18,7 +18,7 @@ use Rattle.lapi_base.specs.declared.refusal.Refusal.{Refusal}
 use Rattle.lapi_base.specs.declared.event.Event.{Event}
 use Rattle.lapi_base.specs.declared.event.Event.TheVariants.{Issue, Copy}
 use Rattle.lapi_base.specs.Names.{Deed, Issued, Copied, Landed, Begun, Ended, deed, done, message}
-use Rattle.lapi_base.specs.Operations.{upto, statements, statement, sender, receiver, has_leg, has_join, total, pieces_of, length_by, message_length, fragment_count, fragments}
+use Rattle.lapi_base.specs.Operations.{statements, statement, sender, receiver, has_leg, has_join, total, pieces_of, length_by, message_length, fragment_count, fragments}
 use Rattle.lapi_base.specs.Fragments.{fragments_in}
 use Rattle.lapi_base.specs.Handlers.{has_completion}
 use Rattle.lapi_base.specs.Refusals.{too_long, first_reason, why_by, why}
@@ -27,12 +27,12 @@ use Rattle.lapi_base.specs.Atomic.{Atomic, Keeps, has_message, needs, copy_needs
 use Rattle.lapi_base.specs.Valid.{ValidScript, ValidStatement}
 use Rattle.lapi_base.specs.Headline.{HoldsOfRuns}
 use Rattle.lapi_base.specs.Links.{NumbersAreFew, NumbersAreSmall}
-use Rattle.lapi_laws.proofs.NumberLaws.{any-all}
-use Rattle.lapi_laws.proofs.Deeds.{done-head, done-later}
+use Rattle.lapi_base.proofs.ListLaws.{any-all}
+use Rattle.lapi_base.proofs.NameLaws.{done-head, done-later}
+use Rattle.lapi_laws.proofs.Places.{fragments-length}
 use Rattle.lapi_laws.proofs.Backward.{Atomic-head, Atomic-tail, closed, shown}
 use Rattle.lapi_laws.proofs.Sound.{Lists, Fits, Sound, number-known}
 use Rattle.lapi_laws.proofs.Runs.{run-sound}
-use Rattle.lapi_laws.proofs.Places.{upto-length}
 
 -- a number for each name
 pub leg_code : Leg → ℕ
@@ -149,11 +149,6 @@ module _ (script : Script) (rules : Rules) (valid : ValidScript script) where
       let same : q ≡ code r.1.0 = eqb-true q r.0 r.2 ∙ r.1.1 in
       subst (λ c. c < 65536) (sym same) (code-below r.1.0 r.1.2))
 
-  -- how many fragments a message has
-  fragments-length : (m : MsgName) → length (fragments script m) ≡ fragment_count script m
-  unfolding fragments
-  fragments-length m = length-map (upto (fragment_count script m)) (λ j. (m, j)) ∙ upto-length (fragment_count script m)
-
   -- Where each message has at most 64 fragments, the numbers of a link are at most 64 for each message that was copied.
   out-few : (J : List Event) (a b : ℕ) → ((m : MsgName) → done (Copied m) J ≡ true → fragment_count script m ≤ 64) → length (out script J a b) ≤ 64 * length (copies J)
   unfolding out copies
@@ -162,7 +157,7 @@ module _ (script : Script) (rules : Rules) (valid : ValidScript script) where
       let old : length (out script J a b) ≤ 64 * length (copies J) = out-few J a b (λ n d. h n (done-later (Copied n) (Copy m) J d)) in
       let own : fragment_count script m ≤ 64 = h m (done-head (Copy m) J) in
       cond_both (sender script m == a && receiver script m == b) (out script J a b ++ fragments script m) (out script J a b) (λ xs. length xs ≤ 64 * suc (length (copies J)))
-      (λ _. let e : length (out script J a b ++ fragments script m) ≡ length (out script J a b) + fragment_count script m = length-append (out script J a b) (fragments script m) ∙ ap (λ n. length (out script J a b) + n) (fragments-length m) in omega arith)
+      (λ _. let e : length (out script J a b ++ fragments script m) ≡ length (out script J a b) + fragment_count script m = length-append (out script J a b) (fragments script m) ∙ ap (λ n. length (out script J a b) + n) (fragments-length script m) in omega arith)
       (λ _. omega arith)
   out-few (e ∷ J) a b h = out-few J a b (λ n d. h n (done-later (Copied n) e J d))
 

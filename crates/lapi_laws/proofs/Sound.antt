@@ -17,8 +17,9 @@ use Rattle.lapi_base.specs.Names.{leg_eq, Deed, Issued, Entered, Copied, Headed,
 use Rattle.lapi_base.specs.Operations.{statement, sender, receiver, is_data, is_am, is_gfence}
 use Rattle.lapi_base.specs.Record.{out, is_number, covers, has_number, has_ack}
 use Rattle.lapi_base.specs.Atomic.{Atomic, Keeps, needs, land_needs, landed_before, data_landed}
-use Rattle.lapi_laws.proofs.NumberLaws.{any-all, all-weaker, every_below-at, every_below-from}
-use Rattle.lapi_laws.proofs.Deeds.{done-cases, done-later}
+use Rattle.lapi_base.proofs.BelowLaws.{every_below-at, every_below-from}
+use Rattle.lapi_base.proofs.ListLaws.{all-weaker, any-all}
+use Rattle.lapi_base.proofs.NameLaws.{done-cases, done-later}
 use Rattle.lapi_laws.proofs.Out.{out-later, out-added, out-new}
 use Rattle.lapi_laws.proofs.Backward.{Atomic-cons, closed}
 

@@ -1,8 +1,8 @@
 -- From a quiet record nothing happens while no task takes a step, though acknowledgements may be owed and told again.
-use Rattle.std.proofs.Common.{◌≡◌, ℕ, zero, suc, ◌+◌, ◌<◌, ◌==◌, Bool, true, false, cond, ◌&&◌, ◌||◌, not, List, [], ◌∷◌, ◌++◌, length, filter, Some, None, refl, sym, ap, ◌∙◌, subst, arith}
+use Rattle.std.proofs.Common.{◌≡◌, ℕ, ◌+◌, ◌<◌, ◌==◌, Bool, true, false, cond, ◌&&◌, ◌||◌, not, List, [], ◌∷◌, ◌++◌, length, Some, None, refl, sym, ap, ◌∙◌, subst, arith}
 use Rattle.std.specs.Prelude.{slice_get, nat_lt, is_some}
-use Rattle.std.specs.List.{AllByRecursion, list_any, list_all}
-use Rattle.std.proofs.lemmas.Bool.{false≢true, and_parts, and_from, cond_both, cond-true, cond-false, eq-eqb, ltb-true, lt-ltb, true_from_ne_false, and_left, and_right, not_from_true, not_from_false}
+use Rattle.std.specs.List.{AllByRecursion, list_all}
+use Rattle.std.proofs.lemmas.Bool.{false≢true, and_parts, and_from, cond_both, cond-true, eq-eqb, ltb-true, lt-ltb, true_from_ne_false, and_left, and_right, not_from_true, not_from_false}
 use Rattle.std.proofs.lemmas.List.{append-nil}
 use Rattle.std.proofs.lemmas.List.Folds.{list_any-append}
 use Rattle.lapi_base.specs.Layout.{window_of, holds_back}
@@ -22,7 +22,7 @@ use Rattle.lapi_base.specs.declared.reply.Reply.TheVariants.{Did, Idle}
 use Rattle.lapi_base.specs.declared.reply.Bad.{Bad}
 use Rattle.lapi_base.specs.declared.packet.Packet.{Packet}
 use Rattle.lapi_base.specs.declared.packet.Packet.TheVariants.{Data, Ack}
-use Rattle.lapi_base.specs.Below.{below, least_missing}
+use Rattle.lapi_base.specs.Below.{least_missing}
 use Rattle.lapi_base.specs.Names.{Deed, Issued, Entered, Copied, Landed, done, message}
 use Rattle.lapi_base.specs.Operations.{statement, is_data, is_am, has_back, has_leg, cmpl_counter, target, from_by, to_by, sender, receiver}
 use Rattle.lapi_base.specs.Handlers.{has_completion, answers}
@@ -30,23 +30,15 @@ use Rattle.lapi_base.specs.Record.{Run, out, is_number, has_number, has_ack, is_
 use Rattle.lapi_base.specs.Valid.{ValidAct, IsNoStep}
 use Rattle.lapi_base.specs.Atomic.{Atomic, needs, copy_needs, only_if, to_land, to_follow}
 use Rattle.lapi_base.specs.Final.{Quiet}
-use Rattle.lapi_laws.proofs.NumberLaws.{least_missing-whole, every_below-from, any-get}
+use Rattle.lapi_base.proofs.BelowLaws.{below-lacks, below-none, every_below-from, least_missing-whole}
+use Rattle.lapi_base.proofs.ListLaws.{any-get}
 use Rattle.lapi_laws.proofs.Out.{out-copied}
 use Rattle.lapi_laws.proofs.Backward.{closed, there}
 use Rattle.lapi_laws.proofs.Lines.{SoundRun, answer-completion}
 use Rattle.lapi_laws.proofs.Sound.{Lists, acked-delivered}
-use Rattle.lapi_laws.proofs.Turns.{below-place}
 use Rattle.lapi_laws.proofs.Runs.{perform-sound}
 use Rattle.lapi_laws.proofs.Quiet.{Calm, calm, all-acked, target-room}
 use Rattle.lapi_laws.proofs.SentWindow.{or-false, sends-number, ack-entry, handed-acks}
-
-pub below-empty : (n : ℕ) (p : ℕ → Bool) → ((k : ℕ) → k < n → p k ≡ false) → below n p ≡ []
-unfolding below
-below-empty zero p h = refl
-below-empty (suc n) p h = cond-false (p n) (below n p ++ n ∷ []) (below n p) (h n (let q : n < suc n = omega arith in q)) ∙ below-empty n p (λ k l. h k (let q : k < suc n = omega arith in q))
-
-below-none : (n : ℕ) (p : ℕ → Bool) (k : ℕ) → below n p ≡ [] → k < n → p k ≡ true → ⊥
-below-none n p k e l h = false≢true (ap is_some (subst (λ xs. slice_get xs (length (filter (λ j. nat_lt j k) (below n p))) ≡ Some k) e (below-place n p k l h)))
 
 pub back-data : (s : Statement) → has_back s ≡ true → is_data s ≡ true
 back-data (Get target from to len tgt org) h = refl
@@ -119,7 +111,7 @@ module _ (script : Script) (rules : Rules) where
       let top : least_missing size acked ≡ size = least_missing-whole size acked (every_below-from size acked (all-acked script rules r q a b ends.0 ends.1)) in
       true_from_ne_false _ (λ unsent.
       let low : n < least_missing size acked + window_of script = omega (arith, top) in
-      below-none size (λ k. not (is_sent r a b k) && nat_lt k (least_missing size acked + window_of script)) n (q.resting.no_entry a b ends.0 ends.1) l (and_from _ _ (not_from_false _ unsent) (lt-ltb n (least_missing size acked + window_of script) low)))
+      below-lacks size (λ k. not (is_sent r a b k) && nat_lt k (least_missing size acked + window_of script)) n (q.resting.no_entry a b ends.0 ends.1) l (and_from _ _ (not_from_false _ unsent) (lt-ltb n (least_missing size acked + window_of script) low)))
 
   -- a record with the same journal, the same numbers on its wires, and no acknowledgement less
   still : (r : Run) (replies : List Reply) (wire handed : Lists) (owed : (from to : ℕ) → Bool) → SoundRun script rules r → Calm script rules r → ((a b n : ℕ) → has_number (wire a b) n ≡ has_number (r.wire a b) n) → ((a b n : ℕ) → has_ack (r.handed a b) n ≡ true → has_ack (handed a b) n ≡ true) → Calm script rules (record { replies = replies; wire = wire; handed = handed; owed = owed; journal = r.journal })
@@ -130,7 +122,7 @@ module _ (script : Script) (rules : Rules) where
       none_waits = q.resting.none_waits;
       none_runs = q.resting.none_runs;
       no_copy = q.resting.no_copy;
-      no_entry = λ a b la lb. below-empty _ _ (λ k l. and_left _ _ (not_from_true _ (same a b k ∙ all-sent r s q a b k l)));
+      no_entry = λ a b la lb. below-none _ _ (λ k l. and_left _ _ (not_from_true _ (same a b k ∙ all-sent r s q a b k l)));
     };
   }
 
@@ -150,7 +142,7 @@ module _ (script : Script) (rules : Rules) where
   tick-still : (r : Run) (t : ℕ) → SoundRun script rules r → Calm script rules r → Kept r (tick script rules r t)
   unfolding tick stale
   tick-still r t s q =
-      let same = same-wires r.wire r.journal t (stale script rules r) (λ a b. below-empty (length (out script r.journal a b)) (λ n. is_sent r a b n && not (is_acked r a b n)) (λ k l. and_right _ _ (not_from_true _ (q.acked a b k (all-sent r s q a b k l))))) in
+      let same = same-wires r.wire r.journal t (stale script rules r) (λ a b. below-none (length (out script r.journal a b)) (λ n. is_sent r a b n && not (is_acked r a b n)) (λ k l. and_right _ _ (not_from_true _ (q.acked a b k (all-sent r s q a b k l))))) in
       (refl, still r (r.replies ++ Did ∷ []) (λ a b. cond (a == t) (r.wire a b ++ packets script rules r.journal a b (stale script rules r a b)) (r.wire a b)) r.handed r.owed s q (λ a b n. ap (λ xs. has_number xs n) (same a b)) (λ a b n h. h))
 
   poll-still : (r : Run) (t : ℕ) → t < script.tasks → SoundRun script rules r → Calm script rules r → Kept r (poll script rules r t)
@@ -158,7 +150,7 @@ module _ (script : Script) (rules : Rules) where
   poll-still r t room s q =
       let e = copy_each-same (ready script r.journal t) r.journal (q.resting.no_copy t room) in
       let owed = λ (a b : ℕ). not (b == t) && r.owed a b in
-      let none : (a b : ℕ) → fresh script rules r r.journal a b ≡ [] = λ x y. below-empty _ _ (λ k l. and_left _ _ (not_from_true _ (all-sent r s q x y k l))) in
+      let none : (a b : ℕ) → fresh script rules r r.journal a b ≡ [] = λ x y. below-none _ _ (λ k l. and_left _ _ (not_from_true _ (all-sent r s q x y k l))) in
       let same : (a b n : ℕ) → has_number (cond (a == t) (r.wire a b ++ sends script rules r r.journal a b) (r.wire a b)) n ≡ has_number (r.wire a b) n =
       λ a b n.
       cond_both (a == t) (r.wire a b ++ sends script rules r r.journal a b) (r.wire a b) (λ ps. has_number ps n ≡ has_number (r.wire a b) n)

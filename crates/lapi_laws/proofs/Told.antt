@@ -24,9 +24,11 @@ use Rattle.lapi_base.specs.Packets.{data_packet}
 use Rattle.lapi_base.specs.Record.{Run, out, is_number, covers, has_number, ready, copy_each, packet_of, packets, fresh, ack, owed_ack, poll, stale, tick, at_once, with_handed, hand_over, deliver, deliver_entry, unless_refused, add_event, reply_with, step, begin_first, begin_at, begin, end_at, end, cut_entry, perform, after}
 use Rattle.lapi_base.specs.Valid.{ValidAct}
 use Rattle.lapi_base.specs.Final.{or_first, last_ack}
-use Rattle.lapi_laws.proofs.NumberLaws.{has_bit-from, least_missing-not}
-use Rattle.lapi_laws.proofs.Out.{all-get}
-use Rattle.lapi_laws.proofs.Lines.{SoundRun, all-flat_map, all-any}
+use Rattle.lapi_base.proofs.BelowLaws.{least_missing-not}
+use Rattle.lapi_base.proofs.BitLaws.{has_bit-from}
+use Rattle.lapi_base.proofs.ListLaws.{all-any, all-flat_map, all-get}
+use Rattle.lapi_base.proofs.EveryRun.{after-keeps}
+use Rattle.lapi_laws.proofs.Lines.{SoundRun}
 use Rattle.lapi_laws.proofs.Sound.{Fits, known}
 use Rattle.lapi_laws.proofs.Runs.{perform-sound}
 
@@ -220,6 +222,5 @@ module _ (script : Script) (rules : Rules) where
     perform-told r (Act.End t w) s h = elim (runs r.journal t w) as (λ x. ToldRun (end_at script rules r t w x)) [ None ↦ h | Some m ↦ h ]
 
     pub after-told : (acts : List Act) (r : Run) → AllByRecursion (ValidAct script spells) acts → SoundRun script rules r → ToldRun r → ToldRun (after script rules size refusal r acts)
-    unfolding after
-    after-told [] r v s h = h
-    after-told (act ∷ acts) r v s h = after-told acts (perform script rules size refusal r act) v.1 (perform-sound script rules spells size refusal r act v.0 s) (perform-told r act s h)
+    after-told acts r v s h =
+        (after-keeps script rules size refusal (ValidAct script spells) (λ q. SoundRun script rules q × ToldRun q) (λ q act w k. (perform-sound script rules spells size refusal q act w k.0, perform-told q act k.0 k.1)) acts r v (s, h)).1

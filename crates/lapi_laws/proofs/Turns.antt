@@ -22,9 +22,9 @@ use Rattle.lapi_base.specs.declared.reply.Reply.TheVariants.{Idle}
 use Rattle.lapi_base.specs.Jobs.{is_job, queue, runs}
 use Rattle.lapi_base.specs.Record.{Run, out, is_acked, all_numbers, data_done, data_clear, followed, reply_with, event_if, proposed, unless_refused, add_event, step, begin_first, begin_at, begin, end_at, end, note_of}
 use Rattle.lapi_base.specs.Atomic.{Keeps, needs, land_needs, only_if, to_land, to_follow, has_message, has_statement, is_issued, is_passed, is_first, is_run, landed_before, data_landed, partner_cleared, all_cleared, pass_allowed}
-use Rattle.lapi_laws.proofs.NumberLaws.{all-weaker, below-all, list_all-at, every_below-at, every_below-from, filter-all, filter-push}
-use Rattle.lapi_laws.proofs.Deeds.{done-cases, done-later, done-head, done-all-later, name_eq-refl, leg_eq-true}
-use Rattle.lapi_laws.proofs.Out.{get-front, get-back, all-get}
+use Rattle.lapi_base.proofs.BelowLaws.{below-all, every_below-at, every_below-from}
+use Rattle.lapi_base.proofs.ListLaws.{all-get, all-weaker, filter-all, filter-push, get-back, get-front, list_all-at}
+use Rattle.lapi_base.proofs.NameLaws.{done-all-later, done-cases, done-head, done-later, leg_eq-true, name_eq-refl}
 use Rattle.lapi_laws.proofs.Backward.{closed, there, behind}
 use Rattle.lapi_laws.proofs.Workers.{Waiting, queue-waiting, begun, unended}
 use Rattle.lapi_laws.proofs.Sound.{Lists, Sound, before, add_copy, add_silent, acked-delivered, landed_before-from, landed_before-later, implied-at}

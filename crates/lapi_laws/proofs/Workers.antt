@@ -9,12 +9,12 @@ use Rattle.lapi_base.specs.declared.event.Event.TheVariants.{Issue, Refuse, Ente
 use Rattle.lapi_base.specs.declared.message.Leg.TheVariants.{Go}
 use Rattle.lapi_base.specs.Names.{leg_eq, Landed, Begun, Ended, deed, done}
 use Rattle.std.specs.List.{AllByRecursion}
-use Rattle.lapi_laws.proofs.NumberLaws.{all-weaker, all-append, all-filter}
 use Rattle.lapi_base.specs.Jobs.{is_job, landed_jobs, queue, runs}
 use Rattle.lapi_base.specs.Operations.{receiver}
 use Rattle.lapi_base.specs.Handlers.{has_completion}
 use Rattle.lapi_base.specs.Atomic.{Atomic, has_job, is_first, is_run}
-use Rattle.lapi_laws.proofs.Deeds.{done-nil, done-cases, done-later, done-head, name_eq-true}
+use Rattle.lapi_base.proofs.ListLaws.{all-append, all-filter, all-weaker}
+use Rattle.lapi_base.proofs.NameLaws.{done-cases, done-head, done-later, done-nil, name_eq-true}
 use Rattle.lapi_laws.proofs.Backward.{Atomic-head, Atomic-tail}
 
 pub is_run-some : (m : MsgName) (o : Option MsgName) (script : Script) (rules : Rules) → is_run script rules m o ≡ true → o ≡ Some m

@@ -15,14 +15,15 @@ use Rattle.lapi_base.specs.Names.{name_eq}
 use Rattle.lapi_base.specs.Operations.{upto}
 use Rattle.lapi_base.specs.Record.{has_number}
 use Rattle.lapi_base.specs.Arrived.{is_fragment, has_fragment, whole_by, payload_of, assembled, count_of}
+use Rattle.lapi_base.proofs.NameLaws.{name_eq-refl, name_eq-true}
+use Rattle.lapi_base.proofs.PacketNumbers.{some-there}
 use Rattle.lapi_window.specs.RecvWindow.{Receiving, is_taken, base_of}
 use Rattle.lapi_reassembly.specs.Partial.{Gathered, nothing_of, with_fragment, is_whole, message, fragment}
 use Rattle.lapi_reassembly.specs.Partials.{Gathering, partial, is_there, HasRoom, Agrees, IsMissing, kept_of}
-use Rattle.lapi_reassembly.proofs.NameLaws.{name_eq-refl, name_eq-true}
 use Rattle.lapi_link.specs.declared.arrival.Arrival.TheVariants.{Repeat, Part, Whole}
 use Rattle.lapi_link.specs.Receiver.{ReceivingEnd, packet_of, is_complete, fragment_at, gathered_by, partial_by, partial_of, ReceivesFor, IsPartOnly, Fits, message_of, arrival_of, gathered_with, arrival_with}
 use Rattle.lapi_link.proofs.FragmentLists.{every-all, joined-map, told-at, none-yet, one-more}
-use Rattle.lapi_link.proofs.HeldPackets.{number-more, number-known, packet-found, none-found, some-there, no-fragment, fragment-there, is_some-at, bytes-at, missing-at, first-at, later-at, held-at}
+use Rattle.lapi_link.proofs.HeldPackets.{number-more, number-known, packet-found, none-found, no-fragment, fragment-there, is_some-at, bytes-at, missing-at, first-at, later-at, held-at}
 use Rattle.lapi_link.proofs.LeastNumbers.{base-is}
 
 module _ (script : Script) where

@@ -1,9 +1,8 @@
 -- What the packets that were handed over tell of a message, before and after one more.
-use Rattle.std.proofs.Common.{◌≡◌, ℕ, zero, suc, ◌==◌, Bool, true, false, cond, ◌&&◌, ◌||◌, List, [], ◌∷◌, Some, None, is_some, refl, sym, ap, ◌∙◌, subst, ⊎_elim}
+use Rattle.std.proofs.Common.{◌≡◌, ℕ, suc, ◌==◌, Bool, true, false, cond, ◌&&◌, ◌||◌, List, [], ◌∷◌, Some, None, is_some, refl, sym, ap, ◌∙◌, subst, ⊎_elim}
 use Rattle.std.specs.Prelude.{slice_get}
 use Rattle.std.specs.Option.{unwrap_or}
-use Rattle.std.specs.List.{list_any}
-use Rattle.std.proofs.lemmas.Bool.{false≢true, and_parts, and_from, eqb-true, eq-eqb, ne_eqb, or_left, or_right, cases_eq}
+use Rattle.std.proofs.lemmas.Bool.{false≢true, and_parts, and_from, eqb-true, eq-eqb, ne_eqb, cases_eq}
 use Rattle.lapi_base.specs.declared.script.Script.{Script}
 use Rattle.lapi_base.specs.declared.message.MsgName.{MsgName}
 use Rattle.lapi_base.specs.declared.packet.Packet.{Packet}
@@ -11,15 +10,10 @@ use Rattle.lapi_base.specs.declared.packet.Packet.TheVariants.{Data, Ack}
 use Rattle.lapi_base.specs.declared.packet.DataPacket.{DataPacket}
 use Rattle.lapi_base.specs.Names.{name_eq}
 use Rattle.lapi_base.specs.Record.{has_number}
-use Rattle.lapi_base.specs.Arrived.{is_fragment, is_part_of, has_fragment, has_some, payload_of}
-use Rattle.lapi_reassembly.proofs.NameLaws.{name_eq-refl, name_eq-true}
+use Rattle.lapi_base.specs.Arrived.{is_fragment, has_fragment, has_some, payload_of}
+use Rattle.lapi_base.proofs.ListLaws.{any-get}
+use Rattle.lapi_base.proofs.NameLaws.{name_eq-refl, name_eq-true}
 use Rattle.lapi_link.specs.Receiver.{packet_of, fragment_at}
-
--- what stands in a list is among those that pass
-any-get : {X : Type 0} (t : X → Bool) (xs : List X) (k : ℕ) (x : X) → slice_get xs k ≡ Some x → t x ≡ true → list_any t xs ≡ true
-any-get t [] k x e h = absurd (cc)
-any-get t (y ∷ xs) zero x e h = or_left _ _ (subst (λ z. t z ≡ true) (let q : x ≡ y = cc in q) h)
-any-get t (y ∷ xs) (suc k) x e h = or_right _ _ (any-get t xs k x e h)
 
 -- Numbers.
 turned : (m n : ℕ) → (m == n) ≡ (n == m)
@@ -61,10 +55,6 @@ none-found (Data p ∷ ps) m h =
       | false ↦ λ g. none-found ps m g
     ] h
 none-found (Ack from to base bits ∷ ps) m h = none-found ps m h
-
-pub some-there : (ps : List Packet) (k : ℕ) (p : DataPacket) → slice_get ps k ≡ Some (Data p) → has_some ps p.name ≡ true
-unfolding has_some
-some-there ps k p at = any-get (is_part_of p.name) ps k (Data p) at (name_eq-refl p.name)
 
 -- Its fragments.
 pub no-fragment : (ps : List Packet) (m : MsgName) (j : ℕ) → has_some ps m ≡ false → has_fragment ps m j ≡ false

@@ -5,9 +5,9 @@ use Rattle.lapi_base.specs.declared.packet.Packet.{Packet}
 use Rattle.lapi_base.specs.declared.reply.Bad.{Bad}
 use Rattle.lapi_base.specs.Spelling.{packet_form, Spells, HasSpelling, Refuses, decoded}
 use Rattle.lapi_base.specs.Written as written
-use Rattle.lapi_packet.proofs.Spellings.{spelling_is}
-use Rattle.lapi_packet.proofs.Forms.{found, refused}
-use Rattle.lapi_packet.proofs.Numbers.{IsBytes}
+use Rattle.lapi_base.proofs.Spellings.{spelling_is, ok, ok_is}
+use Rattle.lapi_base.proofs.FormLaws.{found, refused}
+use Rattle.lapi_base.proofs.FormNumbers.{IsBytes}
 
 pub found_if : (r : Result Packet Bad) (bytes : List ℕ) → IsBytes bytes → r ≡ decoded bytes → IfOk r (λ p. Spells p bytes)
 found_if (Ok p) bytes fits e = found packet_form p bytes fits (sym e)
@@ -22,14 +22,8 @@ refused_if (Err bad) bytes fits e = refused Packet packet_form bad bytes fits (s
 own_bytes : (p : Packet) (bytes : List ℕ) → bytes ≡ written.packet p → HasSpelling p → Spells p bytes
 own_bytes p bytes e spelled = subst (λ (l : List ℕ). Spells p l) (sym (e ∙ spelling_is p spelled.0 spelled.1)) spelled.1
 
-abbrev pub ok : Packet → Result Packet Bad
-ok p = Ok p
-
 abbrev err : Bad → Result Packet Bad
 err bad = Err bad
-
-pub ok_is : (p q : Packet) → ok p ≡ ok q → p ≡ q
-ok_is p q e = cc
 
 not_both : (bad : Bad) (p : Packet) → err bad ≡ ok p → ⊥
 not_both bad p e = cc

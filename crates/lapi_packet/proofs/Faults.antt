@@ -6,8 +6,8 @@ use Rattle.lapi_base.specs.declared.reply.Bad.{Bad}
 use Rattle.lapi_base.specs.declared.reply.Reason.{Reason}
 use Rattle.lapi_base.specs.declared.reply.Reason.TheVariants as reasons
 use Rattle.lapi_base.specs.Form.{Size, byte_count, bytes_of, Form, Done, Field, IsSpelled, IsRefused, number_at, reading, whole, answer}
-use Rattle.lapi_packet.proofs.Numbers.{number_again, length-bytes_of}
-use Rattle.lapi_packet.proofs.Forms.{taken, broken, missing}
+use Rattle.lapi_base.proofs.FormNumbers.{number_again, length-bytes_of}
+use Rattle.lapi_base.proofs.FormLaws.{taken, broken, missing}
 
 too_short : (size : Size) (bytes : List ℕ) → length bytes < byte_count size → number_at size bytes ≡ Err (0, reasons.Short)
 too_short size bytes lt = rw (lt-ltb _ _ lt) refl

@@ -15,10 +15,10 @@ use Rattle.lapi_base.specs.Layout.{Layout, First, longest, unit}
 use Rattle.lapi_base.specs.Parts.{counter_form, range_form, word_form, count_form, span_form, within_span, covering_span, matching_span, left_behind, behind, within_form, covering_form, matching_form}
 use Rattle.lapi_base.specs.Heads.{put_form, get_go_form, get_back_form, putv_form, getv_go_form, getv_back_form, update_form, rmw_go_form, rmw_back_form, header_count_form, am_form, note_of, note_form, echo_form, round_form, gfence_form, addr_form, operation_form, head_form}
 use Rattle.lapi_base.specs.Spelling.{task_form, kind_form, front_form, acknowledgement_form, leg_form, name_form, is_length, length_form, fragment_form, data_form, packet_form}
-use Rattle.lapi_packet.proofs.Forms.{AtMost, at_most_more, at_most_bind, at_most_spelling, at_most_place, always_spelled, read_cases, done, failed, pair_is}
-use Rattle.lapi_packet.proofs.Numbers.{IsBytes}
-use Rattle.lapi_packet.proofs.Lists.{at_most_bytes, at_most_repeated, count_repeated}
-use Rattle.lapi_packet.proofs.Choices.{at_most_if}
+use Rattle.lapi_base.proofs.FormLaws.{AtMost, at_most_more, at_most_bind, at_most_spelling, at_most_place, always_spelled, read_cases, done, failed, pair_is}
+use Rattle.lapi_base.proofs.FormNumbers.{IsBytes}
+use Rattle.lapi_base.proofs.FormLists.{at_most_bytes, at_most_repeated, count_repeated}
+use Rattle.lapi_base.proofs.FormChoices.{at_most_if}
 
 -- ---- spans
 

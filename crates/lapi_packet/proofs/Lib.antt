@@ -1,10 +1,5 @@
-pub mod Numbers
-pub mod Forms
-pub mod Lists
 pub mod MatchingSpans
-pub mod Choices
 pub mod Lengths
-pub mod Spellings
 pub mod Answering
 pub mod Faults
 pub mod LongestPacket

@@ -12,8 +12,8 @@ use Rattle.lapi_base.specs.Parts.{counter_form, count_form, span_form}
 use Rattle.lapi_base.specs.Heads.{putv_form, operation_form, head_form}
 use Rattle.lapi_base.specs.Spelling.{task_form, kind_form, front_form, leg_form, name_form, length_form, fragment_form, data_form, packet_form, Spells}
 use Rattle.lapi_base.specs.Written as written
-use Rattle.lapi_packet.proofs.Numbers.{IsBytes}
-use Rattle.lapi_packet.proofs.Forms.{found}
+use Rattle.lapi_base.proofs.FormNumbers.{IsBytes}
+use Rattle.lapi_base.proofs.FormLaws.{found}
 
 abbrev piece : Span
 piece = record { at = 0; len = 16 }

@@ -23,7 +23,7 @@ use crate::number::{read_four, write_four, write_one, write_two};
 use crate::{fragment, front, head, name, operation};
 use lapi_base::{DataPacket, Frame, Packet};
 
-#[tactic(auto, using(crate::proofs::Forms::read_bind), unfolding(lapi_base::specs::Spelling::data_form))]
+#[tactic(auto, using(lapi_base::proofs::FormLaws::read_bind), unfolding(lapi_base::specs::Spelling::data_form))]
 pub(crate) fn read(from: u32, to: u32, bytes: &[u8]) -> Result<(Packet, &[u8]), Fault>
     ensures { Reads (data_form First from to) bytes.now result }
 {

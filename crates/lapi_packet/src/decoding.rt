@@ -35,7 +35,7 @@ fn answer(bytes: &[u8]) -> Result<Packet, Bad>
     }
 }
 
-#[tactic(auto, using(crate::proofs::Forms::read_bind), unfolding(lapi_base::specs::Spelling::packet_form))]
+#[tactic(auto, using(lapi_base::proofs::FormLaws::read_bind), unfolding(lapi_base::specs::Spelling::packet_form))]
 fn read(bytes: &[u8]) -> Result<(Packet, &[u8]), Fault>
     ensures { Reads packet_form bytes.now result }
 {

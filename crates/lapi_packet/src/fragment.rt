@@ -86,7 +86,7 @@ fn size_of(length: u32, fragment: u32) -> usize
     UNIT.min(length.saturating_sub(fragment.saturating_mul(UNIT))) as usize
 }
 
-#[tactic(auto, using(crate::proofs::Lists::read_bytes))]
+#[tactic(auto, using(lapi_base::proofs::FormLists::read_bytes))]
 pub(crate) fn read_payload(
     length: u32,
     fragment: u32,

@@ -39,7 +39,7 @@ pub(crate) struct Front {
     pub(crate) to: u32,
 }
 
-#[tactic(auto, using(crate::proofs::Forms::read_bind), unfolding(lapi_base::specs::Spelling::front_form))]
+#[tactic(auto, using(lapi_base::proofs::FormLaws::read_bind), unfolding(lapi_base::specs::Spelling::front_form))]
 pub(crate) fn read(bytes: &[u8]) -> Result<(Front, &[u8]), Fault>
     ensures { Gives (λ x. (front_of x.0, x.1.now)) result (reading front_form bytes.now) }
 {

@@ -19,7 +19,7 @@ use lapi_base::{Frame, MsgName, Reason};
 
 const LAST_STATEMENT: u32 = 511;
 
-#[tactic(auto, using(crate::proofs::Forms::read_bind), unfolding(lapi_base::specs::Spelling::name_form))]
+#[tactic(auto, using(lapi_base::proofs::FormLaws::read_bind), unfolding(lapi_base::specs::Spelling::name_form))]
 pub(crate) fn read(from: u32, to: u32, bytes: &[u8]) -> Result<(MsgName, &[u8]), Fault>
     ensures { Reads (name_form from to) bytes.now result }
 {

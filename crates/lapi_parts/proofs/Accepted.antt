@@ -19,7 +19,7 @@ use Rattle.lapi_base.specs.Handlers.{handler_of, user_header, has_completion}
 use Rattle.lapi_base.specs.Refusals.{option_any, is_known, lies_within, counters_of, is_vector, too_long, is_misaligned, why_by, why}
 use Rattle.lapi_base.specs.Atomic.{Atomic, Keeps, needs, copy_needs, only_if, to_land, has_statement}
 use Rattle.lapi_base.specs.Receiving.{NamesCounter}
-use Rattle.lapi_laws.proofs.NumberLaws.{all-weaker}
+use Rattle.lapi_base.proofs.ListLaws.{all-weaker}
 use Rattle.lapi_laws.proofs.Backward.{closed, shown}
 use Rattle.lapi_laws.proofs.Shorts.{none-tests, last-of}
 

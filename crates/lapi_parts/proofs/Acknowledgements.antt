@@ -1,5 +1,5 @@
 -- Every acknowledgement on a wire goes between the wire's ends, and its numbers are small and its lowest bit clear.
-use Rattle.std.proofs.Common.{◌≡◌, ℕ, zero, suc, ◌+◌, ◌*◌, ◌%◌, ◌^◌, ◌<◌, ◌≤◌, ◌==◌, Bool, true, false, cond, ◌&&◌, List, [], ◌∷◌, ◌++◌, length, Option, Some, None, refl, sym, ap, ◌∙◌, subst, ⊎_elim, arith, inl, inr}
+use Rattle.std.proofs.Common.{◌≡◌, ℕ, ◌+◌, ◌%◌, ◌^◌, ◌<◌, ◌==◌, Bool, true, false, cond, ◌&&◌, List, [], ◌∷◌, ◌++◌, length, Option, Some, None, refl, sym, ap, ◌∙◌, subst, ⊎_elim, arith, inl, inr}
 use Rattle.std.specs.Prelude.{slice_get, nat_lt}
 use Rattle.std.specs.List.{AllByRecursion, list_any}
 use Rattle.std.proofs.lemmas.Bool.{false≢true, and_parts, cond_both, eqb-true, false_from_ne_true, or_cases, cases_lt}
@@ -16,39 +16,26 @@ use Rattle.lapi_base.specs.declared.packet.Packet.{Packet}
 use Rattle.lapi_base.specs.declared.packet.Packet.TheVariants.{Data, Ack}
 use Rattle.lapi_base.specs.declared.packet.DataPacket.{DataPacket}
 use Rattle.lapi_base.specs.Layout.{window_of, holds_back}
-use Rattle.lapi_base.specs.Below.{least_missing, bits_of}
+use Rattle.lapi_base.specs.Below.{least_missing}
 use Rattle.lapi_base.specs.Operations.{statements}
 use Rattle.lapi_base.specs.Refusals.{next, why}
 use Rattle.lapi_base.specs.Jobs.{queue, runs}
 use Rattle.lapi_base.specs.Packets.{data_packet}
-use Rattle.lapi_base.specs.Record.{Run, start, out, is_number, has_number, is_delivered, packet_of, packets, ready, fresh, stale, copy_each, ack, owed_ack, sends, at_once, with_handed, hand_over, deliver_entry, deliver, reply_with, unless_refused, add_event, step, poll, tick, begin_first, begin_at, begin, end_at, end, cut_entry, perform, after, run_of}
+use Rattle.lapi_base.specs.Record.{Run, start, out, is_number, has_number, is_delivered, packet_of, packets, ready, fresh, stale, copy_each, ack, owed_ack, sends, at_once, with_handed, hand_over, deliver_entry, deliver, reply_with, unless_refused, add_event, step, poll, tick, begin_first, begin_at, begin, end_at, end, cut_entry, perform, run_of}
 use Rattle.lapi_base.specs.Atomic.{Atomic}
 use Rattle.lapi_base.specs.Links.{OwedAreHeldBack}
 use Rattle.lapi_base.specs.Valid.{ValidAct, ValidScript}
 use Rattle.lapi_base.specs.Seen.{HoldsOfRecords}
-use Rattle.lapi_laws.proofs.NumberLaws.{least_missing-le, least_missing-not, all-append}
-use Rattle.lapi_laws.proofs.Out.{all-get}
+use Rattle.lapi_base.proofs.BelowLaws.{least_missing-le, least_missing-not}
+use Rattle.lapi_base.proofs.BitLaws.{bits_of-even, bits_of-lt}
+use Rattle.lapi_base.proofs.ListLaws.{all-any, all-append, all-flat_map, all-get}
+use Rattle.lapi_base.proofs.EveryRun.{after-keeps}
 use Rattle.lapi_laws.proofs.Sound.{Lists, Fits, known}
-use Rattle.lapi_laws.proofs.Lines.{SoundRun, all-flat_map, all-any}
+use Rattle.lapi_laws.proofs.Lines.{SoundRun}
 use Rattle.lapi_laws.proofs.Runs.{start-sound, perform-sound}
 use Rattle.lapi_laws.proofs.Owed.{perform-owed}
 use Rattle.lapi_laws.proofs.Shorts.{numbers-few, copied-few}
 use Rattle.lapi_parts.proofs.Records.{of-runs}
-
--- so many bits make a number below the power of two
-bits-small : (n : ℕ) (p : ℕ → Bool) → bits_of n p < 2 ^ n
-unfolding bits_of
-bits-small zero p = omega arith
-bits-small (suc n) p =
-    let rest : bits_of n (λ i. p (suc i)) < 2 ^ n = bits-small n (λ i. p (suc i)) in
-    let one : cond (p 0) 1 0 ≤ 1 = cond_both (p 0) 1 0 (λ k. k ≤ 1) (λ _. omega arith) (λ _. omega arith) in
-    let double : 2 ^ suc n ≡ 2 * 2 ^ n = omega arith in
-    omega arith
-
-bits-even : (n : ℕ) (p : ℕ → Bool) → p 0 ≡ false → bits_of n p % 2 ≡ 0
-unfolding bits_of
-bits-even zero p h = refl
-bits-even (suc n) p h = subst (λ (b : Bool). (cond b 1 0 + 2 * bits_of n (λ i. p (suc i))) % 2 ≡ 0) (sym h) (let x = bits_of n (λ i. p (suc i)) in let e : (0 + 2 * x) % 2 ≡ 0 = omega arith in e)
 
 module _ (script : Script) (rules : Rules) where
   -- an acknowledgement of the wire from a to b
@@ -89,7 +76,7 @@ module _ (script : Script) (rules : Rules) where
       let least = least_missing count q in
       let below = least_missing-le count q in
       let first : least + 0 ≡ least = omega arith in
-      (refl, refl, lb, la, λ valid. let few = numbers-few script rules valid r.journal a b atomic (λ m d. copied-few script rules r.journal m atomic d) in omega arith, bits-small (window_of script) (λ i. q (least + i)), bits-even (window_of script) (λ i. q (least + i)) (ap q first ∙ least-not r a b room))
+      (refl, refl, lb, la, λ valid. let few = numbers-few script rules valid r.journal a b atomic (λ m d. copied-few script rules r.journal m atomic d) in omega arith, bits_of-lt (window_of script) (λ i. q (least + i)), bits_of-even (window_of script) (λ i. q (least + i)) (ap q first ∙ least-not r a b room))
 
   abbrev pub ToldRun : Run → Type 0
   ToldRun r = (a b : ℕ) → AllByRecursion (IsTold a b) (r.wire a b)
@@ -161,15 +148,12 @@ module _ (script : Script) (rules : Rules) where
         ]
     perform-told r (Act.End t w) v s o h = elim (runs r.journal t w) as (λ x. ToldRun (end_at script rules r t w x)) [ None ↦ h | Some m ↦ h ]
 
-    after-told : (acts : List Act) (r : Run) → AllByRecursion (ValidAct script spells) acts → SoundRun script rules r → OwedAreHeldBack script rules r → ToldRun r → ToldRun (after script rules size refusal r acts)
-    unfolding after
-    after-told [] r v s o h = h
-    after-told (act ∷ acts) r v s o h =
-        after-told acts (perform script rules size refusal r act) v.1 (perform-sound script rules spells size refusal r act v.0 s) (perform-owed script rules spells size refusal r act v.0 o) (perform-told r act v.0 s o h)
-
     run-told : (acts : List Act) → AllByRecursion (ValidAct script spells) acts → ToldRun (run_of script rules size refusal acts)
     unfolding run_of
-    run-told acts v = after-told acts start v (start-sound script rules) (λ a b e. absurd (false≢true e)) (λ a b. tt)
+    run-told acts v =
+        (after-keeps script rules size refusal (ValidAct script spells) (λ q. SoundRun script rules q × OwedAreHeldBack script rules q × ToldRun q)
+        (λ q act w k. (perform-sound script rules spells size refusal q act w k.0, perform-owed script rules spells size refusal q act w k.1, perform-told q act w k.0 k.1 k.2))
+        acts start v (start-sound script rules, (λ a b e. absurd (false≢true e)), λ a b. tt)).2
 
 -- so it is with every record
 pub record-told : HoldsOfRecords ToldRun

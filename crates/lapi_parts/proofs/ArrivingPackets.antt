@@ -27,11 +27,11 @@ use Rattle.lapi_base.specs.Seen.{HoldsOfRecords}
 use Rattle.lapi_base.specs.Entries.{carried}
 use Rattle.lapi_base.specs.Arrived.{IsKnown, ack_of, arrival_of, has_some, whole_by, is_whole, count_of, is_active, noted, answered, follows, comes}
 use Rattle.lapi_base.specs.Receiving.{AcksAreTold, NextAcksAreTold, ArrivalsAreTold, RepeatsAreKnown}
-use Rattle.lapi_laws.proofs.Deeds.{eqb-refl}
-use Rattle.lapi_laws.proofs.Out.{all-get, out-copied}
+use Rattle.lapi_base.proofs.ListLaws.{all-get, some-same}
+use Rattle.lapi_base.proofs.TestLaws.{eqb-refl}
+use Rattle.lapi_laws.proofs.Out.{out-copied}
 use Rattle.lapi_laws.proofs.Backward.{there}
 use Rattle.lapi_laws.proofs.Sound.{Fits}
-use Rattle.lapi_laws.proofs.Arrival.{some-same}
 use Rattle.lapi_parts.proofs.Records.{record-sound}
 use Rattle.lapi_parts.proofs.ExactBytes.{Exact, record-exact}
 use Rattle.lapi_parts.proofs.HandedPackets.{least-local, ack-local, arrival-local}

@@ -24,10 +24,10 @@ use Rattle.lapi_base.specs.Atomic.{Atomic, copy_needs, only_if, to_land, needs}
 use Rattle.lapi_base.specs.Entries.{carried}
 use Rattle.lapi_base.specs.declared.rule.CompletionRule.{CompletionRule}
 use Rattle.lapi_base.specs.declared.rule.CompletionRule.TheVariants.{Answer}
-use Rattle.lapi_laws.proofs.NumberLaws.{list_all-each}
-use Rattle.lapi_laws.proofs.Deeds.{name_eq-true, name_eq-refl, done-nil, done-cases}
+use Rattle.lapi_base.proofs.ListLaws.{list_all-each}
+use Rattle.lapi_base.proofs.NameLaws.{done-cases, done-nil, name_eq-refl, name_eq-true}
+use Rattle.lapi_base.proofs.UptoLaws.{upto-length}
 use Rattle.lapi_laws.proofs.Backward.{Atomic-head, Atomic-tail}
-use Rattle.lapi_laws.proofs.Places.{upto-length}
 use Rattle.lapi_laws.proofs.Shorts.{last-of}
 use Rattle.lapi_parts.proofs.ExactBytes.{stays}
 

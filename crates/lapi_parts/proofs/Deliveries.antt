@@ -29,8 +29,9 @@ use Rattle.lapi_base.specs.Seen.{performed, IsRecord, HoldsOfRecords}
 use Rattle.lapi_base.specs.Entries.{carried}
 use Rattle.lapi_base.specs.Arrived.{has_some, whole_by, is_whole, assembled, count_of, is_active, follows, comes}
 use Rattle.lapi_base.specs.Landing.{announces, lands, DeliveriesWrite, DeliveriesAnnounce}
-use Rattle.lapi_laws.proofs.Deeds.{eqb-refl}
-use Rattle.lapi_laws.proofs.Out.{all-get, out-copied}
+use Rattle.lapi_base.proofs.ListLaws.{all-get}
+use Rattle.lapi_base.proofs.TestLaws.{eqb-refl}
+use Rattle.lapi_laws.proofs.Out.{out-copied}
 use Rattle.lapi_laws.proofs.Backward.{there}
 use Rattle.lapi_laws.proofs.Sound.{Fits}
 use Rattle.lapi_parts.proofs.Records.{record-sound}

@@ -24,18 +24,19 @@ use Rattle.lapi_base.specs.Refusals.{next, why}
 use Rattle.lapi_base.specs.Jobs.{queue, runs}
 use Rattle.lapi_base.specs.Packets.{data_packet}
 use Rattle.lapi_base.specs.Layout.{holds_back}
-use Rattle.lapi_base.specs.Record.{Run, start, out, has_number, packet_of, packets, ready, fresh, stale, copy_each, followed, arrival, ack, owed_ack, sends, at_once, with_handed, hand_over, deliver_entry, deliver, reply_with, unless_refused, add_event, step, poll, tick, begin_first, begin_at, begin, end_at, end, after_end, cut_entry, perform, after, run_of}
+use Rattle.lapi_base.specs.Record.{Run, start, out, has_number, packet_of, packets, ready, fresh, stale, copy_each, followed, arrival, ack, owed_ack, sends, at_once, with_handed, hand_over, deliver_entry, deliver, reply_with, unless_refused, add_event, step, poll, tick, begin_first, begin_at, begin, end_at, end, after_end, cut_entry, perform, run_of}
 use Rattle.lapi_base.specs.Atomic.{Atomic}
 use Rattle.lapi_base.specs.Valid.{ValidAct}
 use Rattle.lapi_base.specs.Headline.{HoldsOfAtomic}
 use Rattle.lapi_base.specs.Seen.{HoldsOfRecords}
 use Rattle.lapi_base.specs.Entries.{carried, CarriedIsFixed, IsOfNumber, PutAreOfNumber, HandedAreOfNumber}
-use Rattle.lapi_laws.proofs.NumberLaws.{all-append}
-use Rattle.lapi_laws.proofs.Deeds.{name_eq-true, done-later}
-use Rattle.lapi_laws.proofs.Out.{out-copied, all-get}
+use Rattle.lapi_base.proofs.ListLaws.{all-any, all-append, all-flat_map, all-get}
+use Rattle.lapi_base.proofs.NameLaws.{name_eq-true, done-grown}
+use Rattle.lapi_base.proofs.EveryRun.{after-keeps}
+use Rattle.lapi_laws.proofs.Out.{out-copied}
 use Rattle.lapi_laws.proofs.Backward.{Atomic-head, Atomic-tail}
 use Rattle.lapi_laws.proofs.Sound.{Lists, Fits}
-use Rattle.lapi_laws.proofs.Lines.{SoundRun, new_back, all-flat_map, all-any}
+use Rattle.lapi_laws.proofs.Lines.{SoundRun, new_back}
 use Rattle.lapi_laws.proofs.Runs.{start-sound, perform-sound}
 use Rattle.lapi_parts.proofs.Records.{of-runs, record-sound}
 
@@ -71,13 +72,9 @@ module _ (script : Script) (rules : Rules) where
   Exact J (Data p) = Data p ≡ data_packet script p.name p.seq p.fragment (carried script rules J p.name)
   Exact J (Ack from to base bits) = Unit {0}
 
-  done-grown : (later J : List Event) (m : MsgName) → done (Copied m) J ≡ true → done (Copied m) (later ++ J) ≡ true
-  done-grown [] J m d = d
-  done-grown (e ∷ later) J m d = done-later (Copied m) e (later ++ J) (done-grown later J m d)
-
   pub stays-grown : (later J : List Event) (m : MsgName) → Atomic script rules (later ++ J) → done (Copied m) J ≡ true → carried script rules (later ++ J) m ≡ carried script rules J m
   stays-grown [] J m h d = refl
-  stays-grown (e ∷ later) J m h d = stays e (later ++ J) m h (done-grown later J m d) ∙ stays-grown later J m (Atomic-tail script rules e (later ++ J) h) d
+  stays-grown (e ∷ later) J m h d = stays e (later ++ J) m h (done-grown later J (Copied m) d) ∙ stays-grown later J m (Atomic-tail script rules e (later ++ J) h) d
 
   -- K has more events than J
   abbrev pub Grown : List Event → List Event → Type 0
@@ -226,16 +223,12 @@ module _ (script : Script) (rules : Rules) where
     perform-exact r (Act.Begin t w) s s' x = begin-exact r t w s s' x
     perform-exact r (Act.End t w) s s' x = end-exact r t w s s' x
 
-    after-exact : (acts : List Act) (r : Run) → AllByRecursion (ValidAct script spells) acts → SoundRun script rules r → ExactRun r → ExactRun (after script rules size refusal r acts)
-    unfolding after
-    after-exact [] r v s x = x
-    after-exact (act ∷ acts) r v s x =
-        let s' = perform-sound script rules spells size refusal r act v.0 s in
-        after-exact acts (perform script rules size refusal r act) v.1 s' (perform-exact r act s s' x)
-
     run-exact : (acts : List Act) → AllByRecursion (ValidAct script spells) acts → ExactRun (run_of script rules size refusal acts)
     unfolding run_of
-    run-exact acts v = after-exact acts start v (start-sound script rules) (record { wires = λ a b. tt; hands = λ a b. tt })
+    run-exact acts v =
+        (after-keeps script rules size refusal (ValidAct script spells) (λ q. SoundRun script rules q × ExactRun q)
+        (λ q act w k. let s = perform-sound script rules spells size refusal q act w k.0 in (s, perform-exact q act k.0 s k.1))
+        acts start v (start-sound script rules, record { wires = λ a b. tt; hands = λ a b. tt })).1
 
 -- so it is with every record
 pub record-exact : HoldsOfRecords ExactRun

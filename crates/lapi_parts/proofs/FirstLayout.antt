@@ -1,16 +1,15 @@
 -- Under the first layout sizes are the first layout's, and nothing is owed: each packet is acknowledged at once.
-use Rattle.std.proofs.Common.{◌≡◌, ℕ, Bool, true, false, cond, ◌&&◌, List, [], ◌∷◌, ◌++◌, refl, sym, ap, ◌∙◌}
-use Rattle.std.proofs.lemmas.Bool.{both_ways, cond-false, false_from_ne_true}
-use Rattle.std.proofs.lemmas.List.{append-nil}
+use Rattle.std.proofs.Common.{◌≡◌, ℕ, false, List, [], ◌∷◌, ap}
+use Rattle.std.proofs.lemmas.Bool.{cond-false}
 use Rattle.lapi_base.specs.declared.script.Script.{Script}
 use Rattle.lapi_base.specs.declared.rule.Rules.{Rules}
 use Rattle.lapi_base.specs.declared.packet.Packet.{Packet}
 use Rattle.lapi_base.specs.declared.event.Event.{Event}
 use Rattle.lapi_base.specs.Layout.{unit, longest, window, layout_of, waits_for_poll, unit_of, longest_of, window_of, holds_back}
-use Rattle.lapi_base.specs.Record.{Run, packets, fresh, ack, owed_ack, at_once, sends}
+use Rattle.lapi_base.specs.Record.{Run, packets, fresh, at_once, sends}
 use Rattle.lapi_base.specs.Valid.{ValidScript}
 use Rattle.lapi_base.specs.Links.{TellsAtOnce}
-use Rattle.lapi_base.specs.Seen.{IsRecord, HoldsOfRecords}
+use Rattle.lapi_base.specs.Seen.{IsRecord}
 use Rattle.lapi_laws.proofs.Owed.{run-told}
 use Rattle.lapi_parts.proofs.Records.{of-runs}
 

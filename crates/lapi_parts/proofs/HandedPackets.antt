@@ -1,8 +1,8 @@
 -- What a task asks of the numbers delivered to it, it can ask of the packets that were handed to it.
-use Rattle.std.proofs.Common.{◌≡◌, ℕ, suc, ◌+◌, ◌<◌, ◌≤◌, ◌==◌, max, Bool, true, false, cond, ◌&&◌, ◌||◌, not, List, [], ◌∷◌, ◌++◌, length, Some, refl, sym, ap, ◌∙◌, subst, ⊎_elim, arith}
+use Rattle.std.proofs.Common.{◌≡◌, ℕ, ◌+◌, ◌<◌, ◌==◌, true, cond, ◌&&◌, ◌||◌, not, List, [], ◌∷◌, ◌++◌, length, Some, sym, ap, ◌∙◌, subst, ⊎_elim}
 use Rattle.std.specs.Prelude.{slice_get}
 use Rattle.std.specs.List.{list_any, AllByRecursion}
-use Rattle.std.proofs.lemmas.Bool.{false≢true, and_parts, and_from, both_ways, eqb-true, eq-eqb, cond_both, cond-true, or_cases, or_left, or_right, cases_lt, false_from_ne_true}
+use Rattle.std.proofs.lemmas.Bool.{false≢true, and_parts, and_from, both_ways, eqb-true, eq-eqb, cond_both, cond-true, or_cases, or_left, or_right}
 use Rattle.std.proofs.lemmas.Option.{slice_get_within}
 use Rattle.lapi_base.specs.declared.script.Script.{Script}
 use Rattle.lapi_base.specs.declared.rule.Rules.{Rules}
@@ -20,36 +20,16 @@ use Rattle.lapi_base.specs.Operations.{statement, is_am, sender, receiver, fragm
 use Rattle.lapi_base.specs.Record.{Run, out, is_number, has_number, all_numbers, some_number, ack, arrival, after_land}
 use Rattle.lapi_base.specs.Atomic.{Atomic}
 use Rattle.lapi_base.specs.Arrived.{is_fragment, is_part_of, has_fragment, has_some, whole_by, is_whole, number_bound, least_number, ack_of, arrival_of}
-use Rattle.lapi_laws.proofs.NumberLaws.{every_below-at, every_below-from, least_missing-not, least_missing-least}
-use Rattle.lapi_laws.proofs.Deeds.{eqb-refl, name_eq-refl, name_eq-true, done-nil, done-cases}
-use Rattle.lapi_laws.proofs.Out.{get-front, out-copied}
+use Rattle.lapi_base.proofs.BelowLaws.{every_below-at, every_below-from, least_missing-same}
+use Rattle.lapi_base.proofs.ListLaws.{any-find, get-front, get-places, get-right, some-same}
+use Rattle.lapi_base.proofs.NameLaws.{done-cases, done-nil, name_eq-refl, name_eq-true}
+use Rattle.lapi_base.proofs.PacketNumbers.{bound-above}
+use Rattle.lapi_base.proofs.TestLaws.{eqb-refl, same_tests}
+use Rattle.lapi_laws.proofs.Out.{out-copy, out-copied}
 use Rattle.lapi_laws.proofs.Backward.{Atomic-head, Atomic-tail}
 use Rattle.lapi_laws.proofs.Sound.{Lists, Fits}
-use Rattle.lapi_laws.proofs.Arrival.{some-same, all_numbers-at, all_numbers-from, some_number-at, some_number-from}
-use Rattle.lapi_laws.proofs.Places.{get-places, get-right, fragments-at, fragments-get}
-
--- The least number that a set lacks is the same, whichever bound of the set it is looked for below.
-lacks : (n : ℕ) (p : ℕ → Bool) → ((k : ℕ) → p k ≡ true → k < n) → p (least_missing n p) ≡ false
-lacks n p h =
-    ⊎_elim
-    (λ (lt : least_missing n p < n). least_missing-not n p lt)
-    (λ (ge : n ≤ least_missing n p). false_from_ne_true _ (λ yes. let b : least_missing n p < n = h (least_missing n p) yes in absurd (omega arith)))
-    (cases_lt (least_missing n p) n)
-
-pub least_missing-same : (n m : ℕ) (p : ℕ → Bool) → ((k : ℕ) → p k ≡ true → k < n) → ((k : ℕ) → p k ≡ true → k < m) → least_missing n p ≡ least_missing m p
-least_missing-same n m p h g =
-    let one : least_missing n p ≤ least_missing m p = least_missing-least n p (least_missing m p) (lacks m p g) in
-    let two : least_missing m p ≤ least_missing n p = least_missing-least m p (least_missing n p) (lacks n p h) in
-    omega arith
-
--- An item that passes a test, and what other tests it passes.
-pub any-find : {X : Type 0} (t : X → Bool) (P : X → Type 0) (xs : List X) → AllByRecursion P xs → list_any t xs ≡ true → (x : X) × P x × (t x ≡ true) × ((u : X → Bool) → u x ≡ true → list_any u xs ≡ true)
-any-find t P [] all h = absurd (false≢true h)
-any-find t P (x ∷ xs) all h =
-    ⊎_elim
-    (λ (e : t x ≡ true). (x, all.0, e, λ u g. or_left (u x) (list_any u xs) g))
-    (λ (e : list_any t xs ≡ true). let r = any-find t P xs all.1 e in (r.0, r.1, r.2, λ u g. or_right (u x) (list_any u xs) (r.3 u g)))
-    (or_cases (t x) (list_any t xs) h)
+use Rattle.lapi_laws.proofs.Arrival.{all_numbers-at, all_numbers-from, some_number-at, some_number-from}
+use Rattle.lapi_laws.proofs.Places.{fragments-at, fragments-get}
 
 not-here : (e : Event) (J : List Event) (m : MsgName) → (Copied m ≡ deed e → ⊥) → done (Copied m) (e ∷ J) ≡ true → done (Copied m) J ≡ true
 not-here e J m apart d = ⊎_elim (λ (x : Copied m ≡ deed e). absurd (apart x)) (λ (x : done (Copied m) J ≡ true). x) (done-cases (Copied m) e J d)
@@ -62,17 +42,13 @@ module _ (script : Script) where
       let place = sym r.1 in
       (λ k. (name k, place k), subst (λ (j : ℕ). j < fragment_count script m) place r.2)
 
-  out-copy : (m : MsgName) (J : List Event) (a b : ℕ) → out script (Copy m ∷ J) a b ≡ cond (sender script m == a && receiver script m == b) (out script J a b ++ fragments script m) (out script J a b)
-  unfolding out
-  out-copy m J a b = refl
-
   abbrev OutHas : List Event → MsgName → ℕ → Type 0
   OutHas J m j = (k : ℕ) × (slice_get (out script J (sender script m) (receiver script m)) k ≡ Some (m, j))
 
   out-has-later : (n : MsgName) (J : List Event) (m : MsgName) (j : ℕ) → OutHas J m j → OutHas (Copy n ∷ J) m j
   out-has-later n J m j h = (
     h.0,
-    subst (λ xs. slice_get xs h.0 ≡ Some (m, j)) (sym (out-copy n J (sender script m) (receiver script m)))
+    subst (λ xs. slice_get xs h.0 ≡ Some (m, j)) (sym (out-copy script n J (sender script m) (receiver script m)))
         (cond_both (sender script n == sender script m && receiver script n == receiver script m) (out script J (sender script m) (receiver script m) ++ fragments script n) (out script J (sender script m) (receiver script m)) (λ xs. slice_get xs h.0 ≡ Some (m, j)) (λ _. get-front _ (fragments script n) h.0 (m, j) h.1) (λ _. h.1)),
   )
 
@@ -164,24 +140,6 @@ module _ (script : Script) where
     out-unique (Begin n t w ∷ J) h a b k l x p q = out-unique J (Atomic-tail script rules (Begin n t w) J h) a b k l x p q
     out-unique (End n t w ∷ J) h a b k l x p q = out-unique J (Atomic-tail script rules (End n t w) J h) a b k l x p q
 
-bound-own : (n p m : ℕ) → (p == n) ≡ true → n < max (suc p) m
-bound-own n p m h = let e : p ≡ n = eqb-true p n h in omega arith
-
-bound-above : (packets : List Packet) (n : ℕ) → has_number packets n ≡ true → n < number_bound packets
-unfolding has_number number_bound
-bound-above [] n h = absurd (false≢true h)
-bound-above (Data p ∷ ps) n h =
-    ⊎_elim
-    (λ (x : (p.seq == n) ≡ true). bound-own n p.seq (number_bound ps) x)
-    (λ (x : list_any (is_number n) ps ≡ true). let l : n < number_bound ps = bound-above ps n x in omega arith)
-    (or_cases (p.seq == n) (list_any (is_number n) ps) h)
-bound-above (Ack from to base bits ∷ ps) n h = bound-above ps n h
-
-pub same-tests : (x y : Bool) → (x ≡ true → y ≡ true) → (y ≡ true → x ≡ true) → x ≡ y
-same-tests true y f g = sym (f refl)
-same-tests false true f g = g refl
-same-tests false false f g = refl
-
 module _ (script : Script) (rules : Rules) (J : List Event) (handed : Lists) (a b : ℕ) where
   abbrev Fit : Packet → Type 0
   Fit = Fits script rules J handed a b
@@ -226,7 +184,7 @@ module _ (script : Script) (rules : Rules) (J : List Event) (handed : Lists) (a 
   pub some-local : (packets : List Packet) (m : MsgName) → AllByRecursion Fit packets → some_number script (out script J a b) m (has_number packets) ≡ has_some packets m
   unfolding has_some has_number
   some-local packets m all =
-      same-tests _ _
+      same_tests _ _
       (λ h.
       let r = some_number-at script (out script J a b) m (has_number packets) h in
       let p = any-find (is_number r.0) Fit packets all r.2 in
@@ -242,7 +200,7 @@ module _ (script : Script) (rules : Rules) (J : List Event) (handed : Lists) (a 
   whole-local packets p atomic from to fit all =
       let m = p.name in
       let copied = (out-copied script J a b p.seq (m, p.fragment) fit).0 in
-      same-tests _ _
+      same_tests _ _
       (λ h.
       every_below-from (fragment_count script m) (has_fragment (Data p ∷ packets) m)
       (λ j l.

@@ -14,15 +14,16 @@ use Rattle.lapi_base.specs.Links.{IsPartlyDelivered, StaysInWindow, FewArePartia
 use Rattle.lapi_base.specs.Seen.{HoldsOfRecords}
 use Rattle.lapi_base.specs.Arrived.{is_part_of, is_fragment, has_some, has_fragment, whole_by, is_whole}
 use Rattle.lapi_base.specs.Receiving.{PacketsAreInReach, IsThereInPart, FewAreThereInPart}
-use Rattle.lapi_laws.proofs.NumberLaws.{every_below-fails, any-get, all-weaker}
-use Rattle.lapi_laws.proofs.Deeds.{eqb-refl}
+use Rattle.lapi_base.proofs.BelowLaws.{every_below-fails}
+use Rattle.lapi_base.proofs.ListLaws.{all-weaker, any-find, any-get}
+use Rattle.lapi_base.proofs.TestLaws.{eqb-refl}
 use Rattle.lapi_laws.proofs.Out.{out-copied}
 use Rattle.lapi_laws.proofs.Sound.{Fits}
 use Rattle.lapi_laws.proofs.Lines.{SoundRun}
 use Rattle.lapi_laws.proofs.Reach.{sent-reach}
 use Rattle.lapi_laws.proofs.Partial.{few-partial}
 use Rattle.lapi_parts.proofs.Records.{of-runs, record-sound}
-use Rattle.lapi_parts.proofs.HandedPackets.{any-find, of-fit, fit-fragment, out-has, least-local}
+use Rattle.lapi_parts.proofs.HandedPackets.{of-fit, fit-fragment, out-has, least-local}
 
 module _ (script : Script) (rules : Rules) (r : Run) (s : SoundRun script rules r) where
   -- a packet of the wire has its number there

@@ -27,12 +27,13 @@ use Rattle.lapi_base.specs.Refusals.{next, why, joined}
 use Rattle.lapi_base.specs.Jobs.{queue, runs}
 use Rattle.lapi_base.specs.Record.{Run, joins, to_copy_of, ready, copy_each, followed, note_of, after_land, after_end, arrival, some_number, all_numbers, out, is_delivered, hand_over, deliver_entry, deliver, reply_with, event_if, proposed, unless_refused, add_event, step, poll, tick, begin_first, begin_at, begin, end_at, end, cut_entry, perform, data_clear}
 use Rattle.lapi_base.specs.TaskPart.{place_of, events_at, actor}
-use Rattle.lapi_laws.proofs.NumberLaws.{all-append}
-use Rattle.lapi_laws.proofs.Deeds.{eqb-refl, leg_eq-true}
-use Rattle.lapi_laws.proofs.Out.{out-copied, all-get}
+use Rattle.lapi_base.proofs.ListLaws.{all-any, all-append, all-flat_map, all-get, all-map}
+use Rattle.lapi_base.proofs.NameLaws.{leg_eq-true}
+use Rattle.lapi_base.proofs.TestLaws.{eqb-refl}
+use Rattle.lapi_laws.proofs.Out.{out-copied}
 use Rattle.lapi_laws.proofs.Workers.{begun}
 use Rattle.lapi_laws.proofs.Sound.{Fits}
-use Rattle.lapi_laws.proofs.Lines.{SoundRun, all-flat_map, all-map, all-any}
+use Rattle.lapi_laws.proofs.Lines.{SoundRun}
 use Rattle.lapi_parts.proofs.LocalEvents.{events-here, events-there}
 
 module _ (script : Script) where

@@ -16,8 +16,7 @@ use Rattle.lapi_base.specs.Record.{Run, start, perform, after, run_of}
 use Rattle.lapi_base.specs.Valid.{ValidAct, ValidLine}
 use Rattle.lapi_base.specs.Seen.{act_at, acts_of, record_of, performed}
 use Rattle.lapi_base.specs.Takes.{BeginsEmpty, TakesOneMore, TakesAll, TakesValid, StartIsRecord, RecordsGoOn, TakenIsRecord}
-use Rattle.lapi_laws.proofs.NumberLaws.{all-append}
-use Rattle.lapi_laws.proofs.Out.{all-get}
+use Rattle.lapi_base.proofs.ListLaws.{all-append, all-get}
 
 acts-more : (schedule : List Line) (taken : List ℕ) (n : ℕ) (act : Act) → act_at schedule n ≡ Some act → acts_of schedule (taken ++ n ∷ []) ≡ acts_of schedule taken ++ act ∷ []
 unfolding acts_of

@@ -19,7 +19,8 @@ use Rattle.lapi_base.specs.Refusals.{next}
 use Rattle.lapi_base.specs.Jobs.{is_job, landed_jobs, runs}
 use Rattle.lapi_base.specs.Record.{out}
 use Rattle.lapi_base.specs.TaskPart.{is_at, events_at}
-use Rattle.lapi_laws.proofs.Deeds.{eqb-refl, deed_eq-true, done-cons}
+use Rattle.lapi_base.proofs.NameLaws.{deed_eq-true, done-cons}
+use Rattle.lapi_base.proofs.TestLaws.{eqb-refl}
 
 -- an event that stands at the task, or one that doesn't
 pub events-here : (script : Script) (t : ℕ) (e : Event) (J : List Event) → is_at script t e ≡ true → events_at script t (e ∷ J) ≡ e ∷ events_at script t J

@@ -16,7 +16,7 @@ use Rattle.lapi_base.specs.Operations.{upto, statements, statement, sender, rece
 use Rattle.lapi_base.specs.Refusals.{partner, join_landed, joined, option_any, is_known, why_by, why}
 use Rattle.lapi_base.specs.Record.{Run, out, all_numbers, data_done, data_clear, is_acked, joins, to_copy_of, ready, copy_each, base}
 use Rattle.lapi_base.specs.TaskPart.{events_at}
-use Rattle.lapi_laws.proofs.Deeds.{eqb-refl}
+use Rattle.lapi_base.proofs.TestLaws.{eqb-refl}
 use Rattle.lapi_parts.proofs.LocalEvents.{done-local, out-local, events-here}
 
 pub by_points : {A B : Type 0} (f g : A → B) → ((x : A) → f x ≡ g x) → f ≡ g

@@ -29,8 +29,8 @@ use Rattle.lapi_base.specs.Packets.{head_by}
 use Rattle.lapi_base.specs.Valid.{ValidVector, ValidStatement, ValidScript, ValidRules}
 use Rattle.lapi_base.specs.Receiving.{bytes_in, NamesCounter}
 use Rattle.lapi_base.specs.Handlers.{answers}
-use Rattle.lapi_laws.proofs.NumberLaws.{filter-push}
-use Rattle.lapi_laws.proofs.Places.{upto-length}
+use Rattle.lapi_base.proofs.ListLaws.{filter-push}
+use Rattle.lapi_base.proofs.UptoLaws.{upto-length}
 use Rattle.lapi_parts.proofs.Accepted.{LiesWithin, Accepted}
 use Rattle.lapi_parts.proofs.SpelledParts.{IsNumbered, IsWithin, SameLengths}
 use Rattle.lapi_parts.proofs.SpelledHeads.{put-spelled, get_go-spelled, get_back-spelled, putv-spelled, getv_go-spelled, getv_back-spelled, rmw_go-spelled, rmw_back-spelled, am-spelled, note-spelled, gfence-spelled, addr-spelled}

@@ -20,8 +20,9 @@ use Rattle.lapi_base.specs.Atomic.{Atomic, Keeps}
 use Rattle.lapi_base.specs.Seen.{performed, HoldsOfRecords}
 use Rattle.lapi_base.specs.TaskPart.{place_of, place_of_deed, is_at, events_at, Part, part_at, actor}
 use Rattle.lapi_base.specs.ByPart.{OthersStay, EventsAreOwn}
-use Rattle.lapi_laws.proofs.NumberLaws.{all-append}
-use Rattle.lapi_laws.proofs.Deeds.{eqb-refl, deed_eq-true, done-cons, done-other}
+use Rattle.lapi_base.proofs.ListLaws.{all-append}
+use Rattle.lapi_base.proofs.NameLaws.{deed_eq-true, done-cons, done-other}
+use Rattle.lapi_base.proofs.TestLaws.{eqb-refl}
 use Rattle.lapi_laws.proofs.Backward.{Atomic-head, Atomic-tail}
 use Rattle.lapi_parts.proofs.Records.{record-sound}
 use Rattle.lapi_parts.proofs.LocalEvents.{same-sym, jobs-local}

@@ -34,9 +34,11 @@ use Rattle.lapi_base.specs.Arrived.{is_fragment, has_some, has_fragment, count_o
 use Rattle.lapi_base.specs.Receiving.{IsWord, IsThereInPart, SpansAreInMemory, HeadFits, AcksCoverSent, FitsScript, PacketsFitScript, HeadsAgree, NewAreOpen, NewHaveRoom}
 use Rattle.lapi_base.specs.Sending.{SentAreNumbers, AckedAreSent}
 use Rattle.lapi_base.specs.Handlers.{answers, has_completion, user}
-use Rattle.lapi_laws.proofs.NumberLaws.{any-all, any-get, least_missing-below}
-use Rattle.lapi_laws.proofs.Deeds.{eqb-refl, name_eq-true}
-use Rattle.lapi_laws.proofs.Out.{all-get, out-copied}
+use Rattle.lapi_base.proofs.BelowLaws.{least_missing-below}
+use Rattle.lapi_base.proofs.ListLaws.{all-get, any-all, any-find, any-get}
+use Rattle.lapi_base.proofs.NameLaws.{name_eq-true}
+use Rattle.lapi_base.proofs.TestLaws.{eqb-refl}
+use Rattle.lapi_laws.proofs.Out.{out-copied}
 use Rattle.lapi_laws.proofs.Backward.{there}
 use Rattle.lapi_laws.proofs.Sound.{Fits, number-known, acked-delivered}
 use Rattle.lapi_laws.proofs.Lines.{SoundRun}
@@ -48,7 +50,7 @@ use Rattle.lapi_parts.proofs.ExactBytes.{Exact, record-exact}
 use Rattle.lapi_parts.proofs.CarriedLengths.{carried-length}
 use Rattle.lapi_parts.proofs.Accepted.{LiesWithin, Accepted, copied-accepted}
 use Rattle.lapi_parts.proofs.MessageHeads.{round-small, spans-total, spans-same, same-total}
-use Rattle.lapi_parts.proofs.HandedPackets.{any-find, fragment-fit, out-below, out-unique}
+use Rattle.lapi_parts.proofs.HandedPackets.{fragment-fit, out-below, out-unique}
 use Rattle.lapi_parts.proofs.ArrivingPackets.{head-is, length-is, counts-is}
 use Rattle.lapi_parts.proofs.InReach.{part-delivered}
 

@@ -13,7 +13,7 @@ use Rattle.lapi_base.specs.declared.message.Leg.TheVariants.{Go, Back, Note, Ech
 use Rattle.lapi_base.specs.declared.message.MsgName.{MsgName}
 use Rattle.lapi_base.specs.declared.event.Event.{Event}
 use Rattle.lapi_base.specs.declared.event.Event.TheVariants.{Issue, Refuse, Enter, Pass, Copy, Head, Land, Begin, End}
-use Rattle.lapi_base.specs.Names.{message, name_eq, Deed, Copied, Landed, done}
+use Rattle.lapi_base.specs.Names.{message, name_eq, Copied, Landed, done}
 use Rattle.lapi_base.specs.Operations.{upto, statement, target, from_by, to_by, sender, receiver, is_am, is_rmw, has_back, fragment_count}
 use Rattle.lapi_base.specs.Handlers.{number_of, word_bytes, buffer, effect_of, answer_of, answer_pieces}
 use Rattle.lapi_base.specs.Values.{Memories, Write, Values, gathered, scattered, byte_after, new_word, at_target, at_origin, land_writes, store_writes, writes, with_bytes, land_bytes, source_by, bytes_after, held_after, values}
@@ -22,15 +22,18 @@ use Rattle.lapi_base.specs.Atomic.{Atomic}
 use Rattle.lapi_base.specs.Entries.{carried}
 use Rattle.lapi_base.specs.TaskPart.{is_at, events_at}
 use Rattle.lapi_base.specs.Arrived.{has_fragment, is_fragment, whole_by, is_whole, assembled}
-use Rattle.lapi_laws.proofs.NumberLaws.{every_below-from}
-use Rattle.lapi_laws.proofs.Deeds.{eqb-refl, name_eq-true, done-head, done-later}
-use Rattle.lapi_laws.proofs.Backward.{Atomic-head, Atomic-tail}
+use Rattle.lapi_base.proofs.BelowLaws.{every_below-from}
+use Rattle.lapi_base.proofs.ListLaws.{any-find}
+use Rattle.lapi_base.proofs.NameLaws.{done-head, done-later, name_eq-true, done-grown}
+use Rattle.lapi_base.proofs.TestLaws.{eqb-refl}
+use Rattle.lapi_laws.proofs.Once.{atomic-end}
+use Rattle.lapi_laws.proofs.Backward.{Atomic-head}
 use Rattle.lapi_laws.proofs.Sound.{Fits, landed-copied, before}
 use Rattle.lapi_laws.proofs.Lines.{SoundRun}
 use Rattle.lapi_parts.proofs.ExactBytes.{ExactRun, stays, stays-grown}
 use Rattle.lapi_parts.proofs.LocalEvents.{same-sym, folds}
 use Rattle.lapi_parts.proofs.LocalQuestions.{by_points}
-use Rattle.lapi_parts.proofs.HandedPackets.{any-find, out-has, fit-fragment}
+use Rattle.lapi_parts.proofs.HandedPackets.{out-has, fit-fragment}
 use Rattle.lapi_parts.proofs.WholeMessages.{assembled-bytes}
 
 -- ---- what has landed came whole
@@ -287,19 +290,15 @@ module _ (script : Script) (rules : Rules) where
 
   -- ---- in a record
 
-  suffix-atomic : (later J : List Event) → Atomic script rules (later ++ J) → Atomic script rules J
-  suffix-atomic [] J h = h
-  suffix-atomic (e ∷ later) J h = suffix-atomic later J (Atomic-tail script rules e (later ++ J) h)
-
   -- what came is what the message carried when it landed
   came-then : (r : Run) → SoundRun script rules r → ExactRun script rules r → (t : ℕ) (m : MsgName) (later J : List Event) → r.journal ≡ later ++ Land m ∷ J → receiver script m ≡ t → came r t m ≡ carried script rules J m
   came-then r s x t m later J e at =
       let K = Land m ∷ J in
       let all = subst (Atomic script rules) e s.atomic in
-      let own = suffix-atomic later K all in
+      let own = atomic-end script rules later K all in
       let landed = done-head (Land m) J in
       let copied = before script rules (Copied m) (Land m) J (λ y. cc) (landed-copied script rules K m own landed) in
-      came-is r s x t m at (subst (λ L. done (Landed m) L ≡ true) (sym e) (done-later-all later K (Landed m) landed))
+      came-is r s x t m at (subst (λ L. done (Landed m) L ≡ true) (sym e) (done-grown later K (Landed m) landed))
       ∙ ap (λ L. carried script rules L m) e
       ∙ stays-grown script rules later K m all (done-later (Copied m) (Land m) J copied)
       ∙ stays script rules (Land m) J m own copied
@@ -308,7 +307,7 @@ module _ (script : Script) (rules : Rules) where
   unfolding replayed values
   agrees-from r s x t later [] e = record { memory = λ u. refl; bytes = λ m at. refl; held = λ m at. refl }
   agrees-from r s x t later (f ∷ J) e =
-      one-agrees t (came r t) J f (replayed t (came r t) J) (suffix-atomic later (f ∷ J) (subst (Atomic script rules) e s.atomic))
+      one-agrees t (came r t) J f (replayed t (came r t) J) (atomic-end script rules later (f ∷ J) (subst (Atomic script rules) e s.atomic))
       (λ m same here. came-then r s x t m later J (e ∙ ap (λ g. later ++ g ∷ J) (sym same)) (eqb-true (receiver script m) t (subst (λ g. is_at script t g ≡ true) (sym same) here)))
       (agrees-from r s x t (later ++ f ∷ []) J (e ∙ sym (append_assoc later (f ∷ []) J)))
 

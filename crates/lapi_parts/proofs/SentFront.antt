@@ -1,9 +1,8 @@
 -- The numbers of a link go out in order: those that were sent are all below some bound.
 use Rattle.std.proofs.Common.{◌≡◌, ℕ, zero, suc, ◌+◌, ◌-◌, min, map, ◌<◌, ◌≤◌, ◌==◌, Bool, true, false, cond, ◌&&◌, ◌||◌, not, List, [], ◌∷◌, ◌++◌, length, Option, Some, None, refl, sym, ap, ◌∙◌, subst, ⊎_elim, arith, inl, inr}
 use Rattle.std.specs.Prelude.{slice_get, nat_lt}
-use Rattle.std.specs.List.{AllByRecursion, list_any, flat_map}
+use Rattle.std.specs.List.{list_any, flat_map}
 use Rattle.std.proofs.lemmas.Bool.{false≢true, and_parts, and_from, cond_both, eqb-true, eq-eqb, or_cases, or_left, or_right, lt-ltb, ltb-true, cases_lt, cases_Bool, cond-true, cond-false, le-ltb, ltb-false, both_ways, false_from_ne_true}
-use Rattle.std.proofs.lemmas.List.Folds.{list_any-append}
 use Rattle.std.proofs.lemmas.List.Concat.{flat_map-cons}
 use Rattle.std.proofs.lemmas.List.{map-append}
 use Rattle.lapi_base.specs.declared.script.Script.{Script}
@@ -22,54 +21,26 @@ use Rattle.lapi_base.specs.Operations.{upto, statements}
 use Rattle.lapi_base.specs.Refusals.{next, why}
 use Rattle.lapi_base.specs.Jobs.{queue, runs}
 use Rattle.lapi_base.specs.Packets.{data_packet}
-use Rattle.lapi_base.specs.Record.{Run, start, out, is_number, has_number, is_sent, is_acked, base, packet_of, packets, ready, fresh, stale, copy_each, ack, sends, at_once, with_handed, hand_over, deliver_entry, deliver, reply_with, unless_refused, add_event, step, poll, tick, begin_first, begin_at, begin, end_at, end, cut_entry, perform, after, run_of}
+use Rattle.lapi_base.specs.Record.{Run, start, out, has_number, is_sent, is_acked, base, packet_of, packets, ready, fresh, stale, copy_each, ack, sends, at_once, with_handed, hand_over, deliver_entry, deliver, reply_with, unless_refused, add_event, step, poll, tick, begin_first, begin_at, begin, end_at, end, cut_entry, perform, run_of}
 use Rattle.lapi_base.specs.Seen.{HoldsOfRecords}
 use Rattle.lapi_base.specs.Sending.{SentAreFront, SentHaveBound, PollsSendNext}
-use Rattle.lapi_laws.proofs.NumberLaws.{any-all, below-all, least_missing-below, least_missing-not}
-use Rattle.lapi_laws.proofs.Lines.{all-flat_map}
-use Rattle.lapi_laws.proofs.SentWindow.{sends-number, ack-entry}
+use Rattle.lapi_base.proofs.BelowLaws.{below-all, below-has, least_missing-below, least_missing-not}
+use Rattle.lapi_base.proofs.ListLaws.{get-some}
+use Rattle.lapi_base.proofs.PacketNumbers.{number-append}
+use Rattle.lapi_base.proofs.EveryRun.{after-any}
+use Rattle.lapi_laws.proofs.SentWindow.{packets-number, sends-number, ack-entry}
 use Rattle.lapi_parts.proofs.Records.{of-runs}
 use Rattle.lapi_parts.proofs.Receivable.{sent-numbers}
 
 -- ---- sets of numbers that packets have
 
-pub number-append : (xs ys : List Packet) (n : ℕ) → has_number (xs ++ ys) n ≡ (has_number xs n || has_number ys n)
-unfolding has_number
-number-append xs ys n = list_any-append (is_number n) xs ys
-
-pub get-some : {X : Type 0} (xs : List X) (n : ℕ) → n < length xs → (x : X) × (slice_get xs n ≡ Some x)
-get-some [] n l = absurd (omega arith)
-get-some (x ∷ xs) zero l = (x, refl)
-get-some (x ∷ xs) (suc n) l = get-some xs n (let q : n < length xs = omega arith in q)
-
--- a number among those below a bound that pass
-pub below-has : (n : ℕ) (p : ℕ → Bool) (k : ℕ) → k < n → p k ≡ true → list_any (λ x. x == k) (below n p) ≡ true
-unfolding below
-below-has zero p k l h = absurd (omega arith)
-below-has (suc n) p k l h =
-    cond_both (p n) (below n p ++ n ∷ []) (below n p) (λ xs. list_any (λ x. x == k) xs ≡ true)
-    (λ e. list_any-append (λ x. x == k) (below n p) (n ∷ [])
-    ∙ ⊎_elim
-    (λ (lt : k < n). or_left (list_any (λ x. x == k) (below n p)) (list_any (λ x. x == k) (n ∷ [])) (below-has n p k lt h))
-    (λ (ge : n ≤ k). or_right (list_any (λ x. x == k) (below n p)) (list_any (λ x. x == k) (n ∷ [])) (or_left (n == k) false (eq-eqb n k (let q : n ≡ k = omega arith in q))))
-    (cases_lt k n))
-    (λ e. ⊎_elim
-    (λ (lt : k < n). below-has n p k lt h)
-    (λ (ge : n ≤ k). absurd (false≢true (sym e ∙ subst (λ x. p x ≡ true) (let q : k ≡ n = omega arith in q) h)))
-    (cases_lt k n))
-
 module _ (script : Script) (rules : Rules) where
-  -- the packets of a list of numbers have these numbers, as far as the link has them
-  packet-number : (J : List Event) (n : ℕ) (o : Option (MsgName × ℕ)) → AllByRecursion (λ p. (k : ℕ) → is_number k p ≡ true → n ≡ k) (packet_of script rules J n o)
-  unfolding data_packet
-  packet-number J n None = tt
-  packet-number J n (Some pair) = (λ k h. eqb-true n k h, tt)
-
-  packet-there : (J : List Event) (n : ℕ) (o : Option (MsgName × ℕ)) (x : MsgName × ℕ) → o ≡ Some x → has_number (packet_of script rules J n o) n ≡ true
+  pub packet-there : (J : List Event) (n : ℕ) (o : Option (MsgName × ℕ)) (x : MsgName × ℕ) → o ≡ Some x → has_number (packet_of script rules J n o) n ≡ true
   unfolding data_packet has_number
   packet-there J n None x e = absurd (cc)
   packet-there J n (Some pair) x e = or_left (n == n) false (eq-eqb n n refl)
 
+  -- the packets of a list of numbers have these numbers, as far as the link has them
   pub packets-have : (J : List Event) (a b : ℕ) (numbers : List ℕ) (k : ℕ) → list_any (λ x. x == k) numbers ≡ true → k < length (out script J a b) → has_number (packets script rules J a b numbers) k ≡ true
   unfolding packets
   packets-have J a b [] k h l = absurd (false≢true h)
@@ -85,17 +56,6 @@ module _ (script : Script) (rules : Rules) where
       or_left (has_number first k) (has_number rest k) (subst (λ (m : ℕ). has_number (packet_of script rules J m (slice_get (out script J a b) m)) k ≡ true) (sym same) (packet-there J k (slice_get (out script J a b) k) x.0 x.1)))
       (λ (later : list_any (λ x. x == k) ns ≡ true). or_right (has_number first k) (has_number rest k) (packets-have J a b ns k later l))
       (or_cases (n == k) (list_any (λ x. x == k) ns) h)
-
-  packets-only : (J : List Event) (a b : ℕ) (P : ℕ → Type 0) (numbers : List ℕ) → AllByRecursion P numbers → (k : ℕ) → has_number (packets script rules J a b numbers) k ≡ true → P k
-  unfolding packets has_number
-  packets-only J a b P numbers all k h =
-      let each = all-flat_map P (λ p. (j : ℕ) → is_number j p ≡ true → P j) (λ n. packet_of script rules J n (slice_get (out script J a b) n)) numbers all (λ n pn. weaker (packet_of script rules J n (slice_get (out script J a b) n)) n pn (packet-number J n (slice_get (out script J a b) n))) in
-      let q = any-all (is_number k) (λ p. (j : ℕ) → is_number j p ≡ true → P j) (flat_map (λ n. packet_of script rules J n (slice_get (out script J a b) n)) numbers) each h in
-      q.1 k q.2
-    where
-      weaker : (ps : List Packet) (n : ℕ) → P n → AllByRecursion (λ p. (j : ℕ) → is_number j p ≡ true → n ≡ j) ps → AllByRecursion (λ p. (j : ℕ) → is_number j p ≡ true → P j) ps
-      weaker [] n pn h' = tt
-      weaker (p ∷ ps) n pn h' = (λ j e. subst P (h'.0 j e) pn, weaker ps n pn h'.1)
 
   -- ---- the sent numbers of a link are those below a bound
 
@@ -118,7 +78,7 @@ module _ (script : Script) (rules : Rules) where
       ∙ ⊎_elim
       (λ (sent : has_number old n ≡ true). or_left (has_number old k) (has_number new k) (front n k sent l))
       (λ (now : has_number new n ≡ true).
-      let room = packets-only J a b (λ m. (m < count) × (test m ≡ true)) (below count test) (below-all count test) n now in
+      let room = packets-number script rules J a b (λ m. (m < count) × (test m ≡ true)) (below count test) (below-all count test) n now in
       let near : n < edge = ltb-true n edge (and_parts (not (is_sent r a b n)) (nat_lt n edge) room.1).1 in
       let inside : n < count = room.0 in
       elim (cases_Bool (is_sent r a b k)) [
@@ -143,7 +103,7 @@ module _ (script : Script) (rules : Rules) where
       (⊎_elim
       (λ (sent : has_number old n ≡ true). front n k sent l)
       (λ (again : has_number new n ≡ true).
-      let room = packets-only r.journal a b (λ m. (m < count) × (test m ≡ true)) (below count test) (below-all count test) n again in
+      let room = packets-number script rules r.journal a b (λ m. (m < count) × (test m ≡ true)) (below count test) (below-all count test) n again in
       front n k (and_parts (is_sent r a b n) (not (is_acked r a b n)) room.1).0 l)
       (or_cases (has_number old n) (has_number new n) (sym (number-append old new n) ∙ h)))
 
@@ -189,14 +149,9 @@ module _ (script : Script) (rules : Rules) where
         ]
     perform-front r (Act.End t w) h = elim (runs r.journal t w) as (λ o. FrontRun (end_at script rules r t w o)) [ None ↦ h | Some m ↦ h ]
 
-    after-front : (acts : List Act) (r : Run) → FrontRun r → FrontRun (after script rules size refusal r acts)
-    unfolding after
-    after-front [] r h = h
-    after-front (act ∷ acts) r h = after-front acts (perform script rules size refusal r act) (perform-front r act h)
-
     run-front : (acts : List Act) → FrontRun (run_of script rules size refusal acts)
     unfolding run_of has_number
-    run-front acts = after-front acts start (λ a b n k h l. absurd (false≢true h))
+    run-front acts = after-any script rules size refusal FrontRun perform-front acts start (λ a b n k h l. absurd (false≢true h))
 
 -- the law
 pub sent-front : HoldsOfRecords SentAreFront

@@ -23,8 +23,7 @@ use Rattle.lapi_base.specs.Handlers.{number_of, word_bytes, buffer, effect, effe
 use Rattle.lapi_base.specs.Values.{Memories, Write, Values, gathered, scattered, byte_after, new_word, at_target, at_origin, land_writes, store_writes, writes, writer, with_bytes, land_bytes, source_by, values}
 use Rattle.lapi_base.specs.Valid.{IsByte, ValidStatement, ValidScript}
 use Rattle.lapi_base.specs.declared.handler.Effect.{Effect}
-use Rattle.lapi_laws.proofs.NumberLaws.{all-append, all-weaker, all-filter}
-use Rattle.lapi_laws.proofs.Lines.{all-flat_map, all-map, all-any}
+use Rattle.lapi_base.proofs.ListLaws.{all-any, all-append, all-filter, all-flat_map, all-map, all-weaker}
 
 abbrev pub AllBytes : List ℕ → Type 0
 AllBytes xs = AllByRecursion IsByte xs

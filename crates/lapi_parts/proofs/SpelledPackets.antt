@@ -19,7 +19,7 @@ use Rattle.lapi_base.specs.declared.head.NoteOp.TheVariants as notes
 use Rattle.lapi_base.specs.declared.event.Event.{Event}
 use Rattle.lapi_base.specs.Form.{Done, ◌>>=◌, bytes_form, IsSpelled}
 use Rattle.lapi_base.specs.Fragments.{fragments_in, fragment_length}
-use Rattle.lapi_base.specs.Layout.{First, unit_of, longest_of, window_of, unit}
+use Rattle.lapi_base.specs.Layout.{First, unit_of, unit}
 use Rattle.lapi_base.specs.Heads.{is_operation, operation_form, head_form}
 use Rattle.lapi_base.specs.Spelling.{task_form, kind_form, front_form, acknowledgement_form, is_leg, leg_of, leg_form, name_form, is_length, length_form, fragment_form, data_form, packet_form, Spells}
 use Rattle.lapi_base.specs.Written as written
@@ -33,8 +33,10 @@ use Rattle.lapi_base.specs.Valid.{IsByte, ValidScript, ValidRules, ValidStatemen
 use Rattle.lapi_base.specs.Seen.{HoldsOfRecords}
 use Rattle.lapi_base.specs.Entries.{GoesFrom, carried, IsOfNumber, PacketsArePlaced, PacketsAreSpelled, PacketsAreWritten}
 use Rattle.lapi_base.specs.Handlers.{answers}
-use Rattle.lapi_laws.proofs.Deeds.{eqb-refl}
-use Rattle.lapi_laws.proofs.Out.{all-get, out-copied}
+use Rattle.lapi_base.proofs.ListLaws.{all-get}
+use Rattle.lapi_base.proofs.TestLaws.{eqb-refl}
+use Rattle.lapi_laws.proofs.Still.{copied-ends}
+use Rattle.lapi_laws.proofs.Out.{out-copied}
 use Rattle.lapi_laws.proofs.Backward.{there}
 use Rattle.lapi_laws.proofs.Lines.{SoundRun}
 use Rattle.lapi_laws.proofs.Shorts.{statements-few, numbers-few, copied-short, copied-few}
@@ -249,20 +251,7 @@ counts-same : (script : Script) → ValidScript script → (m : MsgName) → fra
 unfolding fragment_count
 counts-same script valid m = ap (λ u. fragments_in u (message_length script m)) (first-unit script valid)
 
-ends-small : (script : Script) (answers : Bool) (a d : ℕ) (leg : Leg) (s : Statement) → a < script.tasks → d < script.tasks → has_leg script answers a leg s ≡ true → (from_by a d leg < script.tasks) × (to_by a d leg < script.tasks)
-ends-small script ans a d Go s la ld h = (la, ld)
-ends-small script ans a d Back s la ld h = (ld, la)
-ends-small script ans a d Note s la ld h = (ld, la)
-ends-small script ans a d Echo s la ld h = (ld, la)
-ends-small script ans a d (Join e) s la ld h = (la, ltb-true e script.tasks (and_parts (nat_lt e script.tasks) (not (e == a)) (and_parts (has_join s) (nat_lt e script.tasks && not (e == a)) h).1).0)
-
 module _ (script : Script) (rules : Rules) where
-  -- each message that was copied goes between tasks that there are
-  pub copied-ends : (J : List Event) (m : MsgName) → Atomic script rules J → done (Copied m) J ≡ true → (sender script m < script.tasks) × (receiver script m < script.tasks)
-  copied-ends J m h d =
-      let is = and_parts _ _ (there script rules (Copied m) J h d) in
-      ends-small script (answers script rules m.origin m.statement) m.origin (target script m.origin m.statement) m.leg (statement script m.origin m.statement) (ltb-true m.origin script.tasks (and_parts (nat_lt m.origin script.tasks) (nat_lt m.statement (length (statements script m.origin))) is.0).0) (copied-accepted script rules J m h d).target is.1
-
   -- a packet of a wire goes between its ends
   packet-from : Packet → ℕ
   packet-from (Data p) = p.from
@@ -276,12 +265,12 @@ module _ (script : Script) (rules : Rules) where
   unfolding data_packet packet-from packet-to
   wire-placed r a b (Data p) s of told =
       let copied = out-copied script r.journal a b p.seq (p.name, p.fragment) of.0 in
-      let ends = copied-ends r.journal p.name s.atomic copied.0 in
+      let ends = copied-ends script rules r.journal p.name s.atomic copied.0 in
       (subst (λ (n : ℕ). n < script.tasks) copied.1 ends.0, subst (λ (n : ℕ). n < script.tasks) copied.2 ends.1, (ap packet-from of.1 ∙ copied.1, ap packet-to of.1 ∙ copied.2))
   wire-placed r a b (Ack from to base bits) s of told = (told.2, told.3, (told.0, told.1))
 
 module _ (script : Script) (rules : Rules) (valid : ValidScript script) (few : ValidRules rules) where
-  -- its length and its head keep their rules
+  -- a message's length and its head keep their rules
   size-kept : (m : MsgName) → has_leg script (answers script rules m.origin m.statement) m.origin m.leg (statement script m.origin m.statement) ≡ true → Accepted script rules (target script m.origin m.statement) (statement script m.origin m.statement) → is_length First m.leg (written.head_number (head_by script m m.leg (statement script m.origin m.statement))) (message_length script m) ≡ true
   unfolding message_length
   size-kept m g f = length-kept script rules valid few m m.leg (statement script m.origin m.statement) g f

@@ -22,8 +22,8 @@ use Rattle.lapi_base.specs.Packets.{data_packet}
 use Rattle.lapi_base.specs.Atomic.{Atomic}
 use Rattle.lapi_base.specs.Entries.{carried}
 use Rattle.lapi_base.specs.Arrived.{is_fragment, has_fragment, whole_by, is_whole, payload_of, assembled}
-use Rattle.lapi_laws.proofs.NumberLaws.{every_below-at}
-use Rattle.lapi_laws.proofs.Deeds.{name_eq-true}
+use Rattle.lapi_base.proofs.BelowLaws.{every_below-at}
+use Rattle.lapi_base.proofs.NameLaws.{name_eq-true}
 use Rattle.lapi_parts.proofs.ExactBytes.{Exact}
 use Rattle.lapi_parts.proofs.CarriedLengths.{carried-length}
 

@@ -22,8 +22,9 @@ use Rattle.lapi_base.specs.Seen.{HoldsOfRecords}
 use Rattle.lapi_base.specs.Entries.{IsOfNumber}
 use Rattle.lapi_base.specs.Arrived.{is_whole, assembled}
 use Rattle.lapi_base.specs.Landing.{CarriedHaveLength, AllAreBytes, BuffersAreHeld, memory_at, BytesComeWhole, LandedAreWhole, OthersWriteNothing, StoresWrite, LandingsWrite, EndsWrite}
-use Rattle.lapi_laws.proofs.NumberLaws.{all-weaker}
-use Rattle.lapi_laws.proofs.Deeds.{name_eq-refl, name_eq-true, done-later, eqb-refl, done-head}
+use Rattle.lapi_base.proofs.ListLaws.{all-weaker}
+use Rattle.lapi_base.proofs.NameLaws.{done-head, done-later, name_eq-refl, name_eq-true}
+use Rattle.lapi_base.proofs.TestLaws.{eqb-refl}
 use Rattle.lapi_laws.proofs.Backward.{Atomic-head, Atomic-tail}
 use Rattle.lapi_laws.proofs.Sound.{landed-copied, before}
 use Rattle.lapi_parts.proofs.Records.{record-sound}

@@ -3,7 +3,7 @@ use Rattle.std.proofs.Common.{◌≡◌, ◌≢◌, ℕ, zero, suc, ◌+◌, ◌
 use Rattle.std.specs.Int.{w64, bit_at, div_ceil}
 use Rattle.std.specs.List.{range_with_len, list_all, flat_map}
 use Rattle.std.specs.Option.{unwrap_or}
-use Rattle.std.proofs.lemmas.Bool.{cases_lt, cases_eq, eqb-true, le-leb, lt-leb}
+use Rattle.std.proofs.lemmas.Bool.{both_ways, cases_lt, cases_eq, eqb-true, le-leb, lt-leb}
 use Rattle.std.proofs.lemmas.List.{get_or-set_other, length-set, length-replicate, get_or-replicate, get_or_default, get_or_past, take_all, append-nil}
 use Rattle.std.proofs.lemmas.List.FromFn.{length-map-range_with_len, get_or-map-range_with_len, map-range_with_len_more, fill_by_all}
 use Rattle.std.proofs.lemmas.List.Folds.{list_all_at}
@@ -14,9 +14,9 @@ use Rattle.std.proofs.lemmas.Nat.Bits.{bit_at_set_same, bit_at_set_other, bit_at
 use Rattle.std.proofs.lemmas.Nat.{or_lt}
 use Rattle.std.proofs.Math.Seq.{take-add}
 use Rattle.lapi_base.specs.Fragments.{fragments_in, fragment_length, fragment_bytes}
+use Rattle.lapi_base.proofs.BitLaws.{IsRun, one_bit, no_bit}
 use Rattle.lapi_reassembly.specs.Partial.{IsUnit, IsPartial, fragments_of}
 use Rattle.lapi_reassembly.proofs.Chunks.{written, length-written, part_there, chunk_before, chunk_after}
-use Rattle.lapi_reassembly.proofs.LowBits.{IsRun}
 
 -- Places of fragments.
 pub place_within : (unit len j : ℕ) → IsUnit unit → j < fragments_in unit len → unit * j ≤ len
@@ -151,13 +151,13 @@ whole_by_run unit received t bytes fits run =
     let count = length-fragments unit received bytes in
     ⊎_elim
     (λ (lt : t < n).
-    let missing : is_some (get_or fragments t None) ≡ false = some_at unit received t bytes lt ∙ ap (λ b. b == 1) (run.clear (omega (arith, lt, count_fits unit (length bytes) fits))) in
+    let missing : is_some (get_or fragments t None) ≡ false = some_at unit received t bytes lt ∙ ap (λ b. b == 1) (no_bit received t (λ set. both_ways _ run.clear set)) in
     lt-leb n t lt ∙ sym (list_all_at is_some fragments t None (omega (arith, lt, count)) missing))
     (λ (ge : n ≤ t).
     le-leb n t ge
     ∙ sym (list_all-from_AllPass is_some fragments (λ k d l.
     let lt : k < n = omega (arith, l, count) in
-    ap is_some (get_or_default fragments k d None l) ∙ some_at unit received k bytes lt ∙ ap (λ b. b == 1) (run.set k (omega (arith, lt, ge))))))
+    ap is_some (get_or_default fragments k d None l) ∙ some_at unit received k bytes lt ∙ ap (λ b. b == 1) (one_bit received k (run.set k (omega (arith, lt, ge)))))))
     (cases_lt t n)
 
 -- The payloads one after another are the message's bytes.

@@ -75,7 +75,7 @@ impl Partial {
         self.received |= 1 << fragment;
     }
 
-    #[tactic(auto, using(crate::proofs::PartialLaws::whole_by_run, crate::proofs::PartialLaws::ceiling, crate::proofs::LowBits::run_of))]
+    #[tactic(auto, using(crate::proofs::PartialLaws::whole_by_run, crate::proofs::PartialLaws::ceiling, lapi_base::proofs::BitLaws::run_of))]
     pub(crate) fn is_whole(&self) -> bool
         ensures { result ≡ is_whole self.now }
     {

@@ -1,35 +1,15 @@
 -- A text for each number below a bound.
-use Rattle.std.proofs.Common.{◌≡◌, ℕ, zero, suc, ◌+◌, ◌<◌, ◌≤◌, List, [], ◌∷◌, ◌++◌, length, drop, get_or, refl, sym, ◌∙◌, subst, Option, arith, ⊎_elim}
-use Rattle.std.proofs.lemmas.Bool.{cases_lt}
-use Rattle.std.proofs.lemmas.List.{length-append, drop_all}
-use Rattle.std.proofs.Math.ListN.{get_or-append}
-use Rattle.std.proofs.Math.Seq.{get_or-append_seam}
+use Rattle.std.proofs.Common.{ℕ, ◌+◌, ◌<◌, ◌≤◌, List, length, drop, sym, subst, Option, arith}
+use Rattle.std.proofs.lemmas.List.{drop_all}
 use Rattle.std.specs.List.{flat_map}
 use Rattle.std.specs.Io.KnownBytes.{Appends}
-use Rattle.lapi_base.specs.Below.{below}
 use Rattle.lapi_base.specs.Operations.{upto}
+use Rattle.lapi_base.proofs.UptoLaws.{upto-length, upto_at}
 use Rattle.lapi_report.specs.Written.{AppendsFront, Progress}
 use Rattle.lapi_report.proofs.Progress.{item_written, item_stops, is_done}
 
-pub upto_length : (n : ℕ) → length (upto n) ≡ n
-unfolding upto below
-upto_length zero = refl
-upto_length (suc n) = let e = upto_length n in omega (arith, length-append (upto n) (n ∷ []), e)
-
--- each number stands at its own place
-pub upto_at : (n i d : ℕ) → i < n → get_or (upto n) i d ≡ i
-unfolding upto below
-upto_at zero i d h = absurd (omega arith)
-upto_at (suc n) i d h =
-    ⊎_elim
-    (λ (lt : i < n). get_or-append (upto n) (n ∷ []) d i (let e = upto_length n in omega (arith, e)) ∙ upto_at n i d lt)
-    (λ (ge : n ≤ i).
-    let e : n ≡ i = omega arith in
-    subst (λ k. get_or (upto n ++ n ∷ []) k d ≡ k) e (subst (λ k. get_or (upto n ++ n ∷ []) k d ≡ n) (upto_length n) (get_or-append_seam (upto n) n [] d)))
-    (cases_lt i n)
-
 below_length : (n i : ℕ) → i < n → i < length (upto n)
-below_length n i h = let e = upto_length n in omega (arith, e)
+below_length n i h = let e = upto-length n in omega (arith, e)
 
 pub number_written : (f : ℕ → List ℕ) (n i : ℕ) (old now next : Option (List ℕ)) (text : List ℕ)
     → i < n → Progress old now text (flat_map f (drop i (upto n))) → Appends now next (f i) → Progress old next text (flat_map f (drop (i + 1) (upto n)))
@@ -43,4 +23,4 @@ number_stops f n i old now next text h p a =
 
 pub numbers_done : (f : ℕ → List ℕ) (n i : ℕ) (old now : Option (List ℕ)) (text : List ℕ) → n ≤ i → Progress old now text (flat_map f (drop i (upto n))) → Appends old now text
 numbers_done f n i old now text h p =
-    is_done old now text (subst (λ xs. Progress old now text (flat_map f xs)) (drop_all i (upto n) (let e = upto_length n in omega (arith, e))) p)
+    is_done old now text (subst (λ xs. Progress old now text (flat_map f xs)) (drop_all i (upto n) (let e = upto-length n in omega (arith, e))) p)

@@ -1,23 +1,11 @@
 -- A text that is written piece by piece.
-use Rattle.std.proofs.Common.{◌≡◌, ℕ, ◌+◌, ◌<◌, List, [], ◌++◌, length, drop, get_or, refl, sym, ap, ◌∙◌, append_assoc, subst, Option, Some, None, Result, Ok, Err}
+use Rattle.std.proofs.Common.{◌≡◌, ℕ, ◌+◌, ◌<◌, List, [], ◌++◌, length, drop, get_or, refl, sym, ap, ◌∙◌, append_assoc, subst, Option, Result, Ok, Err}
 use Rattle.std.proofs.lemmas.List.{append-nil, drop_more}
 use Rattle.std.specs.Prelude.{IsErr}
 use Rattle.std.specs.List.{flat_map}
 use Rattle.std.specs.Io.KnownBytes.{Appends}
+use Rattle.lapi_base.proofs.Appended.{appended_twice, nothing_appended}
 use Rattle.lapi_report.specs.Written.{AppendsFront, Progress, Wrote, WroteUpTo}
-
-pub nothing_appended : (old : Option (List ℕ)) → Appends old old []
-nothing_appended None = tt
-nothing_appended (Some xs) = sym (append-nil xs)
-
-pub nothing_written : (old : Option (List ℕ)) (text : List ℕ) → AppendsFront old old text
-nothing_written old text = ([], text, refl, nothing_appended old)
-
-pub appended_twice : (old now next : Option (List ℕ)) (a b : List ℕ) → Appends old now a → Appends now next b → Appends old next (a ++ b)
-appended_twice None now next a b h k = tt
-appended_twice (Some xs) None next a b h k = absurd h
-appended_twice (Some xs) (Some ys) None a b h k = absurd k
-appended_twice (Some xs) (Some ys) (Some zs) a b h k = k ∙ ap (λ s. s ++ b) h ∙ append_assoc xs a b
 
 pub starts : (old : Option (List ℕ)) (text : List ℕ) → Progress old old text text
 starts old text = record { front = []; appended = nothing_appended old; whole = refl }

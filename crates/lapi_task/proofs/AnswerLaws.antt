@@ -10,19 +10,19 @@ use Rattle.lapi_base.specs.declared.wire.WireEntry.{WireEntry}
 use Rattle.lapi_base.specs.Arrived.{least_number, ack_of}
 use Rattle.lapi_base.specs.Below.{bits_of}
 use Rattle.lapi_base.specs.Layout.{window_of}
-use Rattle.lapi_base.specs.Record.{Run, has_number, ack, with_handed, hand_over, deliver_entry, deliver, at_once}
+use Rattle.lapi_base.specs.Record.{Run, has_number, ack, with_handed, hand_over, deliver_entry, deliver}
 use Rattle.lapi_base.specs.Seen.{no_rules, IsRecord}
 use Rattle.lapi_base.specs.Spelling.{HasSpelling}
 use Rattle.lapi_base.specs.Written as written
-use Rattle.lapi_laws.proofs.Deeds.{eqb-refl}
 use Rattle.lapi_link.specs.Receiver.{ReceivingEnd, ReceivesFor}
 use Rattle.lapi_parts.proofs.ArrivingPackets.{next-acks-told}
 use Rattle.lapi_task.specs.declared.task.Task.{Task}
 use Rattle.lapi_task.specs.Answers.{HasTaken, answer}
 use Rattle.lapi_task.specs.StandsFor.{ReceiverAt}
 use Rattle.lapi_task.proofs.AnswerSpelled.{ack-spelled}
-use Rattle.lapi_task.proofs.Lists.{at-place}
 use Rattle.lapi_base.specs.Valid.{ValidScript}
+use Rattle.lapi_base.proofs.ListLaws.{at-place}
+use Rattle.lapi_base.proofs.TestLaws.{eqb-refl}
 use Rattle.lapi_parts.proofs.FirstLayout.{first-window, told-at-once}
 
 module _ (script : Script) where

@@ -17,7 +17,8 @@ use Rattle.lapi_base.specs.Record.{Run, has_number, has_ack, with_handed, hand_o
 use Rattle.lapi_base.specs.Seen.{no_rules}
 use Rattle.lapi_base.specs.Valid.{ValidScript}
 use Rattle.lapi_base.specs.Written as written
-use Rattle.lapi_laws.proofs.Deeds.{eqb-refl}
+use Rattle.lapi_base.proofs.ListLaws.{at-place, get-set, get-set-other}
+use Rattle.lapi_base.proofs.TestLaws.{eqb-refl}
 use Rattle.lapi_link.specs.Receiver.{ReceivingEnd, packet_of, partial_by, partial_of, ReceivesFor}
 use Rattle.lapi_link.specs.Sender.{SendingEnd, IsAcked}
 use Rattle.lapi_parts.proofs.FirstLayout.{first-window}
@@ -30,7 +31,6 @@ use Rattle.lapi_task.specs.declared.task.Task.{Task}
 use Rattle.lapi_task.specs.Does.{IsAt, Does}
 use Rattle.lapi_task.specs.Sends.{SendsFor, packet_at}
 use Rattle.lapi_task.specs.StandsFor.{SenderAt, ReceiverAt, HoldsFor, StandsFor}
-use Rattle.lapi_task.proofs.Lists.{at-place, get-set, get-set-other}
 
 module _ (script : Script) (ps : List Packet) (x y base bits : ℕ) where
   -- Among packets that were handed over, an acknowledgement tells of no number and of no fragment,

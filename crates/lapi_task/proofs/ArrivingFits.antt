@@ -17,12 +17,11 @@ use Rattle.lapi_base.specs.Packets.{data_packet}
 use Rattle.lapi_base.specs.Receiving.{FitsScript, IsThereInPart}
 use Rattle.lapi_base.specs.Record.{Run, is_delivered}
 use Rattle.lapi_base.specs.Seen.{no_rules, IsRecord}
-use Rattle.lapi_laws.proofs.NumberLaws.{every_below-at}
-use Rattle.lapi_laws.proofs.Out.{all-get, out-copied}
+use Rattle.lapi_laws.proofs.Out.{out-copied}
 use Rattle.lapi_laws.proofs.Shorts.{copied-short}
 use Rattle.lapi_laws.proofs.Sound.{Fits as IsOf}
 use Rattle.lapi_link.specs.Receiver.{is_complete, IsPartOnly, Fits}
-use Rattle.lapi_link.proofs.HeldPackets.{packet-found, some-there}
+use Rattle.lapi_link.proofs.HeldPackets.{packet-found}
 use Rattle.lapi_parts.proofs.ArrivingPackets.{counts-is, length-is, repeats-known}
 use Rattle.lapi_parts.proofs.ExactBytes.{Exact, record-exact}
 use Rattle.lapi_parts.proofs.InReach.{packets-in-reach}
@@ -31,6 +30,9 @@ use Rattle.lapi_parts.proofs.Records.{record-sound}
 use Rattle.lapi_task.specs.Performed.{IsPerformed}
 use Rattle.lapi_parts.proofs.FirstLayout.{first-unit, first-longest}
 use Rattle.lapi_base.specs.Valid.{ValidScript}
+use Rattle.lapi_base.proofs.BelowLaws.{every_below-at}
+use Rattle.lapi_base.proofs.ListLaws.{all-get}
+use Rattle.lapi_base.proofs.PacketNumbers.{some-there}
 
 payload_in : Packet → List ℕ
 payload_in (Data p) = p.payload

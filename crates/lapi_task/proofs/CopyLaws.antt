@@ -20,7 +20,6 @@ use Rattle.lapi_base.specs.Counters.{count, reads, tells, copy_tells, is_counter
 use Rattle.lapi_base.specs.Entries.{carried}
 use Rattle.lapi_base.specs.Fragments.{fragments_in, fragment_bytes}
 use Rattle.lapi_base.specs.Jobs.{runs}
-use Rattle.lapi_base.specs.Layout.{unit_of}
 use Rattle.lapi_base.specs.Names.{message, name_eq, done, Issued, Copied}
 use Rattle.lapi_base.specs.Operations.{upto, statement, statements, is_data, target, sender, receiver, message_length, fragment_count, fragments, address, origin_pieces, org_counter}
 use Rattle.lapi_base.specs.Operations as operations
@@ -32,8 +31,11 @@ use Rattle.lapi_base.specs.Seen.{no_rules}
 use Rattle.lapi_base.specs.Spelling.{HasSpelling}
 use Rattle.lapi_base.specs.Values.{values, memory_bytes, gathered}
 use Rattle.lapi_base.specs.Written as written
-use Rattle.lapi_laws.proofs.Deeds.{eqb-refl, name_eq-refl, done-head, done-other}
-use Rattle.lapi_laws.proofs.NumberLaws.{below-all}
+use Rattle.lapi_base.proofs.BelowLaws.{below-all}
+use Rattle.lapi_base.proofs.ListLaws.{get-after, get-before, get-set, get-set-other, get-some}
+use Rattle.lapi_base.proofs.NameLaws.{done-head, done-other, name_eq-refl}
+use Rattle.lapi_base.proofs.TestLaws.{eqb-refl}
+use Rattle.lapi_base.proofs.UptoLaws.{upto-length}
 use Rattle.lapi_laws.proofs.Shorts.{copied-short}
 use Rattle.lapi_link.specs.Sender.{SendingEnd}
 use Rattle.lapi_parts.proofs.Accepted.{copied-accepted}
@@ -50,11 +52,10 @@ use Rattle.lapi_task.specs.Sends.{packet_at, SendsFor}
 use Rattle.lapi_task.specs.StandsFor.{is_uncopied, SenderAt, ReceiverAt, HoldsFor, StandsFor}
 use Rattle.lapi_task.proofs.CopyLists.{below-less, other-message}
 use Rattle.lapi_task.proofs.Forms.{data-put, statement-is}
-use Rattle.lapi_task.proofs.Lists.{get-some, get-set, get-set-other, get-before, get-after}
-use Rattle.lapi_task.proofs.Packets.{packet-stays, packet-same, packet-new, out-own, fragments-length}
+use Rattle.lapi_laws.proofs.Places.{fragments-length}
+use Rattle.lapi_task.proofs.Packets.{packet-stays, packet-same, packet-new, out-own}
 use Rattle.lapi_task.proofs.ReceiveCounts.{announced-length, announced-at}
 use Rattle.lapi_task.proofs.StepMemories.{read-over, memory-none, memory-length}
-use Rattle.lapi_laws.proofs.Places.{upto-length}
 
 -- ---- the link
 

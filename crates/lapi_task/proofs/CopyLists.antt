@@ -12,12 +12,11 @@ use Rattle.lapi_base.specs.Below.{below}
 use Rattle.lapi_base.specs.Names.{Issued, Copied, Entered, done, message, name_eq}
 use Rattle.lapi_base.specs.Operations.{upto, statement, statements, is_data}
 use Rattle.lapi_base.specs.Record.{copy_each, ready, to_copy_of, joins, followed}
-use Rattle.lapi_laws.proofs.Deeds.{done-other}
-use Rattle.lapi_laws.proofs.NumberLaws.{all-append}
+use Rattle.lapi_base.proofs.ListLaws.{all-append, flat_map-push}
+use Rattle.lapi_base.proofs.NameLaws.{done-other}
 use Rattle.lapi_task.specs.Performed.{IsPerformed}
 use Rattle.lapi_task.specs.StandsFor.{is_uncopied}
 use Rattle.lapi_task.proofs.Forms.{no-join}
-use Rattle.lapi_task.proofs.Lists.{flat_map-push}
 
 -- the copies of these statements of task t
 abbrev pub copies : (t : ℕ) → List ℕ → List Event

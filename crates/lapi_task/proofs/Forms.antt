@@ -12,11 +12,10 @@ use Rattle.lapi_base.specs.declared.script.Script.{Script}
 use Rattle.lapi_base.specs.Built.{is_plain, is_built_statement, IsBuiltList}
 use Rattle.lapi_base.specs.Operations.{statement, is_data, is_am, is_rmw, has_back, has_join}
 use Rattle.lapi_base.specs.Operations as operations
-use Rattle.lapi_laws.proofs.Out.{all-get}
+use Rattle.lapi_base.proofs.ListLaws.{all-get, all-or, get-some}
 use Rattle.lapi_task.specs.declared.put.Put.{Put}
 use Rattle.lapi_task.specs.Performed.{IsPerformed}
 use Rattle.lapi_task.specs.Puts.{statement_of}
-use Rattle.lapi_task.proofs.Lists.{get-some, all-or}
 
 plain-is : (a : Addr) → is_plain a ≡ true → (x : ℕ) × (a ≡ Plain x)
 plain-is (Plain x) h = (x, refl)

@@ -7,7 +7,6 @@ pub mod CopyLaws
 pub mod CopyLists
 pub mod Forms
 pub mod Jobless
-pub mod Lists
 pub mod NewStands
 pub mod Packets
 pub mod PollCopies

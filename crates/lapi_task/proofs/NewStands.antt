@@ -12,16 +12,15 @@ use Rattle.lapi_base.specs.Names.{done}
 use Rattle.lapi_base.specs.Operations.{statements, statement, is_data}
 use Rattle.lapi_base.specs.Record.{start, out, has_number, has_ack}
 use Rattle.lapi_base.specs.Refusals.{next, refusals}
-use Rattle.lapi_laws.proofs.Out.{all-get}
 use Rattle.lapi_link.specs.Sender.{SendingEnd, IsFresh}
-use Rattle.lapi_window.proofs.Sets.{below-none}
 use Rattle.lapi_task.specs.declared.task.Task.{Task}
 use Rattle.lapi_task.specs.Sends.{packet_at, SendsFor}
 use Rattle.lapi_task.specs.StandsFor.{SenderAt, ReceiverAt, is_uncopied, HoldsFor, StandsFor}
 use Rattle.lapi_task.specs.Steps.{IsBlank}
 use Rattle.lapi_task.proofs.StepMemories.{memory-blank}
-use Rattle.lapi_task.proofs.Lists.{get-some}
 use Rattle.lapi_base.specs.Valid.{ValidScript}
+use Rattle.lapi_base.proofs.BelowLaws.{below-none}
+use Rattle.lapi_base.proofs.ListLaws.{all-get, get-some}
 use Rattle.lapi_parts.proofs.FirstLayout.{first-unit, first-window}
 
 -- the task has done nothing

@@ -2,7 +2,6 @@
 use Rattle.std.proofs.Common.{◌≡◌, ℕ, ◌+◌, ◌<◌, ◌≤◌, ◌==◌, ◌&&◌, List, ◌∷◌, ◌++◌, length, Option, Some, None, refl, sym, ap, ◌∙◌, subst, ⊎_elim}
 use Rattle.std.specs.Prelude.{slice_get, option_map}
 use Rattle.std.proofs.lemmas.Bool.{cases_lt, cond-true, and_from}
-use Rattle.std.proofs.lemmas.List.{length-map}
 use Rattle.std.proofs.lemmas.Option.{slice_get-map}
 use Rattle.lapi_base.specs.declared.script.Script.{Script}
 use Rattle.lapi_base.specs.declared.message.MsgName.{MsgName}
@@ -15,19 +14,18 @@ use Rattle.lapi_base.specs.Packets.{data_packet}
 use Rattle.lapi_base.specs.Record.{out}
 use Rattle.lapi_base.specs.Seen.{no_rules}
 use Rattle.lapi_base.specs.Written as written
-use Rattle.lapi_laws.proofs.Deeds.{eqb-refl}
+use Rattle.lapi_base.proofs.ListLaws.{get-after, get-past, get-some}
+use Rattle.lapi_base.proofs.TestLaws.{eqb-refl}
 use Rattle.lapi_laws.proofs.Out.{out-later, out-copied}
 use Rattle.lapi_parts.proofs.ExactBytes.{stays}
 use Rattle.lapi_task.specs.Sends.{spelled, packet_at}
-use Rattle.lapi_task.proofs.Lists.{get-some, get-past, get-after}
-use Rattle.lapi_laws.proofs.Places.{upto-length}
 
 module _ (script : Script) where
   packet-some : (J : List Event) (a b n : ℕ) (pair : MsgName × ℕ) → slice_get (out script J a b) n ≡ Some pair → packet_at script J a b n ≡ Some (spelled script J n pair)
   unfolding packet_at
   packet-some J a b n pair h = ap (option_map (spelled script J n)) h
 
-  packet-none : (J : List Event) (a b n : ℕ) → length (out script J a b) ≤ n → packet_at script J a b n ≡ None
+  pub packet-none : (J : List Event) (a b n : ℕ) → length (out script J a b) ≤ n → packet_at script J a b n ≡ None
   unfolding packet_at
   packet-none J a b n l = ap (option_map (spelled script J n)) (get-past (out script J a b) n l)
 
@@ -52,10 +50,6 @@ module _ (script : Script) where
   pub out-own : (m : MsgName) (J : List Event) → out script (Copy m ∷ J) (sender script m) (receiver script m) ≡ out script J (sender script m) (receiver script m) ++ fragments script m
   unfolding out
   out-own m J = let a = sender script m in let b = receiver script m in cond-true (a == a && b == b) (out script J a b ++ fragments script m) (out script J a b) (and_from _ _ (eqb-refl a) (eqb-refl b))
-
-  pub fragments-length : (m : MsgName) → length (fragments script m) ≡ fragment_count script m
-  unfolding fragments
-  fragments-length m = length-map (upto (fragment_count script m)) (λ j. (m, j)) ∙ upto-length (fragment_count script m)
 
   -- the bytes of fragment j of a message whose Copy this is, which has number n
   abbrev pub copied_packet : MsgName → List Event → (n j : ℕ) → List ℕ

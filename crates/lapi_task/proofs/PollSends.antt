@@ -19,7 +19,6 @@ use Rattle.lapi_base.specs.Record as record_of
 use Rattle.lapi_base.specs.ByPart.{copied, polled}
 use Rattle.lapi_base.specs.Seen.{no_rules, IsRecord}
 use Rattle.lapi_base.specs.Written as written
-use Rattle.lapi_laws.proofs.Deeds.{eqb-refl}
 use Rattle.lapi_link.specs.Sender.{SendingEnd, sendable}
 use Rattle.lapi_parts.proofs.SentFront.{polls-next}
 use Rattle.lapi_window.specs.SendWindow.{sent_count, base_of, bytes_of}
@@ -30,11 +29,12 @@ use Rattle.lapi_task.specs.Copies.{AllCopied, AllSent, sent_now, packets_now}
 use Rattle.lapi_task.specs.Does.{Does}
 use Rattle.lapi_task.specs.Sends.{packet_at, spelled, SendsFor, of_end, entries_of}
 use Rattle.lapi_task.specs.StandsFor.{SenderAt, ReceiverAt, HoldsFor, StandsFor}
-use Rattle.lapi_task.proofs.Lists.{flat_map-push, get-some, get-set, get-set-other, get-before, get-after}
-use Rattle.lapi_task.proofs.PutPackets.{upto-more}
 use Rattle.lapi_task.proofs.SenderLaws.{bytes-of-end, entries-within}
 use Rattle.lapi_task.proofs.StillLaws.{room}
 use Rattle.lapi_base.specs.Valid.{ValidScript}
+use Rattle.lapi_base.proofs.ListLaws.{flat_map-push, get-after, get-before, get-set, get-set-other, get-some}
+use Rattle.lapi_base.proofs.TestLaws.{eqb-refl}
+use Rattle.lapi_base.proofs.UptoLaws.{upto-more}
 use Rattle.lapi_parts.proofs.FirstLayout.{sends-data}
 
 -- Lists by their places.

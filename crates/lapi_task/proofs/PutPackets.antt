@@ -1,17 +1,13 @@
 -- The packets of a put, one after another.
-use Rattle.std.proofs.Common.{◌≡◌, ℕ, ◌+◌, List, [], ◌∷◌, ◌++◌, map, length, max, refl, sym, ap, ◌∙◌, arith, append_assoc, add-one}
+use Rattle.std.proofs.Common.{◌≡◌, ℕ, ◌+◌, List, [], ◌∷◌, ◌++◌, map, length, max, sym, ap, ◌∙◌, arith, append_assoc}
 use Rattle.std.proofs.lemmas.List.{append-nil, length-append, length-map, map-append}
 use Rattle.std.specs.Int.{div_ceil}
 use Rattle.lapi_base.specs.Fragments.{fragments_in}
 use Rattle.lapi_base.specs.Below.{below}
 use Rattle.lapi_base.specs.Operations.{upto}
+use Rattle.lapi_base.proofs.UptoLaws.{upto-length, upto-more}
 use Rattle.lapi_link.specs.Sender.{SendingEnd, appended}
 use Rattle.lapi_task.specs.Puts.{extended}
-use Rattle.lapi_laws.proofs.Places.{upto-length}
-
-pub upto-more : (n : ℕ) → upto (n + 1) ≡ upto n ++ n ∷ []
-unfolding upto below
-upto-more n = rw add-one refl
 
 pub extended-none : (s : SendingEnd) (f : ℕ → List ℕ) → s ≡ extended s (map f (upto 0))
 unfolding upto below

@@ -16,8 +16,8 @@ use Rattle.lapi_base.specs.Operations as operations
 use Rattle.lapi_base.specs.Refusals.{first_reason, why_by, why}
 use Rattle.lapi_base.specs.Seen.{no_rules}
 use Rattle.lapi_base.specs.Valid.{ValidStatement}
+use Rattle.lapi_base.proofs.ListLaws.{all-or}
 use Rattle.lapi_task.specs.Performed.{IsPerformed, names_no_counter, reason_of}
-use Rattle.lapi_task.proofs.Lists.{all-or}
 
 lt-is-not-le : (a b : ℕ) → nat_lt a b ≡ not (nat_le b a)
 lt-is-not-le a b =

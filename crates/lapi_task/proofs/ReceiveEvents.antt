@@ -22,7 +22,7 @@ use Rattle.lapi_base.specs.Operations.{is_data, statement}
 use Rattle.lapi_base.specs.Record.{followed, has_number}
 use Rattle.lapi_base.specs.Refusals.{next, refusals}
 use Rattle.lapi_base.specs.Seen.{no_rules}
-use Rattle.lapi_laws.proofs.Deeds.{done-other}
+use Rattle.lapi_base.proofs.NameLaws.{done-other}
 use Rattle.lapi_link.specs.declared.arrival.Arrival.{Arrival}
 use Rattle.lapi_link.specs.declared.arrival.Arrival.TheVariants.{Repeat, Part, Whole}
 use Rattle.lapi_link.specs.Receiver.{arrival_of}

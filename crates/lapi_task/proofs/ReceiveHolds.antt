@@ -20,19 +20,20 @@ use Rattle.lapi_base.specs.Receiving.{HeadFits}
 use Rattle.lapi_base.specs.Refusals.{option_any}
 use Rattle.lapi_base.specs.Seen.{no_rules, performed, IsRecord}
 use Rattle.lapi_base.specs.Values.{values, memory_bytes, byte_after, scattered}
+use Rattle.lapi_base.proofs.BelowLaws.{below-same}
+use Rattle.lapi_base.proofs.UptoLaws.{over-same}
 use Rattle.lapi_memory.specs.TaskMemory.{written}
 use Rattle.lapi_parts.proofs.ArrivingPackets.{counts-is}
 use Rattle.lapi_parts.proofs.CarriedLengths.{carried-length}
 use Rattle.lapi_parts.proofs.Deliveries.{deliveries-write, deliveries-announce}
 use Rattle.lapi_parts.proofs.WholeMessages.{assembled-bytes}
-use Rattle.lapi_window.proofs.Sets.{below-same}
 use Rattle.lapi_task.specs.declared.task.Task.{Task}
 use Rattle.lapi_task.specs.Landed.{memory_after, counters_after, HasArrived}
 use Rattle.lapi_task.specs.StandsFor.{HoldsFor, is_uncopied}
 use Rattle.lapi_task.proofs.ReceiveCounts.{announced-length, announced-at}
 use Rattle.lapi_task.proofs.ReceiveEvents.{come, came_bytes, is_all, DidSame, uncopied-same}
 use Rattle.lapi_task.proofs.ReceiveKinds.{IsKind, Comes}
-use Rattle.lapi_task.proofs.StepMemories.{over-same, written-over}
+use Rattle.lapi_task.proofs.StepMemories.{written-over}
 
 module _ (script : Script) (t : ℕ) where
   -- The memory, by the law of deliveries;

@@ -21,7 +21,7 @@ use Rattle.lapi_base.specs.Receiving.{FitsScript}
 use Rattle.lapi_base.specs.Seen.{no_rules, IsRecord}
 use Rattle.lapi_base.specs.Valid.{ValidRules}
 use Rattle.lapi_laws.proofs.Backward.{there}
-use Rattle.lapi_laws.proofs.Out.{all-get, out-copied}
+use Rattle.lapi_laws.proofs.Out.{out-copied}
 use Rattle.lapi_laws.proofs.Sound.{Fits as IsOf}
 use Rattle.lapi_parts.proofs.ArrivingPackets.{head-is, length-is}
 use Rattle.lapi_parts.proofs.ExactBytes.{Exact, record-exact}
@@ -32,6 +32,7 @@ use Rattle.lapi_task.specs.Performed.{IsPerformed}
 use Rattle.lapi_task.specs.Puts.{statement_of}
 use Rattle.lapi_task.proofs.Forms.{data-put, no-back, no-join}
 use Rattle.lapi_base.specs.Handlers.{answers}
+use Rattle.lapi_base.proofs.ListLaws.{all-get}
 use Rattle.lapi_parts.proofs.MessageHeads.{no-answers}
 
 -- the head of a put or of a notice

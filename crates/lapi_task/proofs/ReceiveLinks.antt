@@ -24,17 +24,18 @@ use Rattle.lapi_base.specs.Record.{Run, out, followed, is_sent, is_acked}
 use Rattle.lapi_base.specs.Seen.{no_rules}
 use Rattle.lapi_base.specs.Values.{values}
 use Rattle.lapi_base.specs.Written as written
+use Rattle.lapi_base.proofs.ListLaws.{get-after, get-before, get-past, get-set, get-set-other}
+use Rattle.lapi_base.proofs.NameLaws.{name_eq-refl}
 use Rattle.lapi_laws.proofs.Backward.{Atomic-tail}
-use Rattle.lapi_laws.proofs.Deeds.{name_eq-refl}
 use Rattle.lapi_link.specs.Sender.{SendingEnd, appended}
 use Rattle.lapi_window.specs.SendWindow.{sent_count, bytes_of}
 use Rattle.lapi_task.specs.declared.put.Put.{Put}
 use Rattle.lapi_task.specs.Landed.{note_packet, noted_at, ends_after, events_of}
 use Rattle.lapi_task.specs.Puts.{statement_of}
-use Rattle.lapi_task.specs.Sends.{packet_at, spelled, SendsFor}
+use Rattle.lapi_task.specs.Sends.{packet_at, SendsFor}
 use Rattle.lapi_task.specs.StandsFor.{SenderAt}
-use Rattle.lapi_task.proofs.Lists.{get-set, get-set-other, get-past, get-before, get-after}
-use Rattle.lapi_task.proofs.Packets.{packet-same, packet-stays, out-own, fragments-length, copied_packet, packet-new}
+use Rattle.lapi_laws.proofs.Places.{fragments-length}
+use Rattle.lapi_task.proofs.Packets.{packet-none, packet-same, packet-stays, out-own, copied_packet, packet-new}
 use Rattle.lapi_task.proofs.ReceiveEvents.{come}
 use Rattle.lapi_task.proofs.ReceiveKinds.{IsPut, IsNote}
 
@@ -70,10 +71,6 @@ module _ (script : Script) where
     waiting = λ i. h.waiting i ∙ sym (g.packets _);
   }
 
-  packet-none : (J : List Event) (x y n : ℕ) → length (out script J x y) ≤ n → packet_at script J x y n ≡ None
-  unfolding packet_at
-  packet-none J x y n l = ap (option_map (spelled script J n)) (get-past (out script J x y) n l)
-
   sends-grow : (r w : Run) (K : List Event) (x y : ℕ) (s : SendingEnd) (bytes : List ℕ) → Settled r w x y → Grows r.journal K x y bytes → SendsFor script s r x y → SendsFor script (appended s bytes) (told w K) x y
   unfolding bytes_of
   sends-grow r w K x y s bytes m g h =
@@ -103,7 +100,7 @@ module _ (script : Script) where
             (λ (apart : i ≡ length s.waiting → ⊥).
             let past : length s.waiting + 1 ≤ i = past-of i (length s.waiting) ge apart in
             get-past (s.waiting ++ bytes ∷ []) i (let l = length-append s.waiting (bytes ∷ []) in omega (arith, l, past))
-            ∙ sym (packet-none K x y (sent_count s.window + i) (omega (arith, past, numbers, whole, more))))
+            ∙ sym (packet-none script K x y (sent_count s.window + i) (omega (arith, past, numbers, whole, more))))
             (cases_eq i (length s.waiting)))
             (cases_lt i (length s.waiting));
       }

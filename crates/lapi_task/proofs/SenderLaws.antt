@@ -6,8 +6,8 @@ use Rattle.std.proofs.lemmas.Bool.{cond-true, cond-false, cases_lt, ne_eqb}
 use Rattle.std.proofs.lemmas.List.{append-nil, map-append}
 use Rattle.std.proofs.lemmas.List.Elements.{filter-append}
 use Rattle.lapi_base.specs.declared.wire.WireEntry.{WireEntry}
-use Rattle.lapi_laws.proofs.Deeds.{eqb-refl}
-use Rattle.lapi_laws.proofs.NumberLaws.{all-append}
+use Rattle.lapi_base.proofs.ListLaws.{all-append}
+use Rattle.lapi_base.proofs.TestLaws.{eqb-refl}
 use Rattle.lapi_link.specs.Sender.{SendingEnd, entries_to}
 use Rattle.lapi_task.specs.Does.{bytes_to}
 use Rattle.lapi_task.specs.Sends.{of_end, entries_of}

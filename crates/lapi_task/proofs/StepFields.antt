@@ -21,8 +21,9 @@ use Rattle.lapi_base.specs.Operations as operations
 use Rattle.lapi_base.specs.Refusals.{next, refusals}
 use Rattle.lapi_base.specs.Seen.{no_rules}
 use Rattle.lapi_base.specs.Values.{memory_bytes, store_writes}
-use Rattle.lapi_laws.proofs.Deeds.{eqb-refl, done-head, done-other}
-use Rattle.lapi_window.proofs.Sets.{below-same, below-cut}
+use Rattle.lapi_base.proofs.BelowLaws.{below-cut, below-same}
+use Rattle.lapi_base.proofs.NameLaws.{done-head, done-other}
+use Rattle.lapi_base.proofs.TestLaws.{eqb-refl}
 use Rattle.lapi_task.specs.declared.outcome.Outcome.{Outcome}
 use Rattle.lapi_task.specs.declared.task.Task.{Task}
 use Rattle.lapi_task.specs.Performed.{reason_of}

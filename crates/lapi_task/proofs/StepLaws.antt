@@ -23,6 +23,7 @@ use Rattle.lapi_base.specs.Record.{Run, out, step, event_if, add_event, unless_r
 use Rattle.lapi_base.specs.Refusals.{next, why}
 use Rattle.lapi_base.specs.Seen.{no_rules}
 use Rattle.lapi_base.specs.Values.{values}
+use Rattle.lapi_base.proofs.ListLaws.{get-none}
 use Rattle.lapi_laws.proofs.Backward.{closed}
 use Rattle.lapi_link.specs.Sender.{SendingEnd}
 use Rattle.lapi_parts.proofs.Records.{record-sound}
@@ -37,7 +38,6 @@ use Rattle.lapi_task.proofs.Forms.{statement-is, statement-built}
 use Rattle.lapi_task.proofs.ReasonForms.{why-is, few-statements}
 use Rattle.lapi_task.proofs.StepMemories.{memory-length}
 use Rattle.lapi_task.proofs.StepFields.{suits, refused-holds, passed-holds, issued-holds}
-use Rattle.lapi_task.proofs.Lists.{get-none}
 
 module _ (script : Script) where
   -- the record with an event and a reply more

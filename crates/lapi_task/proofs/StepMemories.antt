@@ -1,43 +1,16 @@
 -- The bytes of a memory after an event.
-use Rattle.std.proofs.Common.{◌≡◌, ℕ, zero, suc, ◌+◌, ◌-◌, ◌<◌, ◌≤◌, ◌==◌, Bool, true, false, cond, List, [], ◌∷◌, ◌++◌, map, length, get_or, take, drop, replicate, refl, sym, ap, ◌∙◌, ⊎_elim, arith}
-use Rattle.std.proofs.lemmas.Bool.{cond-true, cases_lt}
-use Rattle.std.proofs.lemmas.List.{same_lists, length-map, get_or_append_left, get_or-append_right, get_or_default, get_or-take, get_or-drop, length-take-le, length-drop, map-append, length-replicate, get_or-replicate, places}
+use Rattle.std.proofs.Common.{◌≡◌, ℕ, ◌+◌, ◌≤◌, ◌==◌, Bool, true, false, cond, List, [], ◌∷◌, map, length, take, drop, replicate, refl, sym, ap, ◌∙◌, arith}
+use Rattle.std.proofs.lemmas.Bool.{cond-true}
+use Rattle.std.proofs.lemmas.List.{get_or_default, get_or-take, get_or-drop, length-take-le, length-drop, length-replicate, get_or-replicate, places}
 use Rattle.lapi_base.specs.declared.script.Script.{Script}
 use Rattle.lapi_base.specs.declared.event.Event.{Event}
-use Rattle.lapi_base.specs.Below.{below}
 use Rattle.lapi_base.specs.Operations.{upto}
 use Rattle.lapi_base.specs.Seen.{no_rules}
 use Rattle.lapi_base.specs.Values.{Write, values, memory_bytes, byte_after, writes, writer}
-use Rattle.lapi_laws.proofs.Deeds.{eqb-refl}
-use Rattle.lapi_laws.proofs.Places.{upto-length}
+use Rattle.lapi_base.proofs.TestLaws.{eqb-refl}
+use Rattle.lapi_base.proofs.UptoLaws.{is-over, length-over, over-at, over-same}
 use Rattle.lapi_memory.specs.TaskMemory.{written}
-use Rattle.lapi_memory.proofs.Writes.{byte_written}
-
-pub length-over : {X : Type 0} (f : ℕ → X) (n : ℕ) → length (map f (upto n)) ≡ n
-length-over f n = length-map (upto n) f ∙ upto-length n
-
-over-more : {X : Type 0} (f : ℕ → X) (n : ℕ) → map f (upto (suc n)) ≡ map f (upto n) ++ f n ∷ []
-unfolding upto below
-over-more f n = map-append f (upto n) (n ∷ [])
-
-pub over-at : {X : Type 0} (f : ℕ → X) (n k : ℕ) (d : X) → k < n → get_or (map f (upto n)) k d ≡ f k
-over-at f zero k d l = absurd (omega arith)
-over-at f (suc n) k d l =
-    ap (λ xs. get_or xs k d) (over-more f n)
-    ∙ ⊎_elim
-    (λ (lt : k < n). get_or_append_left (map f (upto n)) (f n ∷ []) d k (let e = length-over f n in omega (arith, e)) ∙ over-at f n k d lt)
-    (λ (ge : n ≤ k).
-    get_or-append_right (map f (upto n)) (f n ∷ []) n k d (length-over f n) ge
-    ∙ ap (λ j. get_or (f n ∷ []) j d) (let e : k - n ≡ 0 = omega arith in e)
-    ∙ ap f (let e : n ≡ k = omega arith in e))
-    (cases_lt k n)
-
--- the list of what holds at each place
-pub is-over : {X : Type 0} (xs : List X) (f : ℕ → X) (n : ℕ) → length xs ≡ n → ((k : ℕ) (d : X) → k < n → get_or xs k d ≡ f k) → xs ≡ map f (upto n)
-is-over xs f n e at = same_lists xs (map f (upto n)) (e ∙ sym (length-over f n)) (λ k d l. let q : k < n = omega (arith, e) in at k d q ∙ sym (over-at f n k d q))
-
-pub over-same : {X : Type 0} (f g : ℕ → X) (n : ℕ) → ((x : ℕ) → f x ≡ g x) → map f (upto n) ≡ map g (upto n)
-over-same f g n h = λ i. map (λ x. h x i) (upto n)
+use Rattle.lapi_base.proofs.MemoryLaws.{byte_written}
 
 -- the bytes that are read are those of the places
 pub read-over : (f : ℕ → ℕ) (size at len : ℕ) → at + len ≤ size → take len (drop at (map f (upto size))) ≡ map (λ k. f (at + k)) (upto len)

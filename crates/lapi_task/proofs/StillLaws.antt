@@ -1,9 +1,8 @@
 -- A task is still where it has nothing to copy and its links are settled.
-use Rattle.std.proofs.Common.{◌≡◌, ℕ, zero, suc, ◌+◌, ◌-◌, ◌<◌, ◌==◌, Bool, true, false, cond, ◌&&◌, not, List, [], ◌∷◌, ◌++◌, length, map, min, Option, Some, refl, sym, ap, ◌∙◌, subst, ⊎_elim, inl, inr, arith, append_assoc}
+use Rattle.std.proofs.Common.{◌≡◌, ℕ, zero, suc, ◌+◌, ◌-◌, ◌<◌, ◌==◌, Bool, true, false, cond, ◌&&◌, not, List, [], ◌∷◌, ◌++◌, length, map, min, Option, Some, refl, sym, ap, ◌∙◌, subst, ⊎_elim, inl, inr, arith}
 use Rattle.std.specs.Prelude.{slice_get, is_some}
 use Rattle.std.specs.List.{AllByRecursion, flat_map, list_all}
 use Rattle.std.proofs.lemmas.Bool.{false≢true, and_left, and_right, and_cases, cases_Bool, ltb-true, eqb-true, ne_eqb, not-true, not-false}
-use Rattle.std.proofs.lemmas.List.{append-nil}
 use Rattle.std.proofs.lemmas.List.Folds.{list_all-append}
 use Rattle.std.proofs.lemmas.Option.{slice_get_within}
 use Rattle.lapi_base.specs.declared.script.Script.{Script}
@@ -21,11 +20,7 @@ use Rattle.lapi_base.specs.Operations.{upto, statement, is_data, has_join}
 use Rattle.lapi_base.specs.Operations as operations
 use Rattle.lapi_base.specs.Record.{Run, out, base, fresh, ready, to_copy_of, joins, has_number, is_number, is_acked}
 use Rattle.lapi_base.specs.Seen.{no_rules, IsRecord}
-use Rattle.lapi_laws.proofs.Deeds.{eqb-refl}
-use Rattle.lapi_laws.proofs.NumberLaws.{every_below-at, every_below-from, any-all, any-get, list_all-at, list_all-each}
-use Rattle.lapi_laws.proofs.Out.{all-get}
 use Rattle.lapi_link.specs.Sender.{SendingEnd, sendable}
-use Rattle.lapi_parts.proofs.HandedPackets.{same-tests}
 use Rattle.lapi_parts.proofs.LocalQuestions.{by_points}
 use Rattle.lapi_parts.proofs.SentFront.{polls-next}
 use Rattle.lapi_window.specs.SendWindow.{sent_count, base_of, unacked}
@@ -37,8 +32,10 @@ use Rattle.lapi_task.specs.Sends.{SendsFor}
 use Rattle.lapi_task.specs.StandsFor.{is_uncopied, SenderAt, HoldsFor}
 use Rattle.lapi_task.proofs.Jobless.{no-queue}
 use Rattle.lapi_task.proofs.Forms.{no-join}
-use Rattle.lapi_task.proofs.Lists.{get-some}
 use Rattle.lapi_base.specs.Valid.{ValidScript}
+use Rattle.lapi_base.proofs.BelowLaws.{every_below-at, every_below-from}
+use Rattle.lapi_base.proofs.ListLaws.{all-get, any-all, any-get, get-some, list_all-at, list_all-each, flat_map-push}
+use Rattle.lapi_base.proofs.TestLaws.{eqb-refl, same_tests}
 use Rattle.lapi_parts.proofs.FirstLayout.{none-owed}
 
 -- Lists and numbers below a bound.
@@ -48,18 +45,14 @@ all-from P (x ∷ xs) f = (f zero x refl, all-from P xs (λ k y e. f (suc k) y e
 
 all-at : {X : Type 0} (p : X → Bool) (q : ℕ → Bool) (xs : List X) → ((k : ℕ) (x : X) → slice_get xs k ≡ Some x → p x ≡ q k) → list_all p xs ≡ every_below (length xs) q
 all-at p q xs f =
-    same-tests (list_all p xs) (every_below (length xs) q)
+    same_tests (list_all p xs) (every_below (length xs) q)
     (λ all. every_below-from (length xs) q (λ k lt. let some = get-some xs k lt in sym (f k some.0 some.1) ∙ all-get (λ x. p x ≡ true) xs k some.0 (list_all-each p xs all) some.1))
     (λ all. list_all-at p xs (all-from (λ x. p x ≡ true) xs (λ k x at. f k x at ∙ every_below-at (length xs) q k all (slice_get_within xs k x at))))
 
 all-over : {X : Type 0} (p : X → Bool) (f : ℕ → List X) (n : ℕ) → list_all p (flat_map f (upto n)) ≡ every_below n (λ i. list_all p (f i))
 unfolding upto below every_below
 all-over p f zero = refl
-all-over p f (suc n) = ap (list_all p) (over-push f (upto n) n) ∙ list_all-append p (flat_map f (upto n)) (f n) ∙ ap (λ b. b && list_all p (f n)) (all-over p f n)
-  where
-    over-push : {X : Type 0} (f : ℕ → List X) (xs : List ℕ) (x : ℕ) → flat_map f (xs ++ x ∷ []) ≡ flat_map f xs ++ f x
-    over-push f [] x = append-nil (f x)
-    over-push f (y ∷ xs) x = ap (λ zs. f y ++ zs) (over-push f xs x) ∙ sym (append_assoc (f y) (flat_map f xs) (f x))
+all-over p f (suc n) = ap (list_all p) (flat_map-push f (upto n) n) ∙ list_all-append p (flat_map f (upto n)) (f n) ∙ ap (λ b. b && list_all p (f n)) (all-over p f n)
 
 some : (n : ℕ) → (suc n == 0) ≡ false
 some n = ne_eqb (suc n) 0 (λ e. absurd (omega arith))
@@ -131,7 +124,7 @@ module _ (script : Script) (r : Run) (a b : ℕ) (s : SendingEnd) (h : SendsFor 
   told-is : list_all (is_told script no_rules r a b) (r.wire a b) ≡ (length (unacked s.window) == 0)
   unfolding left
   told-is =
-      same-tests (list_all (is_told script no_rules r a b) (r.wire a b)) (every_below s.window.numbers (λ n. not (left n)))
+      same_tests (list_all (is_told script no_rules r a b) (r.wire a b)) (every_below s.window.numbers (λ n. not (left n)))
       (λ all. every_below-from s.window.numbers (λ n. not (left n)) (λ n lt. none-left all n))
       (λ none. list_all-at (is_told script no_rules r a b) (r.wire a b) (all-from (λ p. is_told script no_rules r a b p ≡ true) (r.wire a b) (told-each (λ n lt. every_below-at s.window.numbers (λ k. not (left k)) n none lt))))
       ∙ none-below s.window.numbers left

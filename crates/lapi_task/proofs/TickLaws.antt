@@ -16,11 +16,10 @@ use Rattle.lapi_base.specs.Record.{Run, out, has_number, is_number, is_sent, is_
 use Rattle.lapi_base.specs.Record as record_of
 use Rattle.lapi_base.specs.Seen.{no_rules}
 use Rattle.lapi_base.specs.Written as written
-use Rattle.lapi_laws.proofs.Deeds.{eqb-refl}
-use Rattle.lapi_laws.proofs.NumberLaws.{below-all}
+use Rattle.lapi_base.proofs.BelowLaws.{below-all}
+use Rattle.lapi_base.proofs.TestLaws.{eqb-refl, same_tests}
 use Rattle.lapi_laws.proofs.SentWindow.{packets-number, number-append}
 use Rattle.lapi_link.specs.Sender.{SendingEnd, kept, entries_to}
-use Rattle.lapi_parts.proofs.HandedPackets.{same-tests}
 use Rattle.lapi_window.specs.SendWindow.{Sending, sent_count, bytes_of, unacked}
 use Rattle.lapi_window.specs.SendWindow as window
 use Rattle.lapi_task.specs.declared.outcome.Outcome.{Outcome}
@@ -76,7 +75,7 @@ module _ (script : Script) where
     sent-again n =
         let test = λ (k : ℕ). is_sent r a b k && not (is_acked r a b k) in
         let count = length (out script r.journal a b) in
-        same-tests (has_number (r.wire a b ++ ticked script no_rules r a b) n) (has_number (r.wire a b) n)
+        same_tests (has_number (r.wire a b ++ ticked script no_rules r a b) n) (has_number (r.wire a b) n)
         (λ there.
         ⊎_elim
         (λ (old : has_number (r.wire a b) n ≡ true). old)

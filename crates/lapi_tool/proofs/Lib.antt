@@ -2,3 +2,4 @@ pub mod LinesInOrder
 pub mod Refusals
 pub mod Reported
 pub mod WorldTexts
+pub mod Unwritten

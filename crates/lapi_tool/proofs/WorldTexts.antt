@@ -12,7 +12,7 @@ use Rattle.lapi_base.specs.Seen.{Seen, no_rules}
 use Rattle.lapi_base.specs.Takes.{TakesAll}
 use Rattle.lapi_base.specs.TraceText.{trace_text}
 use Rattle.lapi_base.specs.WireText.{wire_text}
-use Rattle.lapi_laws.proofs.Places.{upto-length}
+use Rattle.lapi_base.proofs.UptoLaws.{upto-length}
 use Rattle.lapi_tool.specs.Shown.{world_text}
 
 abbrev all_taken : Input → Seen

@@ -23,7 +23,7 @@ pub fn write_counts<K: Sink>(alloc: Global, input: &Input, sink: &mut K) -> Resu
     write_line(alloc, input.script.tasks, statements, lines, sink)
 }
 
-#[tactic(auto, using(lapi_report::proofs::Progress::nothing_written))]
+#[tactic(auto, using(crate::proofs::Unwritten::nothing_written))]
 fn write_line<K: Sink>(
     alloc: Global,
     tasks: u32,

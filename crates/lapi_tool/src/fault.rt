@@ -20,7 +20,7 @@ pub fn status_of(fault: ReadFault) -> Status
 }
 
 /// Writes what a user is told of it.
-#[tactic(auto, using(lapi_report::proofs::Progress::nothing_written))]
+#[tactic(auto, using(crate::proofs::Unwritten::nothing_written))]
 pub fn write_fault<K: Sink>(alloc: Global, fault: ReadFault, sink: &mut K) -> Result<(), WriteFault>
     ensures text { Wrote (K.held sink.old) (K.held sink.new) (refused_answer fault).text result }
     ensures cause { HasWriteCause (K.faults sink.old) (K.faults sink.new) result }

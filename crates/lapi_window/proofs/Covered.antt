@@ -1,12 +1,14 @@
 -- What a base and a word cover, and how a set of numbers is made of them.
 use Rattle.std.proofs.Common.{◌≡◌, ℕ, zero, suc, ◌+◌, ◌*◌, ◌/◌, ◌%◌, ◌^◌, ◌-◌, ◌<◌, ◌≤◌, ◌==◌, nat_lt, true, false, not, cond, ◌||◌, length, count_ones, sym, ap, ◌∙◌, ⊎_elim, arith, bit_or, max}
+use Rattle.std.specs.Int.{w64}
 use Rattle.std.proofs.lemmas.Bool.{cases_lt, cases_eq, eq-eqb, ne_eqb, or_left, or_right, or_cases, both_ways, eqb-true, lt-ltb, le-ltb}
 use Rattle.std.proofs.Math.Nat.{mod-eq_of_lt}
 use Rattle.lapi_base.specs.Below.{has_bit, below}
+use Rattle.lapi_base.proofs.BelowLaws.{length-below-none, length-below-suc}
+use Rattle.lapi_base.proofs.BitLaws.{IsRun, below_pow, bit_or_clear, has_bit-or, has_bit-set, has_bit-shr}
 use Rattle.lapi_window.specs.NumberSet.{Members, flags_of, is_in, is_covered}
 use Rattle.lapi_window.proofs.Flags.{is_in-view}
-use Rattle.lapi_window.proofs.BitLaws.{has_bit-shr, has_bit-or, has_bit-set, IsRun, below_pow, count_ones-zero, count_ones-mod, bit_or_clear}
-use Rattle.lapi_window.proofs.Sets.{length-below-suc, length-below-none}
+use Rattle.lapi_window.proofs.BitLaws.{count_ones-zero, count_ones-mod}
 
 -- the value of a set that keeps this base and this word
 abbrev pub members : (base word : ℕ) → Members
@@ -90,7 +92,7 @@ with-covers base word n k h l =
     (λ (ne : k ≡ n → ⊥). ne_eqb (k - base) (n - base) (λ e. ne (let q : k ≡ n = omega arith in q)) ∙ sym (ne_eqb k n ne))
     (cases_eq k n) in
     is_covered-high base more k high
-    ∙ has_bit-set word (n - base) (k - base) place
+    ∙ has_bit-set w64 word (n - base) (k - base) place
     ∙ ap (λ b. b || has_bit word (k - base)) same
     ∙ ap (λ b. (k == n) || b) (sym (is_covered-high base word k high)))
     (cases_lt k base)
@@ -98,7 +100,7 @@ with-covers base word n k h l =
 pub with-small : (base word n i : ℕ) → base ≤ n → n < base + 64 → n + 1 < 2 ^ 32 → ((k : ℕ) → has_bit word k ≡ true → base + k + 1 < 2 ^ 32) → has_bit (bit_or word (1 * 2 ^ (n - base) % 2 ^ 64)) i ≡ true → base + i + 1 < 2 ^ 32
 with-small base word n i h l small old e =
     let place : n - base < 64 = omega arith in
-    let both : ((i == (n - base)) || has_bit word i) ≡ true = sym (has_bit-set word (n - base) i place) ∙ e in
+    let both : ((i == (n - base)) || has_bit word i) ≡ true = sym (has_bit-set w64 word (n - base) i place) ∙ e in
     ⊎_elim
     (λ (f : (i == (n - base)) ≡ true). let q = eqb-true i (n - base) f in omega (arith, q))
     (λ (f : has_bit word i ≡ true). old i f)

@@ -2,12 +2,8 @@
 use Rattle.std.proofs.Common.{◌≡◌, ℕ, zero, suc, ◌/◌, ◌^◌, ◌-◌, ◌<◌, nat_lt, false, ◌||◌, refl, sym, ap, subst, arith}
 use Rattle.std.proofs.Math.Nat.{pow-suc}
 use Rattle.lapi_base.specs.Below.{has_bit}
+use Rattle.lapi_base.proofs.BitLaws.{has_bit-zero}
 use Rattle.lapi_window.specs.NumberSet.{flag_at, flags_of, is_in, is_covered}
-
-pub has_bit-zero : (i : ℕ) → has_bit 0 i ≡ false
-unfolding has_bit
-has_bit-zero zero = refl
-has_bit-zero (suc i) = has_bit-zero i
 
 -- the flag at a place is the bit there
 pub flag_at-flags_of : (n bits i : ℕ) → bits < 2 ^ n → flag_at (flags_of n bits) i ≡ has_bit bits i

@@ -3,4 +3,3 @@ pub mod Covered
 pub mod Flags
 pub mod MemberLaws
 pub mod SendLaws
-pub mod Sets

@@ -1,13 +1,11 @@
--- Laws of sets of numbers as plain data: how the base moves, and which bits tell of a set.
-use Rattle.std.proofs.Common.{◌≡◌, ℕ, zero, suc, ◌+◌, ◌/◌, ◌^◌, ◌-◌, ◌<◌, ◌≤◌, ◌==◌, nat_lt, Bool, true, false, cond, ◌||◌, sym, ap, ◌∙◌, subst, ⊎_elim, arith}
-use Rattle.std.proofs.Math.Nat.{pow-suc, pow-le-pow_right}
-use Rattle.std.proofs.lemmas.Bool.{cases_lt, both_ways, or_left, or_right, or_cases, cond_both, lt-ltb, eqb-true}
+-- Laws of sets of numbers as plain data: how the base moves.
+use Rattle.std.proofs.Common.{◌≡◌, ℕ, ◌+◌, ◌^◌, ◌-◌, ◌<◌, ◌≤◌, ◌==◌, nat_lt, true, false, ◌||◌, sym, ap, ◌∙◌, subst, ⊎_elim, arith}
+use Rattle.std.proofs.lemmas.Bool.{cases_lt, both_ways, or_left, or_right, or_cases, lt-ltb, eqb-true}
 use Rattle.lapi_base.specs.Below.{least_missing, has_bit, bits_of}
-use Rattle.lapi_window.specs.Flags.{low_bit}
+use Rattle.lapi_base.proofs.BelowLaws.{least_missing-is}
+use Rattle.lapi_base.proofs.BitLaws.{below_pow, bits_of-is}
 use Rattle.lapi_window.specs.NumberSet.{Members, flag_at, is_in}
 use Rattle.lapi_window.specs.RecvWindow.{Receiving, is_taken, base_of}
-use Rattle.lapi_window.proofs.BitLaws.{below_pow}
-use Rattle.lapi_window.proofs.Sets.{least_missing-is}
 
 pub is_in-low : (m : Members) (n : ℕ) → n < m.base → is_in m n ≡ true
 unfolding is_in
@@ -31,29 +29,6 @@ base_grows m m' absent grows =
     (λ (lt : m'.base < m.base). absurd (both_ways (is_in m' m'.base) absent (grows m'.base (is_in-low m m'.base lt))))
     (λ (ge : m.base ≤ m'.base). ge)
     (cases_lt m'.base m.base)
-
-pub bits_of-is : (w word : ℕ) (p : ℕ → Bool) → word < 2 ^ w → ((i : ℕ) → has_bit word i ≡ p i) → word ≡ bits_of w p
-unfolding bits_of has_bit
-bits_of-is zero word p h same = omega arith
-bits_of-is (suc w) word p h same =
-    let half : word / 2 < 2 ^ w = omega (arith, pow-suc 2 w) in
-    let rest = bits_of-is w (word / 2) (λ i. p (suc i)) half (λ i. same (suc i)) in
-    let low = ap (λ b. cond {A = ℕ} b 1 0) (sym (same 0)) ∙ low_bit word in
-    omega (arith, rest, low)
-
-pub bits_of-lt : (w : ℕ) (p : ℕ → Bool) → bits_of w p < 2 ^ w
-unfolding bits_of
-bits_of-lt zero p = omega arith
-bits_of-lt (suc w) p =
-    let rest = bits_of-lt w (λ i. p (suc i)) in
-    let low = cond_both {A = ℕ} (p 0) 1 0 (λ x. x ≤ 1) (λ _. omega arith) (λ _. omega arith) in
-    omega (arith, rest, low, pow-suc 2 w)
-
-pub bits_of-small : (w : ℕ) (p : ℕ → Bool) → w ≤ 32 → bits_of w p < 2 ^ 32
-bits_of-small w p h =
-    let lt = bits_of-lt w p in
-    let le = pow-le-pow_right {n = 2} (let q : 0 < 2 = omega arith in q) h in
-    omega (arith, lt, le)
 
 -- Receiving windows.
 pub receiving-base : (r : Receiving) (window b : ℕ) (taken : Members) → record { window = window; taken = taken } ≡ r → b ≡ taken.base → is_in taken b ≡ false → b < 2 ^ 32 → base_of r ≡ b

@@ -3,9 +3,9 @@ use Rattle.std.proofs.Common.{◌≡◌, ℕ, zero, suc, ◌+◌, ◌-◌, ◌<�
 use Rattle.std.proofs.lemmas.Bool.{cases_lt, and_left, or_left, or_cases, cond-true, cond-false, cond_both, lt-ltb, le-ltb, not-true}
 use Rattle.circular_buffer.proofs.Places.{slice_get-append_left, slice_get-last, slice_get-drop}
 use Rattle.lapi_base.specs.Below.{below}
+use Rattle.lapi_base.proofs.BelowLaws.{below-cut, below-member, below-same, length-below-none, length-below-suc}
 use Rattle.lapi_window.specs.NumberSet.{Members, is_in, is_covered}
 use Rattle.lapi_window.specs.SendWindow.{Sending, IsSending, MaySend, sent_count, is_sent, is_acked, base_of, unacked, bytes_of}
-use Rattle.lapi_window.proofs.Sets.{below-cut, below-same, length-below-suc, length-below-none, below-member}
 use Rattle.lapi_window.proofs.MemberLaws.{is_in-low, base_le_absent, base_grows, least_missing-base}
 
 pub sending-base : (s : Sending) (capacity : ℕ) → IsSending s capacity → base_of s ≡ s.acked.base

@@ -18,6 +18,7 @@ use Rattle.lapi_base.specs.Spelling.{spells_packet}
 use Rattle.lapi_base.specs.TaskPart.{actor}
 use Rattle.lapi_base.specs.Valid.{ValidAct}
 use Rattle.lapi_base.specs.Written as written
+use Rattle.lapi_base.proofs.ListLaws.{found-at, get-set, get-set-other}
 use Rattle.lapi_parts.proofs.OtherTasks.{others-stay}
 use Rattle.lapi_parts.proofs.SameParts.{same-part}
 use Rattle.lapi_task.proofs.Apart.{stays-apart}
@@ -29,7 +30,6 @@ use Rattle.lapi_task.specs.StandsFor.{StandsFor}
 use Rattle.lapi_world.specs.declared.kept.Kept.{Kept}
 use Rattle.lapi_world.specs.Grows.{bytes_at, ArePut, IsAdded}
 use Rattle.lapi_world.specs.Stands.{TaskAt, TasksStand, WiresStand, Stands, StandsForOne}
-use Rattle.lapi_world.proofs.Lists.{get-set, get-set-other, found-at}
 use Rattle.lapi_world.proofs.Putting.{reverse-followed, put-length, own-bytes, other-bytes}
 
 module _ (script : Script) where

@@ -6,11 +6,11 @@ use Rattle.std.proofs.lemmas.List.{length_push, length-replicate}
 use Rattle.std.proofs.lemmas.Nat.{mul-add-lt}
 use Rattle.lapi_base.specs.declared.script.Script.{Script}
 use Rattle.lapi_base.specs.Record.{start}
+use Rattle.lapi_base.proofs.ListLaws.{get-before, get-push, get-some}
 use Rattle.lapi_task.specs.declared.task.Task.{Task}
 use Rattle.lapi_task.specs.StandsFor.{StandsFor}
 use Rattle.lapi_world.specs.declared.kept.Kept.{Kept}
 use Rattle.lapi_world.specs.Stands.{TaskAt, TasksStand, Stands}
-use Rattle.lapi_world.proofs.Lists.{get-some, get-push, get-before}
 
 module _ (script : Script) where
   -- one task more
@@ -19,7 +19,7 @@ module _ (script : Script) where
     length_push tasks task ∙ ap (λ k. k + 1) e,
     λ t l.
         ⊎_elim
-        (λ (lt : t < n). subst (TaskAt script start t) (sym (get-before tasks task t (omega (arith, lt, e)))) (h t lt))
+        (λ (lt : t < n). subst (TaskAt script start t) (sym (get-before tasks (task ∷ []) t (omega (arith, lt, e)))) (h t lt))
         (λ (ge : n ≤ t).
         let last : n ≡ t = omega arith in
         subst (λ k. TaskAt script start k (slice_get (tasks ++ task ∷ []) k)) last (subst (TaskAt script start n) (sym (get-push tasks task n e)) new))

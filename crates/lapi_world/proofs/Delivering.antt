@@ -11,11 +11,11 @@ use Rattle.lapi_base.specs.declared.reply.Reply.{Reply}
 use Rattle.lapi_base.specs.declared.reply.Reply.TheVariants.{Did, Absent}
 use Rattle.lapi_base.specs.Record.{Run, deliver, deliver_entry, hand_over, reply_with}
 use Rattle.lapi_base.specs.Seen.{no_rules, IsRecord, performed}
-use Rattle.lapi_base.specs.Spelling.{packet_form, Spells}
+use Rattle.lapi_base.specs.Spelling.{Spells}
 use Rattle.lapi_base.specs.Written as written
+use Rattle.lapi_base.proofs.ListLaws.{found-at}
 use Rattle.lapi_link.specs.Sender.{SendingEnd}
-use Rattle.lapi_packet.proofs.Answering.{ok_is}
-use Rattle.lapi_packet.proofs.Forms.{answer_spelled}
+use Rattle.lapi_base.proofs.Spellings.{one_packet}
 use Rattle.lapi_parts.proofs.SpelledPackets.{packets-written}
 use Rattle.lapi_task.specs.declared.task.Task.{Task}
 use Rattle.lapi_task.specs.Does.{IsOnWire}
@@ -24,7 +24,6 @@ use Rattle.lapi_task.specs.StandsFor.{SenderAt}
 use Rattle.lapi_world.specs.declared.kept.Kept.{Kept}
 use Rattle.lapi_world.specs.Stands.{TaskAt, Stands}
 use Rattle.lapi_world.proofs.Acts.{task-read, performed-deliver}
-use Rattle.lapi_world.proofs.Lists.{found-at}
 
 module _ (script : Script) where
   deliver-none : (r : Run) (a b k : ℕ) → slice_get (r.wire a b) k ≡ None → performed script no_rules r (Deliver a b k) ≡ reply_with script no_rules r Absent
@@ -115,7 +114,7 @@ module _ (script : Script) where
           place = k;
           at = task-read script r b kept task is h lb read;
           from_known = la;
-          entry = entry.1 ∙ ap Some (ok_is entry.0 p (sym (answer_spelled packet_form entry.0 bytes entry.2) ∙ answer_spelled packet_form p bytes spells));
+          entry = entry.1 ∙ ap Some (one_packet entry.0 p bytes entry.2 spells);
         }
 
   hand-replies : (r : Run) (a b : ℕ) (p : Packet) → (hand_over script no_rules r a b p).replies ≡ r.replies

@@ -1,24 +1,12 @@
 -- Whether a record is quiet, task by task.
-use Rattle.std.proofs.Common.{◌≡◌, ℕ, ◌+◌, ◌<◌, ◌≤◌, Bool, true, false, ◌&&◌, sym, subst, ⊎_elim, refl, arith}
-use Rattle.std.proofs.lemmas.Bool.{and_from, and_parts, cases_lt, both_ways, false_from_ne_true}
+use Rattle.std.proofs.Common.{◌≡◌, ℕ, ◌<◌, Bool, true, false, ◌&&◌, sym}
+use Rattle.std.proofs.lemmas.Bool.{and_from, and_parts, both_ways, false_from_ne_true}
 use Rattle.lapi_base.specs.declared.script.Script.{Script}
 use Rattle.lapi_base.specs.Below.{every_below}
 use Rattle.lapi_base.specs.Final.{is_idle, is_settled, is_quiet}
 use Rattle.lapi_base.specs.Record.{Run}
 use Rattle.lapi_base.specs.Seen.{no_rules}
-use Rattle.lapi_laws.proofs.NumberLaws.{every_below-at, every_below-from}
-
-pub every-none : (p : ℕ → Bool) → every_below 0 p ≡ true
-unfolding every_below
-every-none p = refl
-
-pub every-more : (n : ℕ) (p : ℕ → Bool) → every_below n p ≡ true → p n ≡ true → every_below (n + 1) p ≡ true
-every-more n p h e =
-    every_below-from (n + 1) p (λ k l.
-    ⊎_elim
-    (λ (lt : k < n). every_below-at n p k h lt)
-    (λ (ge : n ≤ k). subst (λ j. p j ≡ true) (let same : n ≡ k = omega arith in same) e)
-    (cases_lt k n))
+use Rattle.lapi_base.proofs.BelowLaws.{every_below-at, every_below-from}
 
 every-both : (n : ℕ) (p q : ℕ → Bool) → every_below n (λ k. p k && q k) ≡ true → (every_below n p && every_below n q) ≡ true
 every-both n p q h =

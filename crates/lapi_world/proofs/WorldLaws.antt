@@ -15,7 +15,7 @@ use Rattle.lapi_base.specs.Seen.{no_rules, IsRecord, act_at, acts_of, record_of,
 use Rattle.lapi_base.specs.Spelling.{refusal, spells_packet}
 use Rattle.lapi_base.specs.Valid.{ValidAct, ValidLine}
 use Rattle.lapi_base.specs.Written.{packet_size}
-use Rattle.lapi_laws.proofs.Out.{all-get}
+use Rattle.lapi_base.proofs.ListLaws.{all-get}
 use Rattle.lapi_parts.proofs.LinesTaken.{record-first, record-more, acts-valid}
 use Rattle.lapi_task.specs.declared.task.Task.{Task}
 use Rattle.lapi_task.specs.Does.{IsAt}

@@ -17,7 +17,7 @@ use crate::number::{read_four, write_four, write_two};
 use crate::range::MEMORY;
 use lapi_base::{Frame, Head, Reason};
 
-#[tactic(auto, using(crate::proofs::Forms::read_bind), unfolding(lapi_base::specs::Heads::addr_form))]
+#[tactic(auto, using(lapi_base::proofs::FormLaws::read_bind), unfolding(lapi_base::specs::Heads::addr_form))]
 pub(crate) fn read(bytes: &[u8]) -> Result<(Head, &[u8]), Fault>
     ensures { Reads addr_form bytes.now result }
 {

@@ -24,7 +24,7 @@ const LAST_HANDLER: u32 = 15;
 
 const LONGEST_HEADER: u32 = 64;
 
-#[tactic(auto, using(crate::proofs::Forms::read_bind), unfolding(lapi_base::specs::Heads::am_form))]
+#[tactic(auto, using(lapi_base::proofs::FormLaws::read_bind), unfolding(lapi_base::specs::Heads::am_form))]
 pub(crate) fn read(bytes: &[u8]) -> Result<(Head, &[u8]), Fault>
     ensures { Reads am_form bytes.now result }
 {
@@ -76,7 +76,7 @@ fn read_count(bytes: &[u8]) -> Result<(u32, &[u8]), Fault>
     Ok((count, rest))
 }
 
-#[tactic(auto, using(crate::proofs::Lists::read_bytes))]
+#[tactic(auto, using(lapi_base::proofs::FormLists::read_bytes))]
 fn read_header(count: u32, bytes: &[u8]) -> Result<(UserHeader, &[u8]), Fault>
     requires { count ≤ 64 }
     ensures { Reads (bytes_form count) bytes.now result }

@@ -22,7 +22,7 @@ use crate::number::{read_four, write_four};
 use crate::range::read_range;
 use lapi_base::{Frame, Head, Reason};
 
-#[tactic(auto, using(crate::proofs::Forms::read_bind), unfolding(lapi_base::specs::Heads::get_go_form))]
+#[tactic(auto, using(lapi_base::proofs::FormLaws::read_bind), unfolding(lapi_base::specs::Heads::get_go_form))]
 pub(crate) fn read(bytes: &[u8]) -> Result<(Head, &[u8]), Fault>
     ensures { Reads (get_go_form First) bytes.now result }
 {

@@ -21,7 +21,7 @@ use crate::number::write_one;
 use crate::{counter, spans};
 use lapi_base::{Frame, Head, Spans};
 
-#[tactic(auto, using(crate::proofs::Forms::read_bind), unfolding(lapi_base::specs::Heads::getv_go_form))]
+#[tactic(auto, using(lapi_base::proofs::FormLaws::read_bind), unfolding(lapi_base::specs::Heads::getv_go_form))]
 pub(crate) fn read(bytes: &[u8]) -> Result<(Head, &[u8]), Fault>
     ensures { Reads (getv_go_form First) bytes.now result }
 {

@@ -16,7 +16,7 @@ use lapi_base::{Frame, Head, Reason};
 
 const LAST_ROUND: u32 = 511;
 
-#[tactic(auto, using(crate::proofs::Forms::read_bind), unfolding(lapi_base::specs::Heads::gfence_form))]
+#[tactic(auto, using(lapi_base::proofs::FormLaws::read_bind), unfolding(lapi_base::specs::Heads::gfence_form))]
 pub(crate) fn read(bytes: &[u8]) -> Result<(Head, &[u8]), Fault>
     ensures { Reads gfence_form bytes.now result }
 {

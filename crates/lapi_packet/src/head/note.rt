@@ -14,7 +14,7 @@ use crate::fault::{Fault, refused};
 use crate::number::{read_one, write_one};
 use lapi_base::{Frame, Head, NoteOp, Reason};
 
-#[tactic(auto, using(crate::proofs::Forms::read_bind), unfolding(lapi_base::specs::Heads::note_form))]
+#[tactic(auto, using(lapi_base::proofs::FormLaws::read_bind), unfolding(lapi_base::specs::Heads::note_form))]
 pub(crate) fn read(op: NoteOp, bytes: &[u8]) -> Result<(Head, &[u8]), Fault>
     ensures { Reads (note_form op) bytes.now result }
 {

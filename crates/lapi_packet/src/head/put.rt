@@ -18,7 +18,7 @@ use crate::number::write_four;
 use crate::range::read_range;
 use lapi_base::{Frame, Head};
 
-#[tactic(auto, using(crate::proofs::Forms::read_bind), unfolding(lapi_base::specs::Heads::put_form))]
+#[tactic(auto, using(lapi_base::proofs::FormLaws::read_bind), unfolding(lapi_base::specs::Heads::put_form))]
 pub(crate) fn read(length: u32, bytes: &[u8]) -> Result<(Head, &[u8]), Fault>
     ensures { Reads (put_form length) bytes.now result }
 {

@@ -19,7 +19,7 @@ use crate::number::write_one;
 use crate::{counter, spans};
 use lapi_base::{Frame, Head, Spans};
 
-#[tactic(auto, using(crate::proofs::Forms::read_bind), unfolding(lapi_base::specs::Heads::putv_form))]
+#[tactic(auto, using(lapi_base::proofs::FormLaws::read_bind), unfolding(lapi_base::specs::Heads::putv_form))]
 pub(crate) fn read(length: u32, bytes: &[u8]) -> Result<(Head, &[u8]), Fault>
     ensures { Reads (putv_form length) bytes.now result }
 {

@@ -17,7 +17,7 @@ use crate::number::write_four;
 use crate::range::read_word;
 use lapi_base::{Frame, Head};
 
-#[tactic(auto, using(crate::proofs::Forms::read_bind), unfolding(lapi_base::specs::Heads::rmw_back_form))]
+#[tactic(auto, using(lapi_base::proofs::FormLaws::read_bind), unfolding(lapi_base::specs::Heads::rmw_back_form))]
 pub(crate) fn read(bytes: &[u8]) -> Result<(Head, &[u8]), Fault>
     ensures { Reads rmw_back_form bytes.now result }
 {

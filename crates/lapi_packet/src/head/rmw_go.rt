@@ -22,7 +22,7 @@ use crate::number::{read_four, read_one, write_four, write_one};
 use crate::range::read_word;
 use lapi_base::{Frame, Head, Reason, RmwOp};
 
-#[tactic(auto, using(crate::proofs::Forms::read_bind), unfolding(lapi_base::specs::Heads::rmw_go_form))]
+#[tactic(auto, using(lapi_base::proofs::FormLaws::read_bind), unfolding(lapi_base::specs::Heads::rmw_go_form))]
 pub(crate) fn read(bytes: &[u8]) -> Result<(Head, &[u8]), Fault>
     ensures { Reads rmw_go_form bytes.now result }
 {

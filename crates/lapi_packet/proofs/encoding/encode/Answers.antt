@@ -1,6 +1,6 @@
 use Rattle.std.proofs.Common.{◌∙◌, sym, subst, List, ℕ}
 use Rattle.lapi_base.specs.Spelling.{Spells}
-use Rattle.lapi_packet.proofs.Spellings.{spelling_is}
+use Rattle.lapi_base.proofs.Spellings.{spelling_is}
 use Rattle.lapi_packet.proofs.encoding.encode.Goals as goal
 
 pub returns : goal.returns

@@ -1,9 +1,8 @@
 use Rattle.std.proofs.Common.{◌∙◌, sym, refl}
 use Rattle.lapi_base.specs.Spelling.{packet_form}
-use Rattle.lapi_packet.proofs.Forms.{answer_spelled, no_prefix, at_most_spelling}
+use Rattle.lapi_base.proofs.FormLaws.{answer_spelled, no_prefix, at_most_spelling}
 use Rattle.lapi_packet.proofs.Lengths.{at_most_packet}
-use Rattle.lapi_packet.proofs.Spellings.{spelling_is}
-use Rattle.lapi_packet.proofs.Answering.{ok_is}
+use Rattle.lapi_base.proofs.Spellings.{spelling_is, one_packet}
 use Rattle.lapi_packet.proofs.Faults.{cut_answer, refused_answer}
 use Rattle.lapi_packet.proofs.LongestPacket.{longest_bytes, longest_one, longest_spelled}
 use Rattle.lapi_packet.proofs.laws.spelling_laws.Goals as goal
@@ -12,7 +11,7 @@ pub returns-clause-one_spelling : goal.returns-clause-one_spelling
 returns-clause-one_spelling c = λ p a b s t. sym (spelling_is p a s) ∙ spelling_is p b t
 
 pub returns-clause-one_packet : goal.returns-clause-one_packet
-returns-clause-one_packet c = λ p q bytes s t. ok_is p q (sym (answer_spelled packet_form p bytes s) ∙ answer_spelled packet_form q bytes t)
+returns-clause-one_packet c = one_packet
 
 pub returns-clause-round_trip : goal.returns-clause-round_trip
 returns-clause-round_trip c = λ p bytes s. answer_spelled packet_form p bytes s

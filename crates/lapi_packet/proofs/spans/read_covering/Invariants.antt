@@ -1,7 +1,7 @@
 use Rattle.std.proofs.Common.{◌≡◌, ◌-◌, length}
 use Rattle.lapi_base.specs.Form.{reading, repeated}
 use Rattle.lapi_base.specs.Parts.{covering_form, covering_span, left_behind}
-use Rattle.lapi_packet.proofs.Lists.{with_front}
+use Rattle.lapi_base.proofs.FormLists.{with_front}
 use Rattle.lapi_packet.proofs.spans.read_covering.Given as goal
 
 abbrev pub invariant-loop-i : goal.invariant-loop-i

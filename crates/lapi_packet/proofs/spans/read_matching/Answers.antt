@@ -5,7 +5,7 @@ use Rattle.lapi_base.specs.Parts.{matching_form, matching_span, behind}
 use Rattle.lapi_base.specs.declared.reply.Reason.{Reason}
 use Rattle.lapi_base.specs.declared.span.Span.{Span}
 use Rattle.lapi_packet.proofs.MatchingSpans.{span_at, behind_at}
-use Rattle.lapi_packet.proofs.Lists.{with_front, begins, goes_on, ends, is_done}
+use Rattle.lapi_base.proofs.FormLists.{with_front, begins, goes_on, ends, is_done}
 use Rattle.lapi_packet.proofs.spans.read_matching.Goals as goal
 
 pub loop-other-init : goal.loop-other-init

@@ -5,9 +5,9 @@ use Rattle.lapi_base.specs.declared.packet.DataPacket.{DataPacket}
 use Rattle.lapi_base.specs.declared.packet.Packet.TheVariants.{Data}
 use Rattle.lapi_base.specs.Spelling.{HasSpelling}
 use Rattle.lapi_base.specs.Written as written
+use Rattle.lapi_base.proofs.Results.{on-ok}
 use Rattle.lapi_link.specs.Sender.{SendingEnd, appended}
 use Rattle.lapi_task.specs.Landed.{note_packet, noted_at}
-use Rattle.lapi_task.proofs.Lists.{on-ok}
 use Rattle.lapi_task.proofs.note.append_note.Goals as goal
 
 pub append-requires : goal.append-requires

@@ -1,5 +1,5 @@
 use Rattle.std.proofs.Common.{rules}
-use Rattle.lapi_packet.proofs.Spellings.{spelling_is}
+use Rattle.lapi_base.proofs.Spellings.{spelling_is}
 use Rattle.lapi_task.proofs.packet.spelled.Goals as goal
 
 pub returns-clause-bytes : goal.returns-clause-bytes

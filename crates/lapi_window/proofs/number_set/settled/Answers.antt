@@ -1,8 +1,8 @@
 use Rattle.std.proofs.Common.{◌≡◌, ◌+◌, sym, ap, ◌∙◌, subst, arith}
 use Rattle.lapi_base.specs.Below.{has_bit}
+use Rattle.lapi_base.proofs.BitLaws.{IsRun, run_of}
 use Rattle.lapi_window.specs.NumberSet.{is_covered}
 use Rattle.lapi_window.proofs.Flags.{is_in-view}
-use Rattle.lapi_window.proofs.BitLaws.{IsRun, run_of}
 use Rattle.lapi_window.proofs.Covered.{is_covered-at, settled-fits, settled-clear, settled-small, settled-covers}
 use Rattle.lapi_window.proofs.number_set.settled.Goals as goal
 

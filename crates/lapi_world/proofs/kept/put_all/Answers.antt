@@ -3,8 +3,8 @@ use Rattle.std.proofs.lemmas.Iterator.Adapters.{YieldsList-from_vec}
 use Rattle.std.proofs.lemmas.Iterator.Consumers.{YieldsList-turn}
 use Rattle.std.proofs.lemmas.Nat.{mul-add-lt}
 use Rattle.lapi_base.specs.declared.wire.WireEntry.{WireEntry}
+use Rattle.lapi_base.proofs.ListLaws.{all-at, found-at, taken-more}
 use Rattle.lapi_world.specs.Grows.{ArePut}
-use Rattle.lapi_world.proofs.Lists.{found-at, all-at, taken-more}
 use Rattle.lapi_world.proofs.Putting.{one-put}
 use Rattle.lapi_world.proofs.kept.put_all.Goals as goal
 

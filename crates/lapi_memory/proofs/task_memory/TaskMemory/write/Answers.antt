@@ -1,7 +1,7 @@
 use Rattle.std.proofs.Common.{rules, ◌≡◌, length, ◌∙◌, ap}
 use Rattle.std.proofs.lemmas.List.{take_at}
 use Rattle.lapi_memory.specs.TaskMemory.{written}
-use Rattle.lapi_memory.proofs.Writes.{byte_written}
+use Rattle.lapi_base.proofs.MemoryLaws.{byte_written}
 use Rattle.lapi_memory.proofs.task_memory.TaskMemory.write.Goals as goal
 
 pub returns-clause-byte : goal.returns-clause-byte

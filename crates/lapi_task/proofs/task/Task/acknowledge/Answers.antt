@@ -1,6 +1,6 @@
 use Rattle.lapi_task.proofs.AnswerLaws.{answers-for, answer-spelled, answer-put}
-use Rattle.lapi_task.proofs.Lists.{on-ok}
 use Rattle.lapi_task.proofs.task.Task.acknowledge.Goals as goal
+use Rattle.lapi_base.proofs.Results.{on-ok}
 
 pub ack-base-requires : goal.ack-base-requires
 ack-base-requires c = let x = c.requires in let y = answers-for x.0 x.1 c.args.self.now c.args.from x.2 x.3 c.index.result.now c.index.ensures in (x.0, x.2, y.0, y.1)

@@ -1,9 +1,9 @@
 use Rattle.std.proofs.Common.{◌∷◌, refl, sym, subst}
 use Rattle.std.specs.Vec.{with_items}
 use Rattle.lapi_base.specs.declared.packet.Packet.TheVariants.{Data}
+use Rattle.lapi_base.proofs.Results.{on-ok}
 use Rattle.lapi_task.specs.declared.task.Task.{Task}
 use Rattle.lapi_task.specs.Landed.{MayTake}
-use Rattle.lapi_task.proofs.Lists.{on-ok}
 use Rattle.lapi_task.proofs.ReceiveLaws.{KeepsRest, Takes, Tells, takes-over, may-take, arrival-is, suits-arrival, has-taken, arrived-does}
 use Rattle.lapi_task.proofs.task.Task.arrive.Goals as goal
 

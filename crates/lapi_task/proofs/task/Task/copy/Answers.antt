@@ -2,9 +2,10 @@ use Rattle.std.proofs.Common.{ℕ, List, refl, sym, ap, ◌∙◌, subst}
 use Rattle.lapi_base.specs.declared.packet.Packet.TheVariants.{Data}
 use Rattle.lapi_base.specs.Fragments.{fragment_bytes}
 use Rattle.lapi_base.specs.Spelling.{HasSpelling}
+use Rattle.lapi_base.proofs.ListLaws.{at-place}
+use Rattle.lapi_base.proofs.Results.{on-ok}
 use Rattle.lapi_memory.specs.TaskMemory.{bytes_at}
 use Rattle.lapi_task.specs.Puts.{put_packet, put_packets, extended}
-use Rattle.lapi_task.proofs.Lists.{at-place, on-ok}
 use Rattle.lapi_task.proofs.task.Task.copy.Goals as goal
 
 pub append_put-requires-clause-spelled : goal.append_put-requires-clause-spelled

@@ -1,8 +1,8 @@
 use Rattle.std.proofs.Common.{ℕ, refl, subst}
+use Rattle.lapi_base.proofs.Results.{on-ok}
 use Rattle.lapi_task.specs.declared.task.Task.{Task}
 use Rattle.lapi_task.specs.Copies.{IsCopied}
 use Rattle.lapi_task.proofs.CopyLaws.{popped-is, found-put, no-put, copyable, copied-stands}
-use Rattle.lapi_task.proofs.Lists.{on-ok}
 use Rattle.lapi_task.proofs.task.Task.copy_next.Goals as goal
 
 pub unreachable-requires-in_default-put_at : goal.unreachable-requires-in_default-put_at

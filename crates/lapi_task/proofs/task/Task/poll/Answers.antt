@@ -1,5 +1,5 @@
 use Rattle.std.proofs.Common.{refl, arith}
-use Rattle.lapi_task.proofs.Lists.{on-oks}
+use Rattle.lapi_base.proofs.Results.{on-oks}
 use Rattle.lapi_task.proofs.PollSends.{poll-does}
 use Rattle.lapi_task.proofs.task.Task.poll.Goals as goal
 

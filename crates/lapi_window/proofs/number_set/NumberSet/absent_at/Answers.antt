@@ -2,8 +2,8 @@ use Rattle.std.proofs.Common.{◌≡◌, ℕ, ◌+◌, ◌<◌, ◌≤◌, Bool,
 use Rattle.std.proofs.lemmas.Bool.{cases_lt, both_ways}
 use Rattle.std.specs.List.{slice_get}
 use Rattle.lapi_base.specs.Below.{below}
+use Rattle.lapi_base.proofs.BelowLaws.{below-place, below_goes_on, length-below-none}
 use Rattle.lapi_window.specs.NumberSet.{is_in}
-use Rattle.lapi_window.proofs.Sets.{length-below-none, below-place, below_goes_on}
 use Rattle.lapi_window.proofs.Covered.{is_in-of, is_covered-low}
 use Rattle.lapi_window.proofs.number_set.NumberSet.absent_at.Goals as goal
 use Rattle.lapi_window.proofs.number_set.NumberSet.absent_at.Goals.{then-left-gt0, else-left-gt0+then-contains, then-not-contains, else-not-contains}

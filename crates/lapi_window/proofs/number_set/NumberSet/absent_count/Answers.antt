@@ -1,6 +1,6 @@
 use Rattle.std.proofs.Common.{not, length, ap, ◌∙◌, arith}
+use Rattle.lapi_base.proofs.BelowLaws.{below-same}
 use Rattle.lapi_window.specs.NumberSet.{is_in, is_covered}
-use Rattle.lapi_window.proofs.Sets.{below-same}
 use Rattle.lapi_window.proofs.Covered.{is_in-of, base_le_end, uncovered_count}
 use Rattle.lapi_window.proofs.number_set.NumberSet.absent_count.Goals as goal
 

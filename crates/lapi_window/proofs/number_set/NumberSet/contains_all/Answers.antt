@@ -1,6 +1,6 @@
 use Rattle.std.proofs.Common.{◌≡◌, ◌-◌, ◌/◌, ◌^◌, max, sym, ap, ◌∙◌, subst, arith}
 use Rattle.std.proofs.lemmas.Bool.{leb-true, le-leb}
-use Rattle.lapi_window.proofs.BitLaws.{IsRun, run_of}
+use Rattle.lapi_base.proofs.BitLaws.{IsRun, run_of}
 use Rattle.lapi_window.proofs.Covered.{is_in-of, is_covered-low, range-covered, range-short}
 use Rattle.lapi_window.proofs.number_set.NumberSet.contains_all.Goals as goal
 

@@ -1,6 +1,6 @@
 use Rattle.std.proofs.Common.{◌<◌, ◌^◌, ◌+◌, sym, subst}
+use Rattle.lapi_base.proofs.BitLaws.{bits_of-small}
 use Rattle.lapi_window.specs.RecvWindow.{is_taken, base_of}
-use Rattle.lapi_window.proofs.MemberLaws.{bits_of-small}
 use Rattle.lapi_window.proofs.recv_window.RecvWindow.ack.Goals as goal
 
 pub overflow_cast-result : goal.overflow_cast-result

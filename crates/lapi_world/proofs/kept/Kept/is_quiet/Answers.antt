@@ -1,7 +1,8 @@
 use Rattle.std.proofs.Common.{◌≡◌, ◌<◌, true, get_or, length, sym, ap, ◌∙◌, subst, arith}
 use Rattle.lapi_base.specs.Below.{every_below}
+use Rattle.lapi_base.proofs.BelowLaws.{every-more, every-none}
 use Rattle.lapi_world.proofs.Acts.{task-read}
-use Rattle.lapi_world.proofs.Quietness.{is_still, every-none, every-more, all-still, one-busy}
+use Rattle.lapi_world.proofs.Quietness.{is_still, all-still, one-busy}
 use Rattle.lapi_world.proofs.kept.Kept.is_quiet.Goals as goal
 
 pub loop-task-init : goal.loop-task-init

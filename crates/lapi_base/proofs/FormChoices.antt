@@ -1,7 +1,7 @@
 -- What follows where a form goes on by a test.
 use Rattle.std.proofs.Common.{◌≡◌, ℕ, Bool, true, false, cond, List, refl}
 use Rattle.lapi_base.specs.Form.{Form}
-use Rattle.lapi_packet.proofs.Forms.{AtMost, Written, Always}
+use Rattle.lapi_base.proofs.FormLaws.{AtMost, Written, Always}
 
 pub at_most_if : {A : Type 0} (n : ℕ) (b : Bool) (f g : Form A) → AtMost n f → AtMost n g → AtMost n (cond b f g)
 at_most_if n true f g h k = h

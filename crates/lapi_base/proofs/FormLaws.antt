@@ -7,7 +7,7 @@ use Rattle.lapi_base.specs.declared.reply.Bad.{Bad}
 use Rattle.lapi_base.specs.declared.reply.Reason.{Reason}
 use Rattle.lapi_base.specs.declared.reply.Reason.TheVariants as reasons
 use Rattle.lapi_base.specs.Form.{byte_count, bytes_of, Form, Done, Field, ◌>>=◌, IsSpelled, IsRefused, and_then, number_at, reading, whole, answer}
-use Rattle.lapi_packet.proofs.Numbers.{IsBytes, number_again, number_cases, length-bytes_of}
+use Rattle.lapi_base.proofs.FormNumbers.{IsBytes, number_again, number_cases, length-bytes_of}
 
 -- ---- one field
 

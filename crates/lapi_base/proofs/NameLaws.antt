@@ -1,15 +1,13 @@
 -- Names and deeds: their tests, and what stands in a journal.
-use Rattle.std.proofs.Common.{◌≡◌, ◌⊎◌, ℕ, true, false, ◌==◌, ◌&&◌, ◌||◌, List, [], ◌∷◌, refl, sym, ap, ◌∙◌, ⊎_elim, inl, inr}
+use Rattle.std.proofs.Common.{◌≡◌, ◌⊎◌, ℕ, true, false, ◌==◌, ◌&&◌, ◌||◌, List, [], ◌∷◌, refl, sym, ap, ◌∙◌, ⊎_elim, inl, inr, ◌≢◌, Bool, ◌++◌}
 use Rattle.std.specs.List.{AllByRecursion}
-use Rattle.std.proofs.lemmas.Bool.{false≢true, and_parts, and_from, or_cases, or_left, or_right, eqb-true, eq-eqb}
+use Rattle.std.proofs.lemmas.Bool.{false≢true, and_parts, and_from, or_cases, or_left, or_right, eqb-true}
 use Rattle.lapi_base.specs.declared.message.Leg.{Leg}
 use Rattle.lapi_base.specs.declared.message.Leg.TheVariants.{Go, Back, Note, Echo, Join}
 use Rattle.lapi_base.specs.declared.message.MsgName.{MsgName}
 use Rattle.lapi_base.specs.declared.event.Event.{Event}
 use Rattle.lapi_base.specs.Names.{leg_eq, name_eq, Deed, Issued, Refused, Entered, Passed, Copied, Headed, Landed, Begun, Ended, deed, deed_eq, done}
-
-pub eqb-refl : (n : ℕ) → (n == n) ≡ true
-eqb-refl n = eq-eqb n n refl
+use Rattle.lapi_base.proofs.TestLaws.{eqb-refl}
 
 pub leg_eq-refl : (l : Leg) → leg_eq l l ≡ true
 leg_eq-refl Go = refl
@@ -39,6 +37,13 @@ name_eq-true m n h =
     let b = eqb-true m.statement n.statement h2.1 in
     let c = leg_eq-true m.leg n.leg h1.1 in
     λ i. record { origin = a i; statement = b i; leg = c i }
+
+pub name_eq-false : (m n : MsgName) → m ≢ n → name_eq m n ≡ false
+name_eq-false m n differ = by_test (name_eq m n) refl
+  where
+    by_test : (b : Bool) → name_eq m n ≡ b → b ≡ false
+    by_test true e = absurd (differ (name_eq-true m n e))
+    by_test false e = refl
 
 pub deed_eq-refl : (d : Deed) → deed_eq d d ≡ true
 deed_eq-refl (Issued a i) = and_from _ _ (eqb-refl a) (eqb-refl i)
@@ -79,6 +84,11 @@ done-head e J = done-cons (deed e) e J ∙ or_left _ _ (deed_eq-refl (deed e))
 
 pub done-later : (d : Deed) (e : Event) (J : List Event) → done d J ≡ true → done d (e ∷ J) ≡ true
 done-later d e J h = done-cons d e J ∙ or_right _ _ h
+
+-- and after any more events
+pub done-grown : (later J : List Event) (d : Deed) → done d J ≡ true → done d (later ++ J) ≡ true
+done-grown [] J d h = h
+done-grown (e ∷ later) J d h = done-later d e (later ++ J) (done-grown later J d h)
 
 pub done-cases : (d : Deed) (e : Event) (J : List Event) → done d (e ∷ J) ≡ true → (d ≡ deed e) ⊎ (done d J ≡ true)
 done-cases d e J h =

@@ -5,7 +5,7 @@ use Rattle.std.proofs.lemmas.List.{append-nil}
 use Rattle.lapi_base.specs.declared.reply.Reason.{Reason}
 use Rattle.lapi_base.specs.declared.reply.Reason.TheVariants as reasons
 use Rattle.lapi_base.specs.Form.{One, Form, Done, ◌>>=◌, any, bytes_form, repeated, and_then, number_at, reading}
-use Rattle.lapi_packet.proofs.Forms.{read_bind, AtMost, at_most_bind, Written, written_bind, Always, always_bind, always_spelled}
+use Rattle.lapi_base.proofs.FormLaws.{read_bind, AtMost, at_most_bind, Written, written_bind, Always, always_bind, always_spelled}
 
 -- ---- bytes
 

@@ -1,6 +1,6 @@
 -- The bytes that are written for a packet are its spelling, where it has one.
-use Rattle.std.proofs.Common.{◌≡◌, ℕ, ◌%◌, ◌^◌, ◌≤◌, true, false, cond, List, [], ◌∷◌, length, Some, None, refl, sym, subst, arith, inl, inr}
-use Rattle.std.specs.Prelude.{◌==◌, ◌&&◌, ◌||◌, not, nat_le, unwrap_or}
+use Rattle.std.proofs.Common.{◌≡◌, ℕ, ◌%◌, ◌^◌, ◌≤◌, true, false, cond, List, [], ◌∷◌, length, Some, None, refl, sym, subst, arith, inl, inr, ◌∙◌}
+use Rattle.std.specs.Prelude.{◌==◌, ◌&&◌, ◌||◌, not, nat_le, unwrap_or, Result, Ok}
 use Rattle.std.proofs.lemmas.Bool.{cases_Bool, eqb-true, eqb-false, leb-true, and_parts, or_cases}
 use Rattle.std.proofs.lemmas.List.Concat.{flat_map-cons}
 use Rattle.lapi_base.specs.declared.span.Span.{Span}
@@ -16,10 +16,11 @@ use Rattle.lapi_base.specs.Parts.{counter_form, range_form, word_form, count_for
 use Rattle.lapi_base.specs.Heads.{put_form, get_go_form, get_back_form, putv_form, getv_go_form, getv_back_form, update_of, update_form, rmw_go_form, rmw_back_form, header_count_form, am_form, note_of, note_form, echo_form, round_form, gfence_form, addr_form, is_operation, operation_form, head_form}
 use Rattle.lapi_base.specs.Spelling.{task_form, kind_form, front_form, acknowledgement_form, is_leg, leg_of, leg_form, name_form, length_form, fragment_form, data_form, packet_form, Spells}
 use Rattle.lapi_base.specs.Written.{leg_number, head_number, note_number, update_number}
+use Rattle.lapi_base.specs.declared.reply.Bad.{Bad}
 use Rattle.lapi_base.specs.Written as written
-use Rattle.lapi_packet.proofs.Forms.{Written, written_bind, written_spelling, Always, always_bind, always_spelled}
-use Rattle.lapi_packet.proofs.Lists.{as_is, written_bytes, count_bytes, written_repeated, count_repeated}
-use Rattle.lapi_packet.proofs.Choices.{written_if, always_if}
+use Rattle.lapi_base.proofs.FormLaws.{answer_spelled, Written, written_bind, written_spelling, Always, always_bind, always_spelled}
+use Rattle.lapi_base.proofs.FormLists.{as_is, written_bytes, count_bytes, written_repeated, count_repeated}
+use Rattle.lapi_base.proofs.FormChoices.{written_if, always_if}
 
 -- ---- parts
 
@@ -335,3 +336,13 @@ written_packet = λ magic _ m version _ v kind _ known from _ _ to _ _.
 -- what is written for a packet that has a spelling
 pub spelling_is : (packet : Packet) (bytes : List ℕ) → Spells packet bytes → written.packet packet ≡ bytes
 spelling_is packet bytes s = written_spelling packet_form [] written.packet written_packet packet bytes s
+
+abbrev pub ok : Packet → Result Packet Bad
+ok p = Ok p
+
+pub ok_is : (p q : Packet) → ok p ≡ ok q → p ≡ q
+ok_is p q e = cc
+
+-- no bytes spell two packets
+pub one_packet : (p q : Packet) (bytes : List ℕ) → Spells p bytes → Spells q bytes → p ≡ q
+one_packet p q bytes s t = ok_is p q (sym (answer_spelled packet_form p bytes s) ∙ answer_spelled packet_form q bytes t)
