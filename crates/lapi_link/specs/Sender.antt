@@ -15,9 +15,9 @@ pub record IsSendingEnd (s : SendingEnd) : Type 0 where
   pub whole : sent_count s.window + length s.waiting ≡ s.window.numbers
   pub short : AllByRecursion (λ (bytes : List ℕ). length bytes ≤ 640) s.waiting
 
--- nothing was sent, and nothing waits
-pub record IsFresh (s : SendingEnd) : Type 0 where
-  pub size : s.window.window ≡ 32
+-- nothing was sent, and nothing waits, with a window of this size
+pub record IsFresh (window : ℕ) (s : SendingEnd) : Type 0 where
+  pub size : s.window.window ≡ window
   pub numbers : s.window.numbers ≡ 0
   pub sent : sent_count s.window ≡ 0
   pub acked : (n : ℕ) → is_acked s.window n ≡ false

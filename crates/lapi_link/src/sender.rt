@@ -28,11 +28,12 @@ impl Model for Sender {
 }
 
 impl Sender {
-    /// An end that has sent nothing, with a window of 32 packets.
-    pub fn new(alloc: Global) -> Result<Sender, Memory>
-        ensures { IfOk result IsFresh }
+    /// An end that has sent nothing, with a window of that many packets.
+    pub fn new(alloc: Global, window: u32) -> Result<Sender, Memory>
+        requires { (1 ≤ window) × (window ≤ 64) }
+        ensures { IfOk result (IsFresh window) }
     {
-        let window = SendWindow::new(alloc)?;
+        let window = SendWindow::sized(alloc, window)?;
         Ok(Sender {
             window,
             waiting: VecDeque::new(alloc),
