@@ -7,7 +7,6 @@ use Rattle.lapi_base.specs.declared.packet.Packet.{Packet}
 use Rattle.lapi_base.specs.declared.packet.Packet.TheVariants.{Data, Ack}
 use Rattle.lapi_base.specs.Arrived.{number_bound, least_number, ack_of}
 use Rattle.lapi_base.specs.Below.{bits_of}
-use Rattle.lapi_base.specs.Layout.{window_of}
 use Rattle.lapi_base.specs.Record.{is_number, has_number}
 use Rattle.lapi_base.specs.Spelling.{HasSpelling}
 use Rattle.lapi_base.specs.Valid.{ValidScript}

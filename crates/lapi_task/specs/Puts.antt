@@ -27,11 +27,11 @@ abbrev pub put_packet : Put → (t i n j : ℕ) → List ℕ → DataPacket
 put_packet put t i n j payload = record { from = t; to = put.target; seq = n; name = message t i Go; head = Head.Put put.to put.tgt put.cmpl; length = put.len; fragment = j; payload = payload }
 
 -- the packets of a put with these bytes, from number n on
-abbrev pub put_bytes : Put → (t i n : ℕ) → (bytes : List ℕ) → (j : ℕ) → List ℕ
-put_bytes put t i n bytes j = written.packet (Data (put_packet put t i (n + j) j (fragment_bytes 256 j bytes)))
+abbrev pub put_bytes : (unit : ℕ) → Put → (t i n : ℕ) → (bytes : List ℕ) → (j : ℕ) → List ℕ
+put_bytes unit put t i n bytes j = written.packet (Data (put_packet put t i (n + j) j (fragment_bytes unit j bytes)))
 
-abbrev pub put_packets : Put → (t i n : ℕ) → (bytes : List ℕ) → List (List ℕ)
-put_packets put t i n bytes = map (put_bytes put t i n bytes) (upto (fragments_in 256 put.len))
+abbrev pub put_packets : (unit : ℕ) → Put → (t i n : ℕ) → (bytes : List ℕ) → List (List ℕ)
+put_packets unit put t i n bytes = map (put_bytes unit put t i n bytes) (upto (fragments_in unit put.len))
 
 -- an end with these packets more that wait
 abbrev pub extended : SendingEnd → List (List ℕ) → SendingEnd

@@ -1,9 +1,10 @@
 //! Packets that leave the task.
-ghost use Rattle.std.specs.Prelude.{◌≡◌, ℕ, ◌^◌, ◌<◌, ◌≤◌, length, IfOk, OnOk};
+ghost use Rattle.std.specs.Prelude.{◌≡◌, ℕ, ◌*◌, ◌^◌, ◌<◌, ◌≤◌, length, IfOk, OnOk};
 ghost use Rattle.lapi_base.specs.declared.packet.Packet.TheVariants.{Data};
 ghost use Rattle.lapi_base.specs.Fragments.{fragments_in, fragment_bytes};
 ghost use Rattle.lapi_base.specs.Spelling.{HasSpelling};
 ghost use Rattle.lapi_base.specs.Written as written;
+ghost use Rattle.lapi_reassembly.specs.Partial.{IsUnit};
 ghost use Rattle.lapi_link.specs.Sender.{appended};
 ghost use Rattle.lapi_task.specs.Puts.{put_packet, put_packets, extended};
 
@@ -33,22 +34,24 @@ pub fn append(alloc: Global, sender: &mut Sender, packet: &Packet) -> Result<(),
     sender.append(bytes)
 }
 
-/// Gives numbers to all fragments of a put, which is statement `i` of task `t`.
+/// Gives numbers to all fragments of a put, which is statement `i` of task `t`; each but the last has `unit` bytes.
 pub fn append_put(
     alloc: Global,
     sender: &mut Sender,
+    unit: u32,
     put: Put,
     t: u32,
     i: u32,
     bytes: &[u8],
 ) -> Result<(), Memory>
-    requires bytes { (length bytes.now ≡ put.len) × (put.len ≤ 16384) }
-    requires spelled { (n j : ℕ) → n < 2 ^ 32 → j < fragments_in 256 put.len → HasSpelling (Data (put_packet put t i n j (fragment_bytes 256 j bytes.now))) }
-    ensures { OnOk result (sender.new ≡ extended sender.old (put_packets put t i sender.old.window.numbers bytes.now)) }
+    requires unit { IsUnit unit × (unit ≤ 256) }
+    requires bytes { (length bytes.now ≡ put.len) × (put.len ≤ 64 * unit) }
+    requires spelled { (n j : ℕ) → n < 2 ^ 32 → j < fragments_in unit put.len → HasSpelling (Data (put_packet put t i n j (fragment_bytes unit j bytes.now))) }
+    ensures { OnOk result (sender.new ≡ extended sender.old (put_packets unit put t i sender.old.window.numbers bytes.now)) }
 {
-    for fragment in 0..put.len.div_ceil(256).max(1) {
+    for fragment in 0..put.len.div_ceil(unit).max(1) {
         let seq = sender.window().numbers();
-        let payload = payload_of(bytes, fragment);
+        let payload = payload_of(bytes, unit, fragment);
         let packet = Packet::Data(put.packet(t, i, seq, fragment, payload));
         append(alloc, sender, &packet)?;
     }
