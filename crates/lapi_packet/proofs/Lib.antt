@@ -1,4 +1,5 @@
 pub mod Numbers
+pub mod Equality
 pub mod Forms
 pub mod Lists
 pub mod MatchingSpans
