@@ -5,6 +5,7 @@ use Rattle.lapi_base.specs.declared.event.Event.TheVariants.{Copy}
 use Rattle.lapi_base.specs.declared.script.Script.{Script}
 use Rattle.lapi_base.specs.declared.message.Leg.TheVariants.{Go}
 use Rattle.lapi_base.specs.declared.packet.Packet.TheVariants.{Data}
+use Rattle.lapi_base.specs.declared.payload.TheConstants.{PAYLOAD_ROOM}
 use Rattle.lapi_base.specs.Atomic.{Atomic}
 use Rattle.lapi_base.specs.Fragments.{fragments_in, fragment_bytes}
 use Rattle.lapi_base.specs.Names.{message}
@@ -28,7 +29,7 @@ source task put = bytes_at task.memory put.from put.len
 pub record IsCopyable (unit : ℕ) (task : Task) (put : Put) (i : ℕ) : Type 0 where
   pub target : put.target < length task.senders.items
   pub within : IsWithin task.memory put.from put.len
-  pub size : IsUnit unit × (unit ≤ 256)
+  pub size : IsUnit unit × (unit ≤ PAYLOAD_ROOM)
   pub short : put.len ≤ 64 * unit
   pub counter : (c : ℕ) → put.org ≡ Some c → c < length task.counters
   pub spelled : (n j : ℕ) → n < 2 ^ 32 → j < fragments_in unit put.len → HasSpelling (Data (put_packet put task.number i n j (fragment_bytes unit j (source task put))))

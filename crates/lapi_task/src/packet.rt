@@ -9,7 +9,7 @@ ghost use Rattle.lapi_link.specs.Sender.{appended};
 ghost use Rattle.lapi_task.specs.Puts.{put_packet, put_packets, extended};
 
 use crate::put::{Put, payload_of};
-use lapi_base::{Bytes, Frame, Memory, Packet};
+use lapi_base::{Bytes, FRAME_ROOM, Frame, Memory, PAYLOAD_ROOM, Packet};
 use lapi_link::Sender;
 use lapi_packet::encode;
 use std::alloc::Global;
@@ -18,7 +18,7 @@ use std::alloc::Global;
 pub fn spelled(alloc: Global, packet: &Packet) -> Result<Bytes, Memory>
     requires { HasSpelling packet.now }
     ensures bytes { IfOk result (λ bytes. bytes ≡ written.packet packet.now) }
-    ensures short { IfOk result (λ bytes. length bytes ≤ 640) }
+    ensures short { IfOk result (λ bytes. length bytes ≤ FRAME_ROOM) }
 {
     let mut frame = Frame::new();
     encode(packet, &mut frame);
@@ -44,7 +44,7 @@ pub fn append_put(
     i: u32,
     bytes: &[u8],
 ) -> Result<(), Memory>
-    requires unit { IsUnit unit × (unit ≤ 256) }
+    requires unit { IsUnit unit × (unit ≤ PAYLOAD_ROOM) }
     requires bytes { (length bytes.now ≡ put.len) × (put.len ≤ 64 * unit) }
     requires spelled { (n j : ℕ) → n < 2 ^ 32 → j < fragments_in unit put.len → HasSpelling (Data (put_packet put t i n j (fragment_bytes unit j bytes.now))) }
     ensures { OnOk result (sender.new ≡ extended sender.old (put_packets unit put t i sender.old.window.numbers bytes.now)) }

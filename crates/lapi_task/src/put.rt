@@ -2,7 +2,7 @@ ghost use Rattle.std.specs.Prelude.{◌≡◌, ◌*◌, ◌≤◌, length};
 ghost use Rattle.lapi_base.specs.Fragments.{fragment_bytes};
 ghost use Rattle.lapi_task.specs.Puts.{put_of, put_packet};
 
-use lapi_base::{Addr, DataPacket, Head, Leg, MsgName, Payload, Statement};
+use lapi_base::{Addr, DataPacket, Head, Leg, MsgName, PAYLOAD_ROOM, Payload, Statement};
 
 /// A put to a plain address.
 #[derive(Clone, Copy, Debug)]
@@ -70,7 +70,7 @@ impl Put {
 /// The bytes of one fragment, where each but the last has `unit`.
 #[tactic(auto, using(std::proofs::lemmas::List::take_min))]
 pub fn payload_of(bytes: &[u8], unit: u32, fragment: u32) -> Payload
-    requires unit { unit ≤ 256 }
+    requires unit { unit ≤ PAYLOAD_ROOM }
     requires within { unit * fragment ≤ length bytes.now }
     ensures { result ≡ fragment_bytes unit fragment bytes.now }
 {
