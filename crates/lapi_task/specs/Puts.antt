@@ -1,5 +1,5 @@
 -- Puts to plain addresses, and their packets.
-use Rattle.std.specs.Prelude.{ℕ, ◌+◌, List, ◌++◌, length, map, Option, Some, None}
+use Rattle.std.specs.Prelude.{ℕ, ◌+◌, ◌<◌, ◌^◌, List, ◌++◌, length, map, Option, Some, None}
 use Rattle.lapi_base.specs.declared.address.Addr.TheVariants.{Plain}
 use Rattle.lapi_base.specs.declared.head.Head.{Head}
 use Rattle.lapi_base.specs.declared.message.Leg.TheVariants.{Go}
@@ -10,6 +10,7 @@ use Rattle.lapi_base.specs.declared.statement.Statement.TheVariants as statement
 use Rattle.lapi_base.specs.Fragments.{fragments_in, fragment_bytes}
 use Rattle.lapi_base.specs.Names.{message}
 use Rattle.lapi_base.specs.Operations.{upto}
+use Rattle.lapi_base.specs.Spelling.{HasSpelling}
 use Rattle.lapi_base.specs.Written as written
 use Rattle.lapi_link.specs.Sender.{SendingEnd}
 use Rattle.lapi_task.specs.declared.put.Put.{Put}
@@ -36,3 +37,13 @@ put_packets unit put t i n bytes = map (put_bytes unit put t i n bytes) (upto (f
 -- an end with these packets more that wait
 abbrev pub extended : SendingEnd → List (List ℕ) → SendingEnd
 extended s packets = record s { window = record s.window { numbers = s.window.numbers + length packets }; waiting = s.waiting ++ packets }
+
+-- an end with the packets of a put more that wait
+abbrev pub with_put : (unit : ℕ) → Put → (t i : ℕ) → (bytes : List ℕ) → SendingEnd → SendingEnd
+with_put unit put t i bytes s = extended s (put_packets unit put t i s.window.numbers bytes)
+
+-- each fragment of the put has a spelling, whatever its number
+abbrev pub AreSpelled : (unit : ℕ) → Put → (t i : ℕ) → (bytes : List ℕ) → Type 0
+AreSpelled unit put t i bytes =
+    (n j : ℕ) → n < 2 ^ 32 → j < fragments_in unit put.len
+    → HasSpelling (Data (put_packet put t i n j (fragment_bytes unit j bytes)))

@@ -1,12 +1,10 @@
 //! Packets that leave the task.
-ghost use Rattle.std.specs.Prelude.{◌≡◌, ℕ, ◌*◌, ◌^◌, ◌<◌, ◌≤◌, length, IfOk, OnOk};
-ghost use Rattle.lapi_base.specs.declared.packet.Packet.TheVariants.{Data};
-ghost use Rattle.lapi_base.specs.Fragments.{fragments_in, fragment_bytes};
+ghost use Rattle.std.specs.Prelude.{◌≡◌, ◌*◌, ◌≤◌, length, IfOk, OnOk};
 ghost use Rattle.lapi_base.specs.Spelling.{HasSpelling};
 ghost use Rattle.lapi_base.specs.Written as written;
 ghost use Rattle.lapi_reassembly.specs.Partial.{IsUnit};
 ghost use Rattle.lapi_link.specs.Sender.{appended};
-ghost use Rattle.lapi_task.specs.Puts.{put_packet, put_packets, extended};
+ghost use Rattle.lapi_task.specs.Puts.{with_put, AreSpelled};
 
 use crate::put::{Put, payload_of};
 use lapi_base::{Bytes, FRAME_ROOM, Frame, Memory, PAYLOAD_ROOM, Packet};
@@ -46,8 +44,8 @@ pub fn append_put(
 ) -> Result<(), Memory>
     requires unit { IsUnit unit × (unit ≤ PAYLOAD_ROOM) }
     requires bytes { (length bytes.now ≡ put.len) × (put.len ≤ 64 * unit) }
-    requires spelled { (n j : ℕ) → n < 2 ^ 32 → j < fragments_in unit put.len → HasSpelling (Data (put_packet put t i n j (fragment_bytes unit j bytes.now))) }
-    ensures { OnOk result (sender.new ≡ extended sender.old (put_packets unit put t i sender.old.window.numbers bytes.now)) }
+    requires spelled { AreSpelled unit put t i bytes.now }
+    ensures { OnOk result (sender.new ≡ with_put unit put t i bytes.now sender.old) }
 {
     for fragment in 0..put.len.div_ceil(unit).max(1) {
         let seq = sender.window().numbers();

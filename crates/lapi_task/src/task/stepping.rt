@@ -150,7 +150,7 @@ fn senders(alloc: Global, script: &Script) -> Result<Vec<Sender>, Memory>
 /// The receiving ends of the links from each task.
 fn receivers(alloc: Global, script: &Script) -> Result<Vec<Receiver>, Memory>
     ensures count { IfOk result (λ made. length made.items ≡ script.now.tasks) }
-    ensures blank { IfOk result (λ made. AllByRecursion (IsBlank (window_of script.now) (unit_of script.now)) made.items) }
+    ensures blank { IfOk result (λ v. AllByRecursion (IsBlank (window_of script.now) (unit_of script.now)) v.items) }
 {
     let mut receivers = Vec::new(alloc);
     for _task in 0..script.tasks {
