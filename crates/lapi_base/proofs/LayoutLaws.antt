@@ -1,7 +1,13 @@
 -- What a layout sets, by its number.
 use Rattle.std.proofs.Common.{◌≡◌, ℕ, ◌<◌, lit<, ◌==◌, true, false, cond, refl}
 use Rattle.lapi_base.specs.declared.script.Script.{Script}
-use Rattle.lapi_base.specs.Layout.{Layout, First, Second, layout_of, window, window_of, longest, longest_active, has_echo, most_lines, most_injected}
+use Rattle.lapi_base.specs.Layout.{Layout, First, Second, layout_of, unit, window, window_of, longest, longest_active, has_echo, most_lines, most_injected}
+
+pub unit_by : (n : ℕ) → unit (layout_of n) ≡ cond (n == 2) 1024 256
+unit_by n = elim (n == 2) as (λ b. unit (cond b Second First) ≡ cond b 1024 256) [ true ↦ refl | false ↦ refl ]
+
+pub window_by : (n : ℕ) → window (layout_of n) ≡ cond (n == 2) 64 32
+window_by n = elim (n == 2) as (λ b. window (cond b Second First) ≡ cond b 64 32) [ true ↦ refl | false ↦ refl ]
 
 pub longest_by : (n : ℕ) → longest (layout_of n) ≡ cond (n == 2) 65536 16384
 longest_by n = elim (n == 2) as (λ b. longest (cond b Second First) ≡ cond b 65536 16384) [ true ↦ refl | false ↦ refl ]

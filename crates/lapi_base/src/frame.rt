@@ -3,20 +3,24 @@ ghost use Rattle.std.specs.Prelude.{◌≡◌, ◌<◌, ◌≤◌, ◌+◌, [], 
 use arrayvec::ArrayVec;
 use std::marker::Model;
 
-/// Room for the bytes of one packet, at most 640.
+/// The most bytes that a frame has room for.
+pub const FRAME_ROOM: usize = 640;
+
+/// Room for the bytes of one packet.
 #[derive(Clone, Debug, Drop, Eq, PartialEq)]
 pub struct Frame {
-    items: ArrayVec<u8, 640>,
+    items: ArrayVec<u8, FRAME_ROOM>,
 }
 
 impl Model for Frame {
     ghost use Rattle.std.specs.Prelude.{List, ℕ, length, ◌≤◌};
+    ghost use Rattle.lapi_base.specs.declared.frame.TheConstants.{FRAME_ROOM};
 
     ghost Value = { List ℕ };
 
     ghost view = { λ list. list.items.items };
 
-    ghost invariant = { λ list. length list.items.items ≤ 640 };
+    ghost invariant = { λ list. length list.items.items ≤ FRAME_ROOM };
 
     ghost inverse = { λ xs. record { items = record { items = xs } } };
 }
@@ -39,7 +43,7 @@ impl Frame {
 
     /// Appends a byte.
     pub fn push(&mut self, item: u8)
-        requires { length self.old < 640 }
+        requires { length self.old < FRAME_ROOM }
         ensures { self.new ≡ self.old ++ item ∷ [] }
     {
         self.items.push(item);
@@ -47,7 +51,7 @@ impl Frame {
 
     /// Appends bytes, in order.
     pub fn extend_from_slice(&mut self, items: &[u8])
-        requires { length self.old + length items.now ≤ 640 }
+        requires { length self.old + length items.now ≤ FRAME_ROOM }
         ensures { self.new ≡ self.old ++ items.now }
     {
         self.items.try_extend_from_slice(items).unwrap();
@@ -55,7 +59,7 @@ impl Frame {
 
     pub fn as_slice(&self) -> &[u8]
         ensures items { result.now ≡ self.now }
-        ensures bounded { length self.now ≤ 640 }
+        ensures bounded { length self.now ≤ FRAME_ROOM }
     {
         self.items.as_slice()
     }

@@ -1,11 +1,29 @@
 //! What a script's layout of packets sets.
 
-ghost use Rattle.std.specs.Prelude.{◌≡◌};
-ghost use Rattle.lapi_base.specs.Layout.{layout_of, most_lines, most_injected, longest_of, longest_active_of, may_answer};
+ghost use Rattle.std.specs.Prelude.{◌≡◌, ◌⊎◌, ◌≤◌};
+ghost use Rattle.lapi_base.specs.Layout.{layout_of, most_lines, most_injected, unit_of, window_of, longest_of, longest_active_of, may_answer};
 
 use crate::script::Script;
 
 impl Script {
+    /// The bytes of each fragment but the last.
+    #[tactic(auto, unfolding(crate::specs::Layout::unit_of), using(crate::proofs::LayoutLaws::unit_by))]
+    pub fn unit(&self) -> u32
+        ensures unit { result ≡ unit_of self.now }
+        ensures one { (result ≡ 256) ⊎ (result ≡ 1024) }
+    {
+        if self.layout == 2 { 1_024 } else { 256 }
+    }
+
+    /// How many packets from the least that is not acknowledged on a link sends.
+    #[tactic(auto, unfolding(crate::specs::Layout::window_of), using(crate::proofs::LayoutLaws::window_by))]
+    pub fn window(&self) -> u32
+        ensures window { result ≡ window_of self.now }
+        ensures bounded { (1 ≤ result) × (result ≤ 64) }
+    {
+        if self.layout == 2 { 64 } else { 32 }
+    }
+
     /// The bytes of the longest message that isn't an active message.
     #[tactic(auto, unfolding(crate::specs::Layout::longest_of), using(crate::proofs::LayoutLaws::longest_by))]
     pub fn longest(&self) -> u32

@@ -3,20 +3,24 @@ ghost use Rattle.std.specs.Prelude.{◌≡◌, ◌<◌, ◌≤◌, ◌+◌, [], 
 use arrayvec::ArrayVec;
 use std::marker::Model;
 
-/// The bytes of one fragment, at most 256.
+/// The most bytes that a payload has room for.
+pub const PAYLOAD_ROOM: usize = 256;
+
+/// The bytes of one fragment.
 #[derive(Clone, Debug, Drop, Eq, PartialEq)]
 pub struct Payload {
-    items: ArrayVec<u8, 256>,
+    items: ArrayVec<u8, PAYLOAD_ROOM>,
 }
 
 impl Model for Payload {
     ghost use Rattle.std.specs.Prelude.{List, ℕ, length, ◌≤◌};
+    ghost use Rattle.lapi_base.specs.declared.payload.TheConstants.{PAYLOAD_ROOM};
 
     ghost Value = { List ℕ };
 
     ghost view = { λ list. list.items.items };
 
-    ghost invariant = { λ list. length list.items.items ≤ 256 };
+    ghost invariant = { λ list. length list.items.items ≤ PAYLOAD_ROOM };
 
     ghost inverse = { λ xs. record { items = record { items = xs } } };
 }
@@ -32,7 +36,7 @@ impl Payload {
 
     /// Appends a byte.
     pub fn push(&mut self, item: u8)
-        requires { length self.old < 256 }
+        requires { length self.old < PAYLOAD_ROOM }
         ensures { self.new ≡ self.old ++ item ∷ [] }
     {
         self.items.push(item);
@@ -40,7 +44,7 @@ impl Payload {
 
     /// Appends bytes, in order.
     pub fn extend_from_slice(&mut self, items: &[u8])
-        requires { length self.old + length items.now ≤ 256 }
+        requires { length self.old + length items.now ≤ PAYLOAD_ROOM }
         ensures { self.new ≡ self.old ++ items.now }
     {
         self.items.try_extend_from_slice(items).unwrap();
@@ -48,7 +52,7 @@ impl Payload {
 
     pub fn as_slice(&self) -> &[u8]
         ensures items { result.now ≡ self.now }
-        ensures bounded { length self.now ≤ 256 }
+        ensures bounded { length self.now ≤ PAYLOAD_ROOM }
     {
         self.items.as_slice()
     }

@@ -18,11 +18,10 @@ use Rattle.lapi_base.specs.Atomic.{Atomic, Keeps, has_statement, is_issued, is_p
 use Rattle.lapi_base.specs.Headline.{StandsAfter, HoldsOfAtomic}
 use Rattle.lapi_base.proofs.ListLaws.{filter-push, filter-all, all-weaker}
 use Rattle.lapi_base.proofs.BelowLaws.{below-all}
-use Rattle.lapi_base.proofs.NameLaws.{done-nil, done-cases, done-later, done-head}
+use Rattle.lapi_base.proofs.NameLaws.{done-nil, done-cases, done-later, done-head, done-grown}
 use Rattle.lapi_laws.proofs.Backward.{Atomic-head, Atomic-tail, shown, there, behind, next-later}
 use Rattle.lapi_laws.proofs.Once.{atomic-end}
 use Rattle.lapi_laws.proofs.Fences.{gfence-is, global-fences-wait}
-use Rattle.lapi_parts.proofs.Replay.{done-later-all}
 use Rattle.lapi_epochs.specs.Epochs.{epoch, Has, IsOver, EpochsWait}
 
 -- ---- numbers
@@ -250,7 +249,7 @@ module _ (script : Script) (rules : Rules) where
   over-before later before a i k h hb l entered earlier =
       let come : k ≤ next before a = behind script rules (Entered a k) before hb entered in
       let grown = grown-next later before a in
-      (omega arith, λ moved issued. done-later-all later before _ (earlier i l moved (issued-early later before a i h (omega arith) issued)))
+      (omega arith, λ moved issued. done-grown later before _ (earlier i l moved (issued-early later before a i h (omega arith) issued)))
 
   -- a statement of a fence's epoch stands before it
   in-epoch : (a i k : ℕ) → is_gfence (statement script a k) ≡ true → is_gfence (statement script a i) ≡ false → epoch script a i ≤ epoch script a k → i < k

@@ -30,7 +30,7 @@ use Rattle.lapi_base.proofs.BelowLaws.{every_below-from}
 use Rattle.lapi_laws.proofs.Sound.{implied-from}
 use Rattle.lapi_laws.proofs.Arrival.{all_numbers-from}
 use Rattle.lapi_base.proofs.TestLaws.{eqb-refl}
-use Rattle.lapi_base.proofs.NameLaws.{done-nil, done-cases, done-later, done-head}
+use Rattle.lapi_base.proofs.NameLaws.{done-nil, done-cases, done-later, done-head, done-grown}
 use Rattle.lapi_laws.proofs.Lines.{SoundRun}
 use Rattle.lapi_laws.proofs.Still.{back-data}
 use Rattle.lapi_laws.proofs.Turns.{step-sound, below-place}
@@ -38,7 +38,6 @@ use Rattle.lapi_laws.proofs.Follows.{Stand, Owes, perform-owes}
 use Rattle.lapi_laws.proofs.Backward.{Atomic-head, Atomic-tail, closed, there, behind}
 use Rattle.lapi_base.specs.Seen.{HoldsOfRecords}
 use Rattle.lapi_parts.proofs.Records.{record-sound}
-use Rattle.lapi_parts.proofs.Replay.{done-later-all}
 use Rattle.lapi_epochs.specs.Epochs.{Has}
 use Rattle.lapi_flush.specs.Flushed.{data_count, sum_to, all_data, IsCalm}
 use Rattle.lapi_epochs.specs.Stages.{is_store, goes, comes}
@@ -92,7 +91,7 @@ module _ (script : Script) (rules : Rules) where
   no-steps r = record { wires = λ x y. refl; hands = λ x y. refl; later = []; journal = refl; calls = tt }
 
   pub steps-done : (r s : Run) (d : Deed) → Steps r s → done d r.journal ≡ true → done d s.journal ≡ true
-  steps-done r s d k h = subst (λ L. done d L ≡ true) (sym k.journal) (done-later-all k.later r.journal d h)
+  steps-done r s d k h = subst (λ L. done d L ≡ true) (sym k.journal) (done-grown k.later r.journal d h)
 
   pub steps-copied : (r s : Run) (m : MsgName) → Steps r s → done (Copied m) s.journal ≡ true → done (Copied m) r.journal ≡ true
   unfolding IsOfMessages

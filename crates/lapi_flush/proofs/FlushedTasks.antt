@@ -28,7 +28,7 @@ use Rattle.lapi_laws.proofs.Sound.{Fits, known, number-known, acked-delivered}
 use Rattle.lapi_laws.proofs.Lines.{SoundRun, poll-sound}
 use Rattle.lapi_laws.proofs.Told.{IsData, packets-data}
 use Rattle.lapi_parts.proofs.Records.{record-sound}
-use Rattle.lapi_parts.proofs.Replay.{done-later-all}
+use Rattle.lapi_base.proofs.NameLaws.{done-grown}
 use Rattle.lapi_parts.proofs.SentFront.{packets-have}
 use Rattle.lapi_base.proofs.PacketNumbers.{number-append}
 use Rattle.lapi_base.proofs.BelowLaws.{below-has}
@@ -432,7 +432,7 @@ module _ (script : Script) (rules : Rules) where
       acked-landed : (u : Run) → SoundRun script rules u → AddsEvents (polled script rules r t) u.journal → (b : ℕ) → ((n : ℕ) → n < length (out script (polled script rules r t) t b) → is_acked u t b n ≡ true) → (m : MsgName) → sender script m ≡ t → receiver script m ≡ b → done (Copied m) (polled script rules r t) ≡ true → done (Landed m) u.journal ≡ true
       acked-landed u sound_u events b acked m from to copied =
           let K = polled script rules r t in
-          let here = subst (λ L. done (Copied m) L ≡ true) (sym events.1) (done-later-all events.0 K (Copied m) copied) in
+          let here = subst (λ L. done (Copied m) L ≡ true) (sym events.1) (done-grown events.0 K (Copied m) copied) in
           sound_u.arrived m here
           (λ n is.
           let ours : slice_get (out script u.journal t b) n ≡ Some (m, is.0) = subst (λ y. slice_get (out script u.journal t y) n ≡ Some (m, is.0)) to (subst (λ x. slice_get (out script u.journal x (receiver script m)) n ≡ Some (m, is.0)) from is.1) in

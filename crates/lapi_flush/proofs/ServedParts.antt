@@ -34,7 +34,7 @@ use Rattle.lapi_laws.proofs.SentWindow.{number-append}
 use Rattle.lapi_laws.proofs.Lines.{SoundRun, deliver-sound}
 use Rattle.lapi_parts.proofs.Records.{record-sound}
 use Rattle.lapi_parts.proofs.FirstLayout.{told-now}
-use Rattle.lapi_parts.proofs.Replay.{done-later-all}
+use Rattle.lapi_base.proofs.NameLaws.{done-grown}
 use Rattle.lapi_parts.proofs.HandedPackets.{out-has, out-below, out-unique}
 use Rattle.lapi_flush.specs.Served.{delivers, served, IsAck, AddsAcks, IsOfMessage, AddsEvents, IsPart, IsServed, AllNamed, PartsAreServed}
 
@@ -343,7 +343,7 @@ module _ (script : Script) (rules : Rules) where
               ack-now s told.0 told.1 m (told.3 top (all-delivered s mid) m (part.sent m old));
           stays = λ x y m h. ack-acked s told.0 told.1 x y m (mid.stays x y m h);
           landed = λ m from to copied sent.
-              let here = subst (λ J. done (Copied m) J ≡ true) (sym events.1) (done-later-all events.0 r.journal (Copied m) copied) in
+              let here = subst (λ J. done (Copied m) J ≡ true) (sym events.1) (done-grown events.0 r.journal (Copied m) copied) in
               sound.arrived m here
               (λ n is.
               let at = is.1 in

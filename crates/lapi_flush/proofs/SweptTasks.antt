@@ -17,11 +17,10 @@ use Rattle.lapi_base.specs.Written.{packet_size}
 use Rattle.lapi_base.specs.Refusals.{next}
 use Rattle.lapi_base.specs.Record.{Run, out, joins, to_copy_of, ready, copy_each, perform, after}
 use Rattle.lapi_base.specs.Seen.{HoldsOfRecords}
-use Rattle.lapi_base.proofs.NameLaws.{done-cases, done-later, done-head}
+use Rattle.lapi_base.proofs.NameLaws.{done-cases, done-later, done-head, done-grown}
 use Rattle.lapi_laws.proofs.Lines.{SoundRun}
 use Rattle.lapi_parts.proofs.Records.{record-sound}
 use Rattle.lapi_parts.proofs.LocalQuestions.{by_points}
-use Rattle.lapi_parts.proofs.Replay.{done-later-all}
 use Rattle.lapi_flush.specs.Served.{IsOfMessage, AddsEvents, AllNamed}
 use Rattle.lapi_flush.specs.Flushed.{all_data, IsCalm, polled, flush}
 use Rattle.lapi_flush.specs.Swept.{sweep_to, sweep, HasRoom, IsSweptAt, SweepsAreSwept}
@@ -60,7 +59,7 @@ done-before P d apart (e ∷ later) J h x =
     (done-cases d e (later ++ J) x)
 
 pub kept-done : (J K : List Event) (d : Deed) → AddsEvents J K → done d J ≡ true → done d K ≡ true
-kept-done J K d x h = subst (λ L. done d L ≡ true) (sym x.1) (done-later-all x.0 J d h)
+kept-done J K d x h = subst (λ L. done d L ≡ true) (sym x.1) (done-grown x.0 J d h)
 
 same-done : (J K : List Event) (d : Deed) → AddsEvents J K → IsOfStatement d → done d K ≡ done d J
 same-done J K d x g =

@@ -6,7 +6,7 @@ ghost use Rattle.lapi_io.specs.SureRoom.{sure_room, no_fault_below};
 
 use crate::sink::Sink;
 use crate::source::Failed;
-use lapi_base::Memory;
+use lapi_base::{LONGEST_INPUT, Memory};
 use std::alloc::Global;
 use std::cmp;
 
@@ -33,7 +33,7 @@ impl MemSink {
     /// bytes is taken here, and none later.
     pub fn new(alloc: Global, room: usize, step: usize, fails: Vec<u64>) -> Result<MemSink, Memory>
         requires step { 1 ≤ step }
-        requires room { room ≤ 4194304 }
+        requires room { room ≤ LONGEST_INPUT }
         ensures empty { IfOk result (λ sink. held_by sink ≡ []) }
         ensures room { IfOk result (λ sink. room_of sink ≡ room) }
         ensures step { IfOk result (λ sink. step_of sink ≡ step) }

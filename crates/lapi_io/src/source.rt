@@ -4,6 +4,7 @@ ghost use Rattle.std.specs.Io.KnownBytes.{ReadConsumes, Consumes, IsAtEnd};
 ghost use Rattle.lapi_io.specs.Causes.{HasCause, Rose};
 ghost use Rattle.lapi_io.specs.declared.source.ReadAll.TheVariants.{Memory};
 
+use lapi_base::LONGEST_INPUT;
 use std::alloc::{AllocError, Global};
 use std::cmp;
 
@@ -46,7 +47,7 @@ impl From<AllocError> for ReadAll {
 
 /// Reads to the end of input, or until it has one byte more than `most`.
 pub fn read_all<S: Source>(alloc: Global, source: &mut S, most: usize) -> Result<Vec<u8>, ReadAll>
-    requires { most ≤ 4194304 }
+    requires { most ≤ LONGEST_INPUT }
     ensures all { IfOk result (λ v. Consumes (S.left source.old) (S.left source.new) v.items × IsAtEnd (S.left source.new)) }
     ensures short { IfOk result (λ v. vec_len v ≤ most) }
     ensures long { IsErrOf result ReadAll.Long → (bs : List ℕ) × (length bs ≡ most + 1) × Consumes (S.left source.old) (S.left source.new) bs }

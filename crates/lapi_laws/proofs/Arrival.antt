@@ -21,8 +21,7 @@ use Rattle.lapi_base.specs.Operations.{statement, sender, receiver, is_am, is_gf
 use Rattle.lapi_base.specs.Record.{out, is_number, has_number, is_of, all_numbers, some_number}
 use Rattle.lapi_base.specs.Atomic.{Atomic, Keeps, needs, copy_needs, land_needs, landed_before, has_message}
 use Rattle.lapi_base.proofs.BelowLaws.{every_below-at, every_below-fails, every_below-from}
-use Rattle.lapi_base.proofs.ListLaws.{some-same}
-use Rattle.lapi_base.proofs.ListLaws.{all-weaker, list_all-at}
+use Rattle.lapi_base.proofs.ListLaws.{some-same, all-weaker, list_all-at}
 use Rattle.lapi_base.proofs.NameLaws.{done-cases, done-head, done-later, leg_eq-true, name_eq-refl, name_eq-true}
 use Rattle.lapi_base.proofs.TestLaws.{eqb-refl, same_tests}
 use Rattle.lapi_laws.proofs.Out.{out-later, out-copied}

@@ -23,8 +23,7 @@ use Rattle.lapi_base.specs.Record.{Run, out, is_number, has_number, joins, to_co
 use Rattle.lapi_base.specs.Atomic.{Atomic, Keeps, needs, copy_needs, only_if, to_land, to_follow, has_message, has_statement}
 use Rattle.lapi_base.proofs.BelowLaws.{below-all, least_missing-below}
 use Rattle.lapi_base.proofs.BitLaws.{has_bit-of}
-use Rattle.lapi_base.proofs.ListLaws.{all-flat_map, all-map, all-any}
-use Rattle.lapi_base.proofs.ListLaws.{all-append, all-filter, all-get, all-weaker, list_all-at}
+use Rattle.lapi_base.proofs.ListLaws.{all-flat_map, all-map, all-any, all-append, all-filter, all-get, all-weaker, list_all-at}
 use Rattle.lapi_base.proofs.NameLaws.{done-all-later, done-head}
 use Rattle.lapi_laws.proofs.Out.{out-copied}
 use Rattle.lapi_laws.proofs.Backward.{closed, there}

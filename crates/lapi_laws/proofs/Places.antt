@@ -8,10 +8,8 @@ use Rattle.lapi_base.specs.declared.message.MsgName.{MsgName}
 use Rattle.lapi_base.specs.Below.{below}
 use Rattle.lapi_base.specs.Operations.{upto, fragment_count, fragments}
 use Rattle.lapi_base.proofs.BelowLaws.{below-all}
-use Rattle.lapi_base.proofs.ListLaws.{get-places, get-right}
-use Rattle.lapi_base.proofs.ListLaws.{all-get, all-weaker, filter-all, filter-push, some-same}
-use Rattle.lapi_base.proofs.UptoLaws.{upto-length}
-use Rattle.lapi_base.proofs.UptoLaws.{upto-at, upto-get}
+use Rattle.lapi_base.proofs.ListLaws.{get-places, get-right, all-get, all-weaker, filter-all, filter-push, some-same}
+use Rattle.lapi_base.proofs.UptoLaws.{upto-length, upto-at, upto-get}
 
 -- what stands in a list of pairs with one name
 map-at : (m : MsgName) (js : List ℕ) (k : ℕ) (x : MsgName × ℕ) → slice_get (map (λ j. (m, j)) js) k ≡ Some x → (m ≡ x.0) × (slice_get js k ≡ Some x.1)

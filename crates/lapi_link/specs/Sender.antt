@@ -1,6 +1,7 @@
 -- What the sending end of a link stands for: its window, and the packets of the numbers that were not sent yet.
 use Rattle.std.specs.Prelude.{◌≡◌, ℕ, ◌+◌, ◌-◌, ◌≤◌, min, false, ◌||◌, List, [], ◌∷◌, ◌++◌, length, map, take, drop}
 use Rattle.std.specs.List.{AllByRecursion, filter_map}
+use Rattle.lapi_base.specs.declared.frame.TheConstants.{FRAME_ROOM}
 use Rattle.lapi_base.specs.declared.wire.WireEntry.{WireEntry}
 use Rattle.lapi_window.specs.NumberSet.{is_covered}
 use Rattle.lapi_window.specs.SendWindow.{Sending, sent_count, is_acked, base_of, bytes_of, unacked}
@@ -13,11 +14,11 @@ pub record SendingEnd : Type 0 where
 -- every number that was not sent has its packet, and each packet fits a frame
 pub record IsSendingEnd (s : SendingEnd) : Type 0 where
   pub whole : sent_count s.window + length s.waiting ≡ s.window.numbers
-  pub short : AllByRecursion (λ (bytes : List ℕ). length bytes ≤ 640) s.waiting
+  pub short : AllByRecursion (λ (bytes : List ℕ). length bytes ≤ FRAME_ROOM) s.waiting
 
--- nothing was sent, and nothing waits
-pub record IsFresh (s : SendingEnd) : Type 0 where
-  pub size : s.window.window ≡ 32
+-- nothing was sent, and nothing waits, with a window of this size
+pub record IsFresh (window : ℕ) (s : SendingEnd) : Type 0 where
+  pub size : s.window.window ≡ window
   pub numbers : s.window.numbers ≡ 0
   pub sent : sent_count s.window ≡ 0
   pub acked : (n : ℕ) → is_acked s.window n ≡ false

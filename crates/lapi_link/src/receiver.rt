@@ -5,11 +5,12 @@ ghost use Rattle.lapi_base.specs.declared.packet.Packet.TheVariants.{Data};
 ghost use Rattle.lapi_base.specs.declared.message.MsgName.{MsgName};
 ghost use Rattle.lapi_base.specs.Below.{bits_of};
 ghost use Rattle.lapi_base.specs.Fragments.{fragments_in, IsPayload};
-ghost use Rattle.lapi_base.specs.Layout.{window_of, unit_of};
+ghost use Rattle.lapi_base.specs.Layout.{window_of};
 ghost use Rattle.lapi_base.specs.Record.{has_number};
 ghost use Rattle.lapi_base.specs.Arrived.{least_number};
+ghost use Rattle.lapi_reassembly.specs.Partial.{IsUnit};
 ghost use Rattle.lapi_reassembly.specs.Partials.{partial, is_there, HasRoom, Agrees, IsMissing, kept_of};
-ghost use Rattle.lapi_link.specs.Receiver.{ReceivesFor, Fits, arrival_of, arrival_by, arrival_with, gathered_with};
+ghost use Rattle.lapi_link.specs.Receiver.{ReceivesFor, IsBlank, Fits, arrival_of, arrival_by, arrival_with, gathered_with};
 
 use crate::arrival::Arrival;
 use lapi_base::{DataPacket, Memory};
@@ -34,12 +35,14 @@ impl Model for Receiver {
 }
 
 impl Receiver {
-    /// An end to which nothing has come, with a window of 32 packets of 256 bytes.
-    pub fn new(alloc: Global) -> Result<Receiver, Memory>
-        ensures { IfOk result (λ made. (script : Script) → window_of script ≡ 32 → unit_of script ≡ 256 → ReceivesFor script made []) }
+    /// An end to which nothing has come, with a window of that many packets, and fragments of so many bytes.
+    pub fn new(alloc: Global, window: u32, unit: u32) -> Result<Receiver, Memory>
+        requires window { (1 ≤ window) × (window ≤ 64) }
+        requires unit { IsUnit unit }
+        ensures { IfOk result (λ made. IsBlank window unit made) }
     {
-        let window = RecvWindow::new();
-        let partials = Partials::new(alloc)?;
+        let partials = Partials::sized(alloc, window, unit)?;
+        let window = RecvWindow::sized(window);
         Ok(Receiver { window, partials })
     }
 
@@ -58,7 +61,7 @@ impl Receiver {
 
     /// The least number that was not taken, and which of the next ones were.
     pub fn ack(&self) -> (u32, u32)
-        requires { (script : Script) × (ps : List Packet) × (window_of script ≡ 32) × ReceivesFor script self.now ps }
+        requires { (script : Script) × (ps : List Packet) × (window_of script ≤ 32) × ReceivesFor script self.now ps }
         ensures { (script : Script) (ps : List Packet) → ReceivesFor script self.now ps → (result.0 ≡ least_number ps) × (result.1 ≡ bits_of (window_of script) (λ i. has_number ps (least_number ps + i))) }
     {
         self.window.ack()

@@ -3,7 +3,7 @@ ghost use Rattle.lapi_window.specs.NumberSet.{is_covered};
 ghost use Rattle.lapi_window.specs.SendWindow.{MaySend, sent_count, unacked};
 ghost use Rattle.lapi_link.specs.Sender.{IsFresh, appended, sendable, sent, kept, entries_to, IsAcked};
 
-use lapi_base::{Bytes, Entries, Frame, Memory, WireEntry};
+use lapi_base::{Bytes, Entries, FRAME_ROOM, Frame, Memory, WireEntry};
 use lapi_window::SendWindow;
 use std::alloc::Global;
 use std::collections::VecDeque;
@@ -28,11 +28,12 @@ impl Model for Sender {
 }
 
 impl Sender {
-    /// An end that has sent nothing, with a window of 32 packets.
-    pub fn new(alloc: Global) -> Result<Sender, Memory>
-        ensures { IfOk result IsFresh }
+    /// An end that has sent nothing, with a window of that many packets.
+    pub fn new(alloc: Global, window: u32) -> Result<Sender, Memory>
+        requires { (1 ≤ window) × (window ≤ 64) }
+        ensures { IfOk result (IsFresh window) }
     {
-        let window = SendWindow::new(alloc)?;
+        let window = SendWindow::sized(alloc, window)?;
         Ok(Sender {
             window,
             waiting: VecDeque::new(alloc),
@@ -41,7 +42,7 @@ impl Sender {
 
     /// Gives the next number to a packet, which waits to be sent. There is no memory for 2^32 packets.
     pub fn append(&mut self, packet: Bytes) -> Result<(), Memory>
-        requires { length packet ≤ 640 }
+        requires { length packet ≤ FRAME_ROOM }
         ensures { OnOk result (self.new ≡ appended self.old packet) }
     {
         if self.window.numbers() == u32::MAX {

@@ -1,3 +1,4 @@
+pub mod Equality
 pub mod MatchingSpans
 pub mod Lengths
 pub mod Answering

@@ -14,7 +14,7 @@ ghost use Rattle.lapi_base.specs.Written.{acknowledgement};
 
 use crate::fault::{Fault, refused};
 use crate::number::{read_four, write_four};
-use lapi_base::{Frame, Packet, Reason};
+use lapi_base::{FRAME_ROOM, Frame, Packet, Reason};
 
 #[tactic(auto, unfolding(lapi_base::specs::Spelling::acknowledgement_form))]
 pub(crate) fn read(from: u32, to: u32, bytes: &[u8]) -> Result<(Packet, &[u8]), Fault>
@@ -35,7 +35,7 @@ pub(crate) fn read(from: u32, to: u32, bytes: &[u8]) -> Result<(Packet, &[u8]), 
 }
 
 pub(crate) fn write(base: u32, bits: u32, out: &mut Frame)
-    requires { length out.old + 8 ≤ 640 }
+    requires { length out.old + 8 ≤ FRAME_ROOM }
     ensures { out.new ≡ out.old ++ acknowledgement base bits }
 {
     write_four(base, out);

@@ -5,7 +5,7 @@ ghost use Rattle.lapi_base.specs.Written.{counter};
 
 use crate::fault::{Fault, refused};
 use crate::number::{read_one, write_one};
-use lapi_base::{Frame, Reason};
+use lapi_base::{FRAME_ROOM, Frame, Reason};
 
 /// A counter of the target or the origin: its number, or ff for none.
 ///
@@ -28,7 +28,7 @@ pub(crate) fn read(bytes: &[u8]) -> Result<(Option<u32>, &[u8]), Fault>
 }
 
 pub(crate) fn write(number: Option<u32>, out: &mut Frame)
-    requires { length out.old + 1 ≤ 640 }
+    requires { length out.old + 1 ≤ FRAME_ROOM }
     ensures { out.new ≡ out.old ++ counter number }
 {
     write_one(number.unwrap_or(255), out);

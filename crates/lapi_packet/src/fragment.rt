@@ -21,7 +21,7 @@ ghost use Rattle.lapi_packet.specs.Reader.{Reads};
 use crate::fault::{Fault, cut_short, refused};
 use crate::number::{read_four, read_two};
 use crate::operation::Operation;
-use lapi_base::{Leg, Payload, Reason};
+use lapi_base::{Leg, PAYLOAD_ROOM, Payload, Reason};
 
 /// The longest message.
 pub(crate) const LONGEST: u32 = 16_384;
@@ -81,7 +81,7 @@ fn fragments(length: u32) -> u32
 /// How many bytes a fragment of a message has.
 fn size_of(length: u32, fragment: u32) -> usize
     ensures size { result ≡ fragment_length (unit First) length fragment }
-    ensures bounded { result ≤ 256 }
+    ensures bounded { result ≤ PAYLOAD_ROOM }
 {
     UNIT.min(length.saturating_sub(fragment.saturating_mul(UNIT))) as usize
 }

@@ -18,7 +18,7 @@ ghost use Rattle.lapi_base.specs.Written as written;
 
 use crate::fault::{Fault, refused};
 use crate::number::{read_one, write_one};
-use lapi_base::{Frame, Reason};
+use lapi_base::{FRAME_ROOM, Frame, Reason};
 
 const MAGIC: u32 = 0x4c;
 
@@ -90,7 +90,7 @@ fn number_of(kind: Kind) -> u32
 }
 
 pub(crate) fn write(front: Front, out: &mut Frame)
-    requires { length out.old + 5 ≤ 640 }
+    requires { length out.old + 5 ≤ FRAME_ROOM }
     ensures { out.new ≡ out.old ++ written.front (kind_number front.kind) front.from front.to }
 {
     write_one(MAGIC, out);

@@ -1,6 +1,6 @@
 //! What a message carries before its payload: one form for each leg and operation.
 
-ghost use Rattle.std.specs.Prelude.{◌≡◌, ◌↔◌, IsTrue, ◌≤◌, ◌+◌, ◌++◌, length};
+ghost use Rattle.std.specs.Prelude.{◌≡◌, ◌≤◌, ◌+◌, ◌++◌, length};
 ghost use Rattle.lapi_base.specs.Heads.{head_form};
 ghost use Rattle.lapi_base.specs.Layout.{First};
 ghost use Rattle.lapi_packet.specs.Codes.{operation_number};
@@ -23,7 +23,7 @@ mod rmw_go;
 
 use crate::fault::Fault;
 use crate::operation::Operation;
-use lapi_base::{Frame, Head, Leg, NoteOp};
+use lapi_base::{FRAME_ROOM, Frame, Head, Leg, NoteOp};
 
 #[tactic(auto, unfolding(lapi_base::specs::Heads::head_form))]
 pub(crate) fn read(
@@ -69,7 +69,7 @@ fn read_go(operation: Operation, length: u32, bytes: &[u8]) -> Result<(Head, &[u
 }
 
 pub(crate) fn write(head: &Head, out: &mut Frame)
-    requires { length out.old + 259 ≤ 640 }
+    requires { length out.old + 259 ≤ FRAME_ROOM }
     ensures bytes { out.new ≡ out.old ++ written.head head.now }
     ensures room { length out.new ≤ length out.old + 259 }
 {
@@ -110,49 +110,5 @@ pub(crate) fn write(head: &Head, out: &mut Frame)
         Head::Note { cmpl, .. } => note::write(*cmpl, out),
         Head::Gfence { round } => gfence::write(*round, out),
         Head::Addr { round, address } => addr::write(*round, *address, out),
-    }
-}
-
-/// Whether two heads are equal.
-pub(crate) fn same(a: &Head, b: &Head) -> bool
-    ensures { IsTrue result ↔ (a.now ≡ b.now) }
-{
-    match b {
-        Head::Put { at, tgt, cmpl } => put::is(a, *at, *tgt, *cmpl),
-        Head::GetGo {
-            asked,
-            source,
-            dest,
-            tgt,
-            org,
-        } => get_go::is(a, *asked, *source, *dest, *tgt, *org),
-        Head::GetBack { dest, org } => get_back::is(a, *dest, *org),
-        Head::Putv { tgt, cmpl, pieces } => putv::is(a, *tgt, *cmpl, pieces),
-        Head::GetvGo {
-            tgt,
-            org,
-            source,
-            dest,
-        } => getv_go::is(a, *tgt, *org, source, dest),
-        Head::GetvBack { org, dest } => getv_back::is(a, *org, dest),
-        Head::RmwGo {
-            op,
-            at,
-            in1,
-            in2,
-            prev,
-            org,
-        } => rmw_go::is(a, *op, *at, *in1, *in2, *prev, *org),
-        Head::RmwBack { dest, org } => rmw_back::is(a, *dest, *org),
-        Head::Am {
-            handler,
-            tgt,
-            cmpl,
-            header,
-        } => am::is(a, *handler, *tgt, *cmpl, header),
-        Head::Echo { dest, cmpl } => echo::is(a, *dest, *cmpl),
-        Head::Note { op, cmpl } => note::is(a, *op, *cmpl),
-        Head::Gfence { round } => gfence::is(a, *round),
-        Head::Addr { round, address } => addr::is(a, *round, *address),
     }
 }

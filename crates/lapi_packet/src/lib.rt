@@ -16,7 +16,6 @@ mod name;
 mod number;
 mod operation;
 mod range;
-mod same;
 mod spans;
 mod validity;
 

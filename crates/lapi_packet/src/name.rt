@@ -15,7 +15,7 @@ ghost use Rattle.lapi_base.specs.Written as written;
 use crate::fault::{Fault, refused};
 use crate::leg;
 use crate::number::{read_one, read_two, write_one, write_two};
-use lapi_base::{Frame, MsgName, Reason};
+use lapi_base::{FRAME_ROOM, Frame, MsgName, Reason};
 
 const LAST_STATEMENT: u32 = 511;
 
@@ -41,7 +41,7 @@ pub(crate) fn read(from: u32, to: u32, bytes: &[u8]) -> Result<(MsgName, &[u8]),
 }
 
 pub(crate) fn write(name: MsgName, out: &mut Frame)
-    requires { length out.old + 4 ≤ 640 }
+    requires { length out.old + 4 ≤ FRAME_ROOM }
     ensures { out.new ≡ out.old ++ written.name name }
 {
     write_one(name.origin, out);

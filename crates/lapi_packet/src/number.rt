@@ -4,7 +4,7 @@ ghost use Rattle.lapi_packet.specs.Reader.{Gives};
 ghost use Rattle.lapi_base.specs.Written.{one, two, four};
 
 use crate::fault::{Fault, cut_short};
-use lapi_base::Frame;
+use lapi_base::{FRAME_ROOM, Frame};
 
 /// The number that the first byte is, and the bytes after it.
 pub(crate) fn read_one(bytes: &[u8]) -> Result<(u32, &[u8]), Fault>
@@ -43,7 +43,7 @@ pub(crate) fn read_four(bytes: &[u8]) -> Result<(u32, &[u8]), Fault>
 
 /// Appends the lowest byte of a number.
 pub(crate) fn write_one(number: u32, out: &mut Frame)
-    requires { length out.old + 1 ≤ 640 }
+    requires { length out.old + 1 ≤ FRAME_ROOM }
     ensures { out.new ≡ out.old ++ one number }
 {
     out.push((number % 256) as u8);
@@ -51,7 +51,7 @@ pub(crate) fn write_one(number: u32, out: &mut Frame)
 
 /// Appends the lowest two bytes of a number.
 pub(crate) fn write_two(number: u32, out: &mut Frame)
-    requires { length out.old + 2 ≤ 640 }
+    requires { length out.old + 2 ≤ FRAME_ROOM }
     ensures { out.new ≡ out.old ++ two number }
 {
     out.extend_from_slice(&((number % 65_536) as u16).to_be_bytes());
@@ -59,7 +59,7 @@ pub(crate) fn write_two(number: u32, out: &mut Frame)
 
 /// Appends the four bytes of a number.
 pub(crate) fn write_four(number: u32, out: &mut Frame)
-    requires { length out.old + 4 ≤ 640 }
+    requires { length out.old + 4 ≤ FRAME_ROOM }
     ensures { out.new ≡ out.old ++ four number }
 {
     out.extend_from_slice(&number.to_be_bytes());

@@ -9,7 +9,7 @@
 //!              and the rule of its list
 //! ```
 
-ghost use Rattle.std.specs.Prelude.{◌≡◌, ◌↔◌, IsTrue, ◌≤◌, ◌+◌, ◌*◌, ◌++◌, ◌==◌, length, if◌then◌else◌, IfOk};
+ghost use Rattle.std.specs.Prelude.{◌≡◌, ◌≤◌, ◌+◌, ◌*◌, ◌++◌, ◌==◌, length, if◌then◌else◌, IfOk};
 ghost use Rattle.lapi_base.specs.Parts.{count_form, span_form, within_form, covering_form, matching_form};
 ghost use Rattle.lapi_packet.specs.Reader.{Reads};
 ghost use Rattle.lapi_base.specs.Written as written;
@@ -17,7 +17,7 @@ ghost use Rattle.lapi_base.specs.Written as written;
 use crate::fault::{Fault, refused};
 use crate::number::{read_four, read_one, write_four};
 use crate::range::{MEMORY, fits};
-use lapi_base::{Frame, Reason, Span, Spans};
+use lapi_base::{FRAME_ROOM, Frame, Reason, Span, Spans};
 
 const MOST: u32 = 16;
 
@@ -124,7 +124,7 @@ pub(crate) fn read_matching<'a>(
 }
 
 fn write_span(span: Span, out: &mut Frame)
-    requires { length out.old + 8 ≤ 640 }
+    requires { length out.old + 8 ≤ FRAME_ROOM }
     ensures { out.new ≡ out.old ++ written.span span }
 {
     write_four((span.at % 4_294_967_296) as u32, out);
@@ -132,18 +132,11 @@ fn write_span(span: Span, out: &mut Frame)
 }
 
 pub(crate) fn write(spans: &[Span], out: &mut Frame)
-    requires { length out.old + 8 * length spans.now ≤ 640 }
+    requires { length out.old + 8 * length spans.now ≤ FRAME_ROOM }
     ensures bytes { out.new ≡ out.old ++ written.spans spans.now }
     ensures room { length out.new ≡ length out.old + 8 * length spans.now }
 {
     for span in spans {
         write_span(*span, out);
     }
-}
-
-/// Whether two lists of spans are equal.
-pub(crate) fn same(a: &Spans, b: &Spans) -> bool
-    ensures { IsTrue result ↔ (a.now ≡ b.now) }
-{
-    a.as_slice() == b.as_slice()
 }

@@ -3,7 +3,6 @@ ghost use Rattle.lapi_base.specs.Spelling.{HasSpelling};
 
 use crate::decoding::decode;
 use crate::encoding::write;
-use crate::same::same_packet;
 use lapi_base::{Frame, Packet};
 
 /// Whether the packet has a spelling: whether its bytes are read as this packet again.
@@ -13,7 +12,7 @@ pub fn valid(p: &Packet) -> bool
     let mut bytes = Frame::new();
     write(p, &mut bytes);
     match decode(bytes.as_slice()) {
-        Ok(packet) => same_packet(&packet, p),
+        Ok(packet) => packet == *p,
         Err(_) => false,
     }
 }

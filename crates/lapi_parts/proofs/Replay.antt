@@ -38,11 +38,6 @@ use Rattle.lapi_parts.proofs.WholeMessages.{assembled-bytes}
 
 -- ---- what has landed came whole
 
--- what happened stands in all that comes after
-pub done-later-all : (later J : List Event) (d : Deed) → done d J ≡ true → done d (later ++ J) ≡ true
-done-later-all [] J d h = h
-done-later-all (e ∷ later) J d h = done-later d e (later ++ J) (done-later-all later J d h)
-
 module _ (script : Script) (rules : Rules) where
   pub landed-whole : (r : Run) → SoundRun script rules r → (m : MsgName) → done (Landed m) r.journal ≡ true → is_whole script (r.handed (sender script m) (receiver script m)) m ≡ true
   unfolding is_whole whole_by has_fragment has_number

@@ -7,7 +7,7 @@ use Rattle.lapi_base.specs.declared.piece.Piece.{Piece}
 use Rattle.lapi_base.specs.Tokens.{piece_of, pieces_of}
 use Rattle.lapi_base.specs.declared.vector.Vector.{Vector}
 use Rattle.lapi_script.specs.declared.pieces.Listed.{Listed}
-use Rattle.lapi_script.specs.declared.pieces.Listed.TheVariants.{Held, Many}
+use Rattle.lapi_script.specs.declared.pieces.Listed.TheVariants.{Held, TooManyPieces}
 use Rattle.lapi_script.specs.Listed.{HoldsList, IsListed}
 use Rattle.lapi_script.specs.Vectors.{HoldsVector, vector_or}
 use Rattle.std.proofs.lemmas.Bool.{lt-leb}
@@ -50,4 +50,4 @@ seen_many false list seen piece full is = omega (arith, full, ap (λ (s : List P
 pub spelled_list : (listed : Listed) (held : Option Vector) (read : Option (List Piece)) → HoldsList (Some listed) read → IsListed listed held
     → (Some (vector_or (option_map (λ pieces. Vector.List pieces) read)) ≡ option_map (λ pieces. Vector.List pieces) read) × HoldsVector held (vector_or (option_map (λ pieces. Vector.List pieces) read))
 spelled_list (Held list) held read holds is = rw (holds, is) (refl, refl)
-spelled_list Many held read holds is = rw (holds.1, is) (refl, lt-leb _ _ holds.2)
+spelled_list TooManyPieces held read holds is = rw (holds.1, is) (refl, lt-leb _ _ holds.2)

@@ -15,40 +15,40 @@ use Rattle.lapi_script.specs.declared.statements.ReadStatement.{ReadStatement}
 use Rattle.lapi_script.specs.declared.statements.ReadStatement.TheVariants as read_statement
 use Rattle.lapi_script.specs.declared.task_lines.TaskLine.{TaskLine}
 use Rattle.lapi_script.specs.ReadLines.{HoldsStatement}
-use Rattle.lapi_script.specs.TaskLines.{HoldsTaskLine, IsDone, IsCrowdedLine}
+use Rattle.lapi_script.specs.TaskLines.{HoldsTaskLine, IsDone, LineHasTooManyPieces}
 
 -- the line of a statement that is held, or has too many pieces
 pub does : (read : ReadStatement) (line : TaskLine) (reading : Result Statement Why) → HoldsStatement (Ok read) reading → IsDone read line
     → HoldsTaskLine (Ok line) (and_then reading (λ s. Ok (forms.Does s)))
 does (read_statement.Held s) line reading holds is = rw (holds, is) refl
-does read_statement.Crowded line (Ok s) holds is = rw is holds
-does read_statement.Crowded line (Err why) holds is = absurd holds
+does read_statement.TooManyPieces line (Ok s) holds is = rw is holds
+does read_statement.TooManyPieces line (Err why) holds is = absurd holds
 
 -- a statement that has vectors isn't built
-crowded : (s : Statement) → keeps_pieces s ≡ false → is_built_statement s ≡ false
+too_many_pieces : (s : Statement) → keeps_pieces s ≡ false → is_built_statement s ≡ false
 unfolding keeps_pieces is_built_statement
-crowded (Store at bytes) many = absurd (true≢false many)
-crowded (Put target to from len tgt org cmpl) many = absurd (true≢false many)
-crowded (Get target from to len tgt org) many = refl
-crowded (Putv target to from tgt org cmpl) many = refl
-crowded (Getv target from to tgt org) many = refl
-crowded (Rmw target op at in1 in2 prev org) many = refl
-crowded (Am target handler header from len tgt org cmpl) many = refl
-crowded (Wait c value) many = absurd (true≢false many)
-crowded (Set c value) many = absurd (true≢false many)
-crowded (Read c) many = absurd (true≢false many)
-crowded Fence many = refl
-crowded Gfence many = refl
-crowded (Statement.Addr at) many = refl
+too_many_pieces (Store at bytes) many = absurd (true≢false many)
+too_many_pieces (Put target to from len tgt org cmpl) many = absurd (true≢false many)
+too_many_pieces (Get target from to len tgt org) many = refl
+too_many_pieces (Putv target to from tgt org cmpl) many = refl
+too_many_pieces (Getv target from to tgt org) many = refl
+too_many_pieces (Rmw target op at in1 in2 prev org) many = refl
+too_many_pieces (Am target handler header from len tgt org cmpl) many = refl
+too_many_pieces (Wait c value) many = absurd (true≢false many)
+too_many_pieces (Set c value) many = absurd (true≢false many)
+too_many_pieces (Read c) many = absurd (true≢false many)
+too_many_pieces Fence many = refl
+too_many_pieces Gfence many = refl
+too_many_pieces (Statement.Addr at) many = refl
 
-pub crowded_first : (script : Script) (reading : Result forms.TaskLine Why) → IsCrowdedLine reading → and_then reading (on_first_task script) ≡ Err Syntax
-crowded_first script (Ok (forms.Does s)) many = refl
-crowded_first script (Ok (forms.Task t)) many = absurd many
-crowded_first script (Ok forms.Schedule) many = absurd many
-crowded_first script (Err why) many = absurd many
+pub too_many_pieces_first : (script : Script) (reading : Result forms.TaskLine Why) → LineHasTooManyPieces reading → and_then reading (on_first_task script) ≡ Err Syntax
+too_many_pieces_first script (Ok (forms.Does s)) many = refl
+too_many_pieces_first script (Ok (forms.Task t)) many = absurd many
+too_many_pieces_first script (Ok forms.Schedule) many = absurd many
+too_many_pieces_first script (Err why) many = absurd many
 
-pub crowded_line : (script : Script) (current : List Statement) (reading : Result forms.TaskLine Why) → IsCrowdedLine reading → and_then reading (on_task_line script current) ≡ Err (Limit which.Unbuilt)
-crowded_line script current (Ok (forms.Does s)) many = rw (crowded s many) refl
-crowded_line script current (Ok (forms.Task t)) many = absurd many
-crowded_line script current (Ok forms.Schedule) many = absurd many
-crowded_line script current (Err why) many = absurd many
+pub too_many_pieces_line : (script : Script) (current : List Statement) (reading : Result forms.TaskLine Why) → LineHasTooManyPieces reading → and_then reading (on_task_line script current) ≡ Err (Limit which.Unbuilt)
+too_many_pieces_line script current (Ok (forms.Does s)) many = rw (too_many_pieces s many) refl
+too_many_pieces_line script current (Ok (forms.Task t)) many = absurd many
+too_many_pieces_line script current (Ok forms.Schedule) many = absurd many
+too_many_pieces_line script current (Err why) many = absurd many

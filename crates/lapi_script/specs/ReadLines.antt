@@ -5,15 +5,15 @@ use Rattle.lapi_base.specs.declared.statement.Statement.{Statement}
 use Rattle.lapi_base.specs.Reading.{keeps_pieces}
 use Rattle.lapi_script.specs.declared.fault.LineFault.{LineFault}
 use Rattle.lapi_script.specs.declared.statements.ReadStatement.{ReadStatement}
-use Rattle.lapi_script.specs.declared.statements.ReadStatement.TheVariants.{Held, Crowded}
+use Rattle.lapi_script.specs.declared.statements.ReadStatement.TheVariants.{Held, TooManyPieces}
 use Rattle.lapi_script.specs.Gives.{Fails}
 
 -- a statement with more pieces than a vector may have
-abbrev pub IsCrowded : Result Statement Why → Type 0
-IsCrowded (Ok s) = keeps_pieces s ≡ false
-IsCrowded (Err why) = ⊥
+abbrev pub HasTooManyPieces : Result Statement Why → Type 0
+HasTooManyPieces (Ok s) = keeps_pieces s ≡ false
+HasTooManyPieces (Err why) = ⊥
 
 abbrev pub HoldsStatement : Result ReadStatement LineFault → Result Statement Why → Type 0
 HoldsStatement (Ok (Held s)) read = read ≡ Ok s
-HoldsStatement (Ok Crowded) read = IsCrowded read
+HoldsStatement (Ok TooManyPieces) read = HasTooManyPieces read
 HoldsStatement (Err fault) read = Fails fault read

@@ -44,7 +44,7 @@ fn piece_of(side: Side, text: &[u8]) -> Option<Piece>
 pub(crate) enum Listed {
     Held(PieceList),
     /// More pieces than a vector has.
-    Many,
+    TooManyPieces,
 }
 
 impl Listed {
@@ -56,7 +56,7 @@ impl Listed {
     {
         match self {
             Listed::Held(list) => Some(Vector::List(list)),
-            Listed::Many => None,
+            Listed::TooManyPieces => None,
         }
     }
 }
@@ -77,7 +77,7 @@ fn pieces_of(side: Side, text: &[u8]) -> Option<Listed>
         }
     }
     Some(if many {
-        Listed::Many
+        Listed::TooManyPieces
     } else {
         Listed::Held(list)
     })

@@ -11,7 +11,7 @@ ghost use Rattle.lapi_script.specs.States.{state_of};
 use crate::cuts::first_line;
 use crate::fault::LineFault;
 use crate::state::{State, after};
-use lapi_base::{Input, ReadFault, Which, Why};
+use lapi_base::{Input, LONGEST_INPUT, ReadFault, Which, Why};
 use lapi_text::text_laws;
 use std::alloc::Global;
 
@@ -41,7 +41,7 @@ fn finished(state: State, line: u32) -> Result<Input, ReadFault>
 fn read_lines(alloc: Global, bytes: &[u8]) -> Result<Input, ReadFault>
     ensures { GivesInput result (read bytes.now) }
 {
-    if bytes.len() > 4_194_304 {
+    if bytes.len() > LONGEST_INPUT {
         return Err(ReadFault::Limit {
             which: Which::Input,
             line: 0,
@@ -61,8 +61,8 @@ fn read_lines(alloc: Global, bytes: &[u8]) -> Result<Input, ReadFault>
     finished(state, line)
 }
 
-/// The input that the bytes spell, or the first fault and its line. More than 4,194,304 bytes are
-/// refused before all lines.
+/// The input that the bytes spell, or the first fault and its line. More bytes than
+/// [`LONGEST_INPUT`] are refused before all lines.
 pub fn read_input(alloc: Global, bytes: &[u8]) -> Result<Input, ReadFault>
     // What is read is spelled so, within all limits.
     ensures found { IfOk result (λ x. Reads x bytes.now) }

@@ -43,7 +43,7 @@ pub(crate) enum State {
     Finished(Input),
 }
 
-#[tactic(auto, using(crate::proofs::TaskLineSteps::crowded_first))]
+#[tactic(auto, using(crate::proofs::TaskLineSteps::too_many_pieces_first))]
 fn on_first_task(alloc: Global, script: Script, row: TaskLine) -> Result<State, LineFault>
     ensures { (read : Result forms.TaskLine Why) → HoldsTaskLine (Ok row) read → Gives state_of result (and_then read (on_first_task script)) }
 {
@@ -79,7 +79,7 @@ fn on_statement(
     Ok(State::Tasks { script, current })
 }
 
-#[tactic(auto, using(crate::proofs::TaskLineSteps::crowded_line))]
+#[tactic(auto, using(crate::proofs::TaskLineSteps::too_many_pieces_line))]
 fn on_task_line(
     alloc: Global,
     mut script: Script,
@@ -110,8 +110,8 @@ fn on_task_line(
                 schedule: Schedule::new(alloc),
             })
         }
-        TaskLine::Does(statement) => on_statement(script, current, statement),
-        TaskLine::Crowded => Err(limit(Which::Unbuilt)),
+        TaskLine::Statement(statement) => on_statement(script, current, statement),
+        TaskLine::TooManyPieces => Err(limit(Which::Unbuilt)),
     }
 }
 

@@ -23,7 +23,7 @@ use std::alloc::Global;
 pub(crate) enum ReadStatement {
     Held(Statement),
     /// One of its vectors has more than 16 pieces.
-    Crowded,
+    TooManyPieces,
 }
 
 /// The statement that begins with this word.

@@ -16,9 +16,9 @@ use std::alloc::Global;
 pub(crate) enum TaskLine {
     Task(u32),
     Schedule,
-    Does(Statement),
+    Statement(Statement),
     /// A statement of the right form, of which a vector has more than 16 pieces.
-    Crowded,
+    TooManyPieces,
 }
 
 impl From<ReadStatement> for TaskLine {
@@ -28,8 +28,8 @@ impl From<ReadStatement> for TaskLine {
 
     fn from(statement: ReadStatement) -> TaskLine {
         match statement {
-            ReadStatement::Held(statement) => TaskLine::Does(statement),
-            ReadStatement::Crowded => TaskLine::Crowded,
+            ReadStatement::Held(statement) => TaskLine::Statement(statement),
+            ReadStatement::TooManyPieces => TaskLine::TooManyPieces,
         }
     }
 }

@@ -1,5 +1,5 @@
 -- What a task answers to a data packet, and the answer's place in the record.
-use Rattle.std.proofs.Common.{◌≡◌, ℕ, ◌+◌, ◌==◌, false, cond, ◌&&◌, List, [], ◌∷◌, ◌++◌, get_or, Some, None, refl, sym, ap, ◌∙◌, subst}
+use Rattle.std.proofs.Common.{◌≡◌, ℕ, ◌+◌, ◌≤◌, ◌==◌, false, cond, ◌&&◌, List, [], ◌∷◌, ◌++◌, get_or, Some, None, refl, sym, ap, ◌∙◌, subst, arith}
 use Rattle.std.specs.Prelude.{slice_get}
 use Rattle.std.proofs.lemmas.Bool.{cond-true, cond-false, and_from}
 use Rattle.lapi_base.specs.declared.script.Script.{Script}
@@ -39,8 +39,8 @@ module _ (script : Script) where
   told-is ps from t number base bits same told = λ i. Ack (same i) from (told.0 i) (told.1 i)
 
   module _ (t : ℕ) (task : Task) (from : ℕ) (ps : List Packet) (taken : HasTaken script t task from ps) (end : ReceivingEnd) (read : end ≡ get_or task.receivers.items from end) where
-    pub answers-for : (window_of script ≡ 32) × ReceivesFor script end ps
-    answers-for = (first-window script taken.performed.valid, receives-at ps task.receivers.items from end taken.receiver read)
+    pub answers-for : (window_of script ≤ 32) × ReceivesFor script end ps
+    answers-for = (let e = first-window script taken.performed.valid in omega (arith, e), receives-at ps task.receivers.items from end taken.receiver read)
 
     -- so much is told
     module _ (base bits : ℕ) (told : ReceivesFor script end ps → (base ≡ least_number ps) × (bits ≡ bits_of (window_of script) (λ i. has_number ps (least_number ps + i)))) where

@@ -1,5 +1,5 @@
 -- The copy of a put: what its task, its link and its record have then.
-use Rattle.std.proofs.Common.{◌≡◌, ◌≢◌, ℕ, zero, suc, ◌+◌, ◌-◌, ◌^◌, ◌<◌, ◌≤◌, ◌==◌, Bool, true, cond, not, ◌&&◌, List, [], ◌∷◌, ◌++◌, map, length, take, drop, set, Option, Some, None, refl, sym, ap, ◌∙◌, subst, ⊎_elim, arith, lit≤}
+use Rattle.std.proofs.Common.{◌≡◌, ◌≢◌, ℕ, zero, suc, ◌+◌, ◌-◌, ◌^◌, ◌<◌, ◌≤◌, ◌==◌, Bool, true, cond, not, ◌&&◌, List, [], ◌∷◌, ◌++◌, map, length, take, drop, set, Option, Some, None, refl, sym, ap, ◌∙◌, subst, ⊎_elim, arith, lit≤, inl}
 use Rattle.std.specs.Prelude.{slice_get, option_map, slice_index, option_to_list, option_and_then}
 use Rattle.std.specs.List.{AllByRecursion}
 use Rattle.std.proofs.lemmas.Bool.{cond-true, cond-false, and_parts, and_right, cases_lt, cases_eq, ne_eqb}
@@ -87,13 +87,13 @@ module _ (script : Script) (perf : IsPerformed script) where
     unfolding message_length
     length-is = rw e refl
 
-    pub count-is : fragment_count script m ≡ fragments_in 256 put.len
+    pub count-is : fragment_count script m ≡ fragments_in (unit_of script) put.len
     unfolding fragment_count
-    count-is = ap (λ u. fragments_in u (message_length script m)) (first-unit script perf.valid) ∙ ap (fragments_in 256) length-is
+    count-is = ap (fragments_in (unit_of script)) length-is
 
-    pub packet-is : (n j : ℕ) (bytes : List ℕ) → data_packet script m n j bytes ≡ Data (put_packet put t i n j (fragment_bytes 256 j bytes))
+    pub packet-is : (n j : ℕ) (bytes : List ℕ) → data_packet script m n j bytes ≡ Data (put_packet put t i n j (fragment_bytes (unit_of script) j bytes))
     unfolding data_packet message_length address
-    packet-is n j bytes = rw e (ap (λ u. Data (put_packet put t i n j (fragment_bytes u j bytes))) (first-unit script perf.valid))
+    packet-is n j bytes = rw e refl
 
     -- what it carries
     pub carried-is : (J : List Event) → carried script no_rules (Copy m ∷ J) m ≡ map (λ k. (values script no_rules J).memory t (put.from + k)) (upto put.len)
@@ -106,23 +106,23 @@ module _ (script : Script) (perf : IsPerformed script) where
 
     -- The link from t to the target.
     abbrev numbered : List Event → ℕ → ℕ → List ℕ
-    numbered J n j = put_bytes put t i n (carried script no_rules (Copy m ∷ J) m) j
+    numbered J n j = put_bytes (unit_of script) put t i n (carried script no_rules (Copy m ∷ J) m) j
 
-    new-packet : (J : List Event) (k : ℕ) → let n = length (out script J t put.target) in packet_at script (Copy m ∷ J) t put.target (n + k) ≡ slice_get (map (numbered J n) (upto (fragments_in 256 put.len))) k
+    new-packet : (J : List Event) (k : ℕ) → let n = length (out script J t put.target) in packet_at script (Copy m ∷ J) t put.target (n + k) ≡ slice_get (map (numbered J n) (upto (fragments_in (unit_of script) put.len))) k
     new-packet J k =
         let n = length (out script J t put.target) in
-        let js = upto (fragments_in 256 put.len) in
+        let js = upto (fragments_in (unit_of script) put.len) in
         subst (λ b. packet_at script (Copy m ∷ J) t b (length (out script J t b) + k) ≡ option_map (λ j. written.packet (data_packet script m (length (out script J t b) + k) j (carried script no_rules (Copy m ∷ J) m))) (slice_get (upto (fragment_count script m)) k)) receiver-is (packet-new script m J k)
         ∙ ap (λ (c : ℕ). option_map (λ j. written.packet (data_packet script m (n + k) j (carried script no_rules (Copy m ∷ J) m))) (slice_get (upto c) k)) count-is
         ∙ at-place (slice_get js k) refl
         ∙ sym (slice_get-map (numbered J n) js k)
       where
-        at-place : (o : Option ℕ) → slice_get (upto (fragments_in 256 put.len)) k ≡ o → option_map (λ j. written.packet (data_packet script m (length (out script J t put.target) + k) j (carried script no_rules (Copy m ∷ J) m))) o ≡ option_map (numbered J (length (out script J t put.target))) o
+        at-place : (o : Option ℕ) → slice_get (upto (fragments_in (unit_of script) put.len)) k ≡ o → option_map (λ j. written.packet (data_packet script m (length (out script J t put.target) + k) j (carried script no_rules (Copy m ∷ J) m))) o ≡ option_map (numbered J (length (out script J t put.target))) o
         at-place None h = refl
         at-place (Some j) h =
             let n = length (out script J t put.target) in
             ap (λ (p : Packet). Some (written.packet p)) (packet-is (n + k) j (carried script no_rules (Copy m ∷ J) m))
-            ∙ ap (λ (x : ℕ). Some (written.packet (Data (put_packet put t i (n + x) j (fragment_bytes 256 j (carried script no_rules (Copy m ∷ J) m)))))) (sym (upto-at (fragments_in 256 put.len) k j h))
+            ∙ ap (λ (x : ℕ). Some (written.packet (Data (put_packet put t i (n + x) j (fragment_bytes (unit_of script) j (carried script no_rules (Copy m ∷ J) m)))))) (sym (upto-at (fragments_in (unit_of script) put.len) k j h))
 
     pub out-more : (J : List Event) → out script (Copy m ∷ J) t put.target ≡ out script J t put.target ++ fragments script m
     out-more J = subst (λ b. out script (Copy m ∷ J) t b ≡ out script J t b ++ fragments script m) receiver-is (out-own script m J)
@@ -136,10 +136,10 @@ module _ (script : Script) (perf : IsPerformed script) where
       K = Copy m ∷ J
 
       abbrev xs : List (List ℕ)
-      xs = map (numbered J (length (out script J t put.target))) (upto (fragments_in 256 put.len))
+      xs = map (numbered J (length (out script J t put.target))) (upto (fragments_in (unit_of script) put.len))
 
       xs-length : length xs ≡ fragment_count script m
-      xs-length = length-map (upto (fragments_in 256 put.len)) (numbered J (length (out script J t put.target))) ∙ upto-length (fragments_in 256 put.len) ∙ sym count-is
+      xs-length = length-map (upto (fragments_in (unit_of script) put.len)) (numbered J (length (out script J t put.target))) ∙ upto-length (fragments_in (unit_of script) put.len) ∙ sym count-is
 
       out-length : length (out script K t put.target) ≡ length (out script J t put.target) + length xs
       out-length = ap length (out-more J) ∙ length-append (out script J t put.target) (fragments script m) ∙ ap (λ k. length (out script J t put.target) + k) (fragments-length script m ∙ sym xs-length)
@@ -166,8 +166,8 @@ module _ (script : Script) (perf : IsPerformed script) where
         waiting = waits;
       }
 
-      pub copied-sends : (bytes : List ℕ) → bytes ≡ carried script no_rules K m → SendsFor script (extended s (put_packets put t i s.window.numbers bytes)) (record r { journal = K }) t put.target
-      copied-sends bytes same = subst (λ (ys : List (List ℕ)). SendsFor script (extended s ys) (record r { journal = K }) t put.target) (λ k. put_packets put t i (sym h.numbers.numbers k) (sym same k)) extended-now
+      pub copied-sends : (bytes : List ℕ) → bytes ≡ carried script no_rules K m → SendsFor script (extended s (put_packets (unit_of script) put t i s.window.numbers bytes)) (record r { journal = K }) t put.target
+      copied-sends bytes same = subst (λ (ys : List (List ℕ)). SendsFor script (extended s ys) (record r { journal = K }) t put.target) (λ k. put_packets (unit_of script) put t i (sym h.numbers.numbers k) (sym same k)) extended-now
 
     -- Another link stays as it was.
     out-other : (J : List Event) (b : ℕ) → b ≢ put.target → out script (Copy m ∷ J) t b ≡ out script J t b
@@ -242,7 +242,7 @@ module _ (script : Script) (perf : IsPerformed script) (t : ℕ) (task : Task) (
         told (Some d) = sym (ap (λ b. b && d == c) (eqb-refl t))
 
     -- What a poll has to know of the put before it copies it.
-    source-spelled : (n j : ℕ) → n < 2 ^ 32 → j < fragments_in 256 put.len → HasSpelling (Data (put_packet put t i n j (fragment_bytes 256 j (carried script no_rules L go))))
+    source-spelled : (n j : ℕ) → n < 2 ^ 32 → j < fragments_in (unit_of script) put.len → HasSpelling (Data (put_packet put t i n j (fragment_bytes (unit_of script) j (carried script no_rules L go))))
     source-spelled n j ln lj =
         subst HasSpelling (packet-is script perf t i put e n j (carried script no_rules L go))
         (written.packet (data_packet script go n j (carried script no_rules L go)), message-spelled script no_rules perf.valid (lit≤ tt, lit≤ tt) L go n j h.atomic (done-head (Copy go) r.journal) ln (subst (λ (c : ℕ). j < c) (sym (count-is script perf t i put e)) lj))
@@ -250,15 +250,16 @@ module _ (script : Script) (perf : IsPerformed script) (t : ℕ) (task : Task) (
     pub carries : source task put ≡ carried script no_rules L go
     carries = source-is script perf t i put e r.journal task h.stands.holds.memory accepted-put.1
 
-    pub copyable : (popped : Task) → IsPopped task popped rest → IsCopyable popped put i
-    copyable popped p = subst (λ (x : Task). IsCopyable x put i) (sym p.others) (record {
+    pub copyable : (popped : Task) → IsPopped task popped rest → IsCopyable (unit_of script) popped put i
+    copyable popped p = subst (λ (x : Task). IsCopyable (unit_of script) x put i) (sym p.others) (record {
       target = subst (λ n. put.target < n) (sym h.stands.sender_count) accepted-put.0;
       within = subst (λ n. put.from + put.len ≤ n) (sym (ap length h.stands.holds.memory ∙ memory-length script r.journal t)) accepted-put.1;
-      short = accepted-put.3;
+      size = let e = first-unit script perf.valid in (inl e, let e' : unit_of script ≤ 256 = omega (arith, e) in e');
+      short = let e = first-unit script perf.valid in let l = accepted-put.3 in omega (arith, e, l);
       counter = λ c at. subst (λ n. c < n) (sym h.stands.holds.counter_count) (accepted-put.2 c at);
       spelled = λ n j ln lj.
-          subst (λ (k : ℕ). HasSpelling (Data (put_packet put k i n j (fragment_bytes 256 j (source task put))))) (sym h.stands.holds.number)
-          (subst (λ (bytes : List ℕ). HasSpelling (Data (put_packet put t i n j (fragment_bytes 256 j bytes)))) (sym carries) (source-spelled n j ln lj));
+          subst (λ (k : ℕ). HasSpelling (Data (put_packet put k i n j (fragment_bytes (unit_of script) j (source task put))))) (sym h.stands.holds.number)
+          (subst (λ (bytes : List ℕ). HasSpelling (Data (put_packet put t i n j (fragment_bytes (unit_of script) j bytes)))) (sym carries) (source-spelled n j ln lj));
     })
 
     -- What stands then.
@@ -287,7 +288,7 @@ module _ (script : Script) (perf : IsPerformed script) (t : ℕ) (task : Task) (
           jobless = g.jobless;
         }
 
-    sender-then : (ends : List SendingEnd) (sender : SendingEnd) → ends ≡ set task.senders.items put.target sender → ((s : SendingEnd) → slice_get task.senders.items put.target ≡ Some s → sender ≡ extended s (put_packets put t i s.window.numbers (source task put))) → (b : ℕ) → b < script.tasks → SenderAt script (record r { journal = L }) t b (slice_get ends b)
+    sender-then : (ends : List SendingEnd) (sender : SendingEnd) → ends ≡ set task.senders.items put.target sender → ((s : SendingEnd) → slice_get task.senders.items put.target ≡ Some s → sender ≡ extended s (put_packets (unit_of script) put t i s.window.numbers (source task put))) → (b : ℕ) → b < script.tasks → SenderAt script (record r { journal = L }) t b (slice_get ends b)
     sender-then ends sender same change b l =
         subst (λ (xs : List SendingEnd). SenderAt script (record r { journal = L }) t b (slice_get xs b)) (sym same)
         (⊎_elim
@@ -303,7 +304,7 @@ module _ (script : Script) (perf : IsPerformed script) (t : ℕ) (task : Task) (
         (other-sends script perf t i put e r b (slice_get task.senders.items b) apart h.atomic (h.stands.senders b l)))
         (cases_eq b put.target))
 
-    pub copied-stands : (popped after : Task) → IsPopped task popped rest → IsCopied put i popped after → StandsFor script t after (record r { journal = L })
+    pub copied-stands : (popped after : Task) → IsPopped task popped rest → IsCopied (unit_of script) put i popped after → StandsFor script t after (record r { journal = L })
     copied-stands popped after p g =
         let list = ap (λ (x : Task). x.uncopied) g.rest in
         let same : after ≡ record task { uncopied = after.uncopied; senders = after.senders; counters = after.counters } =
@@ -318,8 +319,8 @@ module _ (script : Script) (perf : IsPerformed script) (t : ℕ) (task : Task) (
           receiver_count = ap length receivers ∙ h.stands.receiver_count;
           senders = sender-then after.senders.items g.sender senders (λ s at.
               g.change s (ap (λ (xs : List SendingEnd). slice_get xs put.target) ends ∙ at)
-              ∙ ap (λ (k : ℕ). extended s (put_packets put k i s.window.numbers (source popped put))) (ap (λ (x : Task). x.number) p.others ∙ h.stands.holds.number)
-              ∙ ap (λ (x : Task). extended s (put_packets put t i s.window.numbers (source x put))) p.others);
+              ∙ ap (λ (k : ℕ). extended s (put_packets (unit_of script) put k i s.window.numbers (source popped put))) (ap (λ (x : Task). x.number) p.others ∙ h.stands.holds.number)
+              ∙ ap (λ (x : Task). extended s (put_packets (unit_of script) put t i s.window.numbers (source x put))) p.others);
           receivers = λ a l. subst (λ (xs : List _). ReceiverAt script (r.handed a t) (slice_get xs a)) (sym receivers) (h.stands.receivers a l);
         }
 

@@ -16,12 +16,10 @@ use Rattle.lapi_link.specs.Sender.{SendingEnd, IsFresh}
 use Rattle.lapi_task.specs.declared.task.Task.{Task}
 use Rattle.lapi_task.specs.Sends.{packet_at, SendsFor}
 use Rattle.lapi_task.specs.StandsFor.{SenderAt, ReceiverAt, is_uncopied, HoldsFor, StandsFor}
-use Rattle.lapi_task.specs.Steps.{IsBlank}
+use Rattle.lapi_link.specs.Receiver.{IsBlank}
 use Rattle.lapi_task.proofs.StepMemories.{memory-blank}
-use Rattle.lapi_base.specs.Valid.{ValidScript}
 use Rattle.lapi_base.proofs.BelowLaws.{below-none}
 use Rattle.lapi_base.proofs.ListLaws.{all-get, get-some}
-use Rattle.lapi_parts.proofs.FirstLayout.{first-unit, first-window}
 
 -- the task has done nothing
 pub record IsNew (script : Script) (t : ℕ) (task : Task) : Type 0 where
@@ -32,13 +30,10 @@ pub record IsNew (script : Script) (t : ℕ) (task : Task) : Type 0 where
   pub reads : task.reads.items ≡ []
   pub refusals : task.refusals.items ≡ []
   pub uncopied : task.uncopied.items ≡ []
-  pub senders : (length task.senders.items ≡ script.tasks) × AllByRecursion IsFresh task.senders.items
-  pub receivers : (length task.receivers.items ≡ script.tasks) × AllByRecursion IsBlank task.receivers.items
+  pub senders : (length task.senders.items ≡ script.tasks) × AllByRecursion (IsFresh (window_of script)) task.senders.items
+  pub receivers : (length task.receivers.items ≡ script.tasks) × AllByRecursion (IsBlank (window_of script) (unit_of script)) task.receivers.items
 
-module _ (script : Script) (valid : ValidScript script) where
-  layout : (window_of script ≡ 32) × (unit_of script ≡ 256)
-  layout = (first-window script valid, first-unit script valid)
-
+module _ (script : Script) where
   nothing-uncopied : (t k : ℕ) → is_uncopied script [] t k ≡ false
   unfolding done
   nothing-uncopied t k = and_right (is_data (statement script t k)) false refl
@@ -58,11 +53,11 @@ module _ (script : Script) (valid : ValidScript script) where
     jobless = λ w. refl;
   }
 
-  fresh-sends : (a b : ℕ) (s : SendingEnd) → IsFresh s → SendsFor script s start a b
+  fresh-sends : (a b : ℕ) (s : SendingEnd) → IsFresh (window_of script) s → SendsFor script s start a b
   unfolding out has_number has_ack packet_at
   fresh-sends a b s h = record {
     numbers = record {
-      size = h.size ∙ sym layout.0;
+      size = h.size;
       numbers = h.numbers;
       sent = λ n. sym (ap (nat_lt n) h.sent ∙ le-ltb n 0 (omega arith));
       acked = λ n. sym (h.acked n);
@@ -79,8 +74,8 @@ module _ (script : Script) (valid : ValidScript script) where
     receiver_count = h.receivers.0;
     senders = λ b l.
         let x = get-some task.senders.items b (let n = h.senders.0 in omega (arith, l, n)) in
-        subst (SenderAt script start t b) (sym x.1) (fresh-sends t b x.0 (all-get IsFresh task.senders.items b x.0 h.senders.1 x.1));
+        subst (SenderAt script start t b) (sym x.1) (fresh-sends t b x.0 (all-get (IsFresh (window_of script)) task.senders.items b x.0 h.senders.1 x.1));
     receivers = λ a l.
         let x = get-some task.receivers.items a (let n = h.receivers.0 in omega (arith, l, n)) in
-        subst (ReceiverAt script []) (sym x.1) (all-get IsBlank task.receivers.items a x.0 h.receivers.1 x.1 script layout.0 layout.1);
+        subst (ReceiverAt script []) (sym x.1) (all-get (IsBlank (window_of script) (unit_of script)) task.receivers.items a x.0 h.receivers.1 x.1 script refl refl);
   }

@@ -1,11 +1,12 @@
 -- The packets of a put, one after another.
-use Rattle.std.proofs.Common.{◌≡◌, ℕ, ◌+◌, List, [], ◌∷◌, ◌++◌, map, length, max, sym, ap, ◌∙◌, arith, append_assoc}
+use Rattle.std.proofs.Common.{◌≡◌, ℕ, ◌+◌, ◌*◌, ◌<◌, ◌≤◌, List, [], ◌∷◌, ◌++◌, map, length, max, refl, sym, ap, ◌∙◌, arith, append_assoc, add-one, subst, inl, inr}
 use Rattle.std.proofs.lemmas.List.{append-nil, length-append, length-map, map-append}
 use Rattle.std.specs.Int.{div_ceil}
 use Rattle.lapi_base.specs.Fragments.{fragments_in}
 use Rattle.lapi_base.specs.Below.{below}
 use Rattle.lapi_base.specs.Operations.{upto}
 use Rattle.lapi_base.proofs.UptoLaws.{upto-length, upto-more}
+use Rattle.lapi_reassembly.specs.Partial.{IsUnit}
 use Rattle.lapi_link.specs.Sender.{SendingEnd, appended}
 use Rattle.lapi_task.specs.Puts.{extended}
 
@@ -25,5 +26,17 @@ pub extended-count : (s : SendingEnd) (f : ℕ → List ℕ) (n : ℕ) → (exte
 extended-count s f n = ap (λ k. s.window.numbers + k) (length-map (upto n) f ∙ upto-length n)
 
 -- as many as the length says
-pub fragment-count : (len : ℕ) → max (div_ceil len 256) 1 ≡ fragments_in 256 len
-fragment-count len = omega arith
+pub fragment-count : (unit len : ℕ) → IsUnit unit → max (div_ceil len unit) 1 ≡ fragments_in unit len
+fragment-count unit len size =
+    elim size [
+      | inl e ↦ rw e (omega arith)
+      | inr e ↦ rw e (omega arith)
+    ]
+
+-- and each begins within the bytes
+pub fragment-begins : (unit len j : ℕ) → IsUnit unit → j < fragments_in unit len → unit * j ≤ len
+fragment-begins unit len j size l =
+    elim size [
+      | inl e ↦ let lt : j < fragments_in 256 len = subst (λ (u : ℕ). j < fragments_in u len) e l in rw e (omega (arith, lt))
+      | inr e ↦ let lt : j < fragments_in 1024 len = subst (λ (u : ℕ). j < fragments_in u len) e l in rw e (omega (arith, lt))
+    ]

@@ -1,22 +1,21 @@
 -- What a copy changes in its task, and what a poll sends.
-use Rattle.std.specs.Prelude.{◌≡◌, ℕ, ◌<◌, ◌≤◌, ◌^◌, List, ◌∷◌, ◌++◌, length, take, set, slice_get, Some, option_map}
+use Rattle.std.specs.Prelude.{◌≡◌, ℕ, ◌*◌, ◌<◌, ◌≤◌, List, ◌∷◌, ◌++◌, length, take, set, slice_get, Some, option_map}
 use Rattle.lapi_base.specs.declared.event.Event.{Event}
 use Rattle.lapi_base.specs.declared.event.Event.TheVariants.{Copy}
 use Rattle.lapi_base.specs.declared.script.Script.{Script}
 use Rattle.lapi_base.specs.declared.message.Leg.TheVariants.{Go}
-use Rattle.lapi_base.specs.declared.packet.Packet.TheVariants.{Data}
+use Rattle.lapi_base.specs.declared.payload.TheConstants.{PAYLOAD_ROOM}
 use Rattle.lapi_base.specs.Atomic.{Atomic}
-use Rattle.lapi_base.specs.Fragments.{fragments_in, fragment_bytes}
 use Rattle.lapi_base.specs.Names.{message}
 use Rattle.lapi_base.specs.Record.{Run, followed, copy_each, ready}
 use Rattle.lapi_base.specs.Seen.{no_rules}
-use Rattle.lapi_base.specs.Spelling.{HasSpelling}
 use Rattle.lapi_link.specs.Sender.{SendingEnd, sendable, sent}
 use Rattle.lapi_memory.specs.TaskMemory.{bytes_at, IsWithin}
+use Rattle.lapi_reassembly.specs.Partial.{IsUnit}
 use Rattle.lapi_task.specs.declared.put.Put.{Put}
 use Rattle.lapi_task.specs.declared.task.Task.{Task}
 use Rattle.lapi_task.specs.Counting.{announced}
-use Rattle.lapi_task.specs.Puts.{put_packet, put_packets, extended}
+use Rattle.lapi_task.specs.Puts.{with_put, AreSpelled}
 use Rattle.lapi_task.specs.StandsFor.{StandsFor}
 
 -- the bytes that a put reads
@@ -24,18 +23,20 @@ abbrev pub source : Task → Put → List ℕ
 source task put = bytes_at task.memory put.from put.len
 
 -- A put may be copied: its target, its source and its counter are there, it isn't too long, and its packets have spellings;
-pub record IsCopyable (task : Task) (put : Put) (i : ℕ) : Type 0 where
+pub record IsCopyable (unit : ℕ) (task : Task) (put : Put) (i : ℕ) : Type 0 where
   pub target : put.target < length task.senders.items
   pub within : IsWithin task.memory put.from put.len
-  pub short : put.len ≤ 16384
+  pub size : IsUnit unit × (unit ≤ PAYLOAD_ROOM)
+  pub short : put.len ≤ 64 * unit
   pub counter : (c : ℕ) → put.org ≡ Some c → c < length task.counters
-  pub spelled : (n j : ℕ) → n < 2 ^ 32 → j < fragments_in 256 put.len → HasSpelling (Data (put_packet put task.number i n j (fragment_bytes 256 j (source task put))))
+  pub spelled : AreSpelled unit put task.number i (source task put)
 
 -- and this was changed as it was.
-pub record IsCopied (put : Put) (i : ℕ) (before after : Task) : Type 0 where
+pub record IsCopied (unit : ℕ) (put : Put) (i : ℕ) (before after : Task) : Type 0 where
   pub sender : SendingEnd
   pub senders : after.senders.items ≡ set before.senders.items put.target sender
-  pub change : (s : SendingEnd) → slice_get before.senders.items put.target ≡ Some s → sender ≡ extended s (put_packets put before.number i s.window.numbers (source before put))
+  pub change : (s : SendingEnd) → slice_get before.senders.items put.target ≡ Some s
+      → sender ≡ with_put unit put before.number i (source before put) s
   pub counters : after.counters ≡ announced before.counters put.org
   pub rest : after ≡ record before { senders = after.senders; counters = after.counters }
 

@@ -1,5 +1,5 @@
 -- Puts to plain addresses, and their packets.
-use Rattle.std.specs.Prelude.{ℕ, ◌+◌, List, ◌++◌, length, map, Option, Some, None}
+use Rattle.std.specs.Prelude.{ℕ, ◌+◌, ◌<◌, ◌^◌, List, ◌++◌, length, map, Option, Some, None}
 use Rattle.lapi_base.specs.declared.address.Addr.TheVariants.{Plain}
 use Rattle.lapi_base.specs.declared.head.Head.{Head}
 use Rattle.lapi_base.specs.declared.message.Leg.TheVariants.{Go}
@@ -10,6 +10,7 @@ use Rattle.lapi_base.specs.declared.statement.Statement.TheVariants as statement
 use Rattle.lapi_base.specs.Fragments.{fragments_in, fragment_bytes}
 use Rattle.lapi_base.specs.Names.{message}
 use Rattle.lapi_base.specs.Operations.{upto}
+use Rattle.lapi_base.specs.Spelling.{HasSpelling}
 use Rattle.lapi_base.specs.Written as written
 use Rattle.lapi_link.specs.Sender.{SendingEnd}
 use Rattle.lapi_task.specs.declared.put.Put.{Put}
@@ -27,12 +28,22 @@ abbrev pub put_packet : Put → (t i n j : ℕ) → List ℕ → DataPacket
 put_packet put t i n j payload = record { from = t; to = put.target; seq = n; name = message t i Go; head = Head.Put put.to put.tgt put.cmpl; length = put.len; fragment = j; payload = payload }
 
 -- the packets of a put with these bytes, from number n on
-abbrev pub put_bytes : Put → (t i n : ℕ) → (bytes : List ℕ) → (j : ℕ) → List ℕ
-put_bytes put t i n bytes j = written.packet (Data (put_packet put t i (n + j) j (fragment_bytes 256 j bytes)))
+abbrev pub put_bytes : (unit : ℕ) → Put → (t i n : ℕ) → (bytes : List ℕ) → (j : ℕ) → List ℕ
+put_bytes unit put t i n bytes j = written.packet (Data (put_packet put t i (n + j) j (fragment_bytes unit j bytes)))
 
-abbrev pub put_packets : Put → (t i n : ℕ) → (bytes : List ℕ) → List (List ℕ)
-put_packets put t i n bytes = map (put_bytes put t i n bytes) (upto (fragments_in 256 put.len))
+abbrev pub put_packets : (unit : ℕ) → Put → (t i n : ℕ) → (bytes : List ℕ) → List (List ℕ)
+put_packets unit put t i n bytes = map (put_bytes unit put t i n bytes) (upto (fragments_in unit put.len))
 
 -- an end with these packets more that wait
 abbrev pub extended : SendingEnd → List (List ℕ) → SendingEnd
 extended s packets = record s { window = record s.window { numbers = s.window.numbers + length packets }; waiting = s.waiting ++ packets }
+
+-- an end with the packets of a put more that wait
+abbrev pub with_put : (unit : ℕ) → Put → (t i : ℕ) → (bytes : List ℕ) → SendingEnd → SendingEnd
+with_put unit put t i bytes s = extended s (put_packets unit put t i s.window.numbers bytes)
+
+-- each fragment of the put has a spelling, whatever its number
+abbrev pub AreSpelled : (unit : ℕ) → Put → (t i : ℕ) → (bytes : List ℕ) → Type 0
+AreSpelled unit put t i bytes =
+    (n j : ℕ) → n < 2 ^ 32 → j < fragments_in unit put.len
+    → HasSpelling (Data (put_packet put t i n j (fragment_bytes unit j bytes)))

@@ -6,9 +6,6 @@ use Rattle.lapi_base.specs.declared.event.Event.{Event}
 use Rattle.lapi_base.specs.declared.event.Event.TheVariants.{Issue, Refuse, Pass}
 use Rattle.lapi_base.specs.declared.refusal.Refusal.{Refusal}
 use Rattle.lapi_memory.specs.TaskMemory.{written, IsWithin}
-use Rattle.lapi_base.specs.declared.script.Script.{Script}
-use Rattle.lapi_base.specs.Layout.{window_of, unit_of}
-use Rattle.lapi_link.specs.Receiver.{ReceivingEnd, ReceivesFor}
 use Rattle.lapi_task.specs.declared.outcome.Outcome.{Outcome}
 use Rattle.lapi_task.specs.declared.task.Task.{Task}
 
@@ -77,7 +74,3 @@ pub record IsBlocked (counter value : ℕ) (before after : Task) (old new : Outc
   pub less : slice_index before.counters counter < value
   pub task : after ≡ before
   pub outcome : new ≡ old
-
--- nothing was handed over on the link of this end
-abbrev pub IsBlank : ReceivingEnd → Type 0
-IsBlank made = (script : Script) → window_of script ≡ 32 → unit_of script ≡ 256 → ReceivesFor script made []

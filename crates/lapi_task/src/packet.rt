@@ -1,14 +1,13 @@
 //! Packets that leave the task.
-ghost use Rattle.std.specs.Prelude.{◌≡◌, ℕ, ◌^◌, ◌<◌, ◌≤◌, length, IfOk, OnOk};
-ghost use Rattle.lapi_base.specs.declared.packet.Packet.TheVariants.{Data};
-ghost use Rattle.lapi_base.specs.Fragments.{fragments_in, fragment_bytes};
+ghost use Rattle.std.specs.Prelude.{◌≡◌, ◌*◌, ◌≤◌, length, IfOk, OnOk};
 ghost use Rattle.lapi_base.specs.Spelling.{HasSpelling};
 ghost use Rattle.lapi_base.specs.Written as written;
+ghost use Rattle.lapi_reassembly.specs.Partial.{IsUnit};
 ghost use Rattle.lapi_link.specs.Sender.{appended};
-ghost use Rattle.lapi_task.specs.Puts.{put_packet, put_packets, extended};
+ghost use Rattle.lapi_task.specs.Puts.{with_put, AreSpelled};
 
 use crate::put::{Put, payload_of};
-use lapi_base::{Bytes, Frame, Memory, Packet};
+use lapi_base::{Bytes, FRAME_ROOM, Frame, Memory, PAYLOAD_ROOM, Packet};
 use lapi_link::Sender;
 use lapi_packet::encode;
 use std::alloc::Global;
@@ -17,7 +16,7 @@ use std::alloc::Global;
 pub fn spelled(alloc: Global, packet: &Packet) -> Result<Bytes, Memory>
     requires { HasSpelling packet.now }
     ensures bytes { IfOk result (λ bytes. bytes ≡ written.packet packet.now) }
-    ensures short { IfOk result (λ bytes. length bytes ≤ 640) }
+    ensures short { IfOk result (λ bytes. length bytes ≤ FRAME_ROOM) }
 {
     let mut frame = Frame::new();
     encode(packet, &mut frame);
@@ -33,22 +32,24 @@ pub fn append(alloc: Global, sender: &mut Sender, packet: &Packet) -> Result<(),
     sender.append(bytes)
 }
 
-/// Gives numbers to all fragments of a put, which is statement `i` of task `t`.
+/// Gives numbers to all fragments of a put, which is statement `i` of task `t`; each but the last has `unit` bytes.
 pub fn append_put(
     alloc: Global,
     sender: &mut Sender,
+    unit: u32,
     put: Put,
     t: u32,
     i: u32,
     bytes: &[u8],
 ) -> Result<(), Memory>
-    requires bytes { (length bytes.now ≡ put.len) × (put.len ≤ 16384) }
-    requires spelled { (n j : ℕ) → n < 2 ^ 32 → j < fragments_in 256 put.len → HasSpelling (Data (put_packet put t i n j (fragment_bytes 256 j bytes.now))) }
-    ensures { OnOk result (sender.new ≡ extended sender.old (put_packets put t i sender.old.window.numbers bytes.now)) }
+    requires unit { IsUnit unit × (unit ≤ PAYLOAD_ROOM) }
+    requires bytes { (length bytes.now ≡ put.len) × (put.len ≤ 64 * unit) }
+    requires spelled { AreSpelled unit put t i bytes.now }
+    ensures { OnOk result (sender.new ≡ with_put unit put t i bytes.now sender.old) }
 {
-    for fragment in 0..put.len.div_ceil(256).max(1) {
+    for fragment in 0..put.len.div_ceil(unit).max(1) {
         let seq = sender.window().numbers();
-        let payload = payload_of(bytes, fragment);
+        let payload = payload_of(bytes, unit, fragment);
         let packet = Packet::Data(put.packet(t, i, seq, fragment, payload));
         append(alloc, sender, &packet)?;
     }

@@ -2,7 +2,7 @@ ghost use Rattle.std.specs.Prelude.{◌≡◌, ◌*◌, ◌≤◌, length};
 ghost use Rattle.lapi_base.specs.Fragments.{fragment_bytes};
 ghost use Rattle.lapi_task.specs.Puts.{put_of, put_packet};
 
-use lapi_base::{Addr, DataPacket, Head, Leg, MsgName, Payload, Statement};
+use lapi_base::{Addr, DataPacket, Head, Leg, MsgName, PAYLOAD_ROOM, Payload, Statement};
 
 /// A put to a plain address.
 #[derive(Clone, Copy, Debug)]
@@ -67,14 +67,15 @@ impl Put {
     }
 }
 
-/// The bytes of one fragment.
+/// The bytes of one fragment, where each but the last has `unit`.
 #[tactic(auto, using(std::proofs::lemmas::List::take_min))]
-pub fn payload_of(bytes: &[u8], fragment: u32) -> Payload
-    requires { 256 * fragment ≤ length bytes.now }
-    ensures { result ≡ fragment_bytes 256 fragment bytes.now }
+pub fn payload_of(bytes: &[u8], unit: u32, fragment: u32) -> Payload
+    requires unit { unit ≤ PAYLOAD_ROOM }
+    requires within { unit * fragment ≤ length bytes.now }
+    ensures { result ≡ fragment_bytes unit fragment bytes.now }
 {
-    let (_, rest) = bytes.split_at(256 * fragment as usize);
-    let (part, _) = rest.split_at(256usize.min(rest.len()));
+    let (_, rest) = bytes.split_at(unit as usize * fragment as usize);
+    let (part, _) = rest.split_at((unit as usize).min(rest.len()));
     let mut payload = Payload::new();
     payload.extend_from_slice(part);
     payload

@@ -12,16 +12,13 @@ use crate::fault::{status_of, write_fault};
 use crate::text::write_text;
 use crate::views::write_view;
 use crate::words::command_of;
-use lapi_base::{Command, ReadFault, Status, View, Which, WriteFault};
+use lapi_base::{Command, LONGEST_INPUT, ReadFault, Status, View, Which, WriteFault};
 use lapi_io::{ReadAll, Sink, Source, read_all};
 use lapi_laws::journal_is_atomic;
 use lapi_report::write_packet;
 use lapi_script::read_input;
 use lapi_text::text_laws;
 use std::alloc::Global;
-
-/// The longest input, in bytes.
-const LONGEST_INPUT: usize = 4_194_304;
 
 /// What is told of an input with more bytes than that.
 const TOO_LONG: ReadFault = ReadFault::Limit {

@@ -6,7 +6,7 @@
 //! 4     address at most 65,536                              Field
 //! ```
 
-ghost use Rattle.std.specs.Prelude.{◌≡◌, ◌↔◌, IsTrue, ◌≤◌, ◌+◌, ◌++◌, length};
+ghost use Rattle.std.specs.Prelude.{◌≡◌, ◌≤◌, ◌+◌, ◌++◌, length};
 ghost use Rattle.lapi_base.specs.Heads.{addr_form};
 ghost use Rattle.lapi_packet.specs.Reader.{Reads};
 ghost use Rattle.lapi_base.specs.Written as written;
@@ -15,7 +15,7 @@ use crate::fault::{Fault, refused};
 use crate::head::gfence::read_round;
 use crate::number::{read_four, write_four, write_two};
 use crate::range::MEMORY;
-use lapi_base::{Frame, Head, Reason};
+use lapi_base::{FRAME_ROOM, Frame, Head, Reason};
 
 #[tactic(auto, using(lapi_base::proofs::FormLaws::read_bind), unfolding(lapi_base::specs::Heads::addr_form))]
 pub(crate) fn read(bytes: &[u8]) -> Result<(Head, &[u8]), Fault>
@@ -30,23 +30,10 @@ pub(crate) fn read(bytes: &[u8]) -> Result<(Head, &[u8]), Fault>
 }
 
 pub(crate) fn write(round: u32, address: u32, out: &mut Frame)
-    requires { length out.old + 6 ≤ 640 }
+    requires { length out.old + 6 ≤ FRAME_ROOM }
     ensures bytes { out.new ≡ out.old ++ written.head (Head.Addr round address) }
     ensures room { length out.new ≤ length out.old + 6 }
 {
     write_two(round, out);
     write_four(address, out);
-}
-
-/// Whether a head is this one.
-pub(crate) fn is(head: &Head, round: u32, address: u32) -> bool
-    ensures { IsTrue result ↔ (head.now ≡ Head.Addr round address) }
-{
-    match head {
-        Head::Addr {
-            round: its_round,
-            address: its_address,
-        } => *its_round == round && *its_address == address,
-        _ => false,
-    }
 }

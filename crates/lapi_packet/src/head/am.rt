@@ -9,7 +9,7 @@
 //!       header  count bytes, any
 //! ```
 
-ghost use Rattle.std.specs.Prelude.{◌≡◌, ◌↔◌, IsTrue, ◌≤◌, ◌+◌, ◌++◌, length, IfOk};
+ghost use Rattle.std.specs.Prelude.{◌≡◌, ◌≤◌, ◌+◌, ◌++◌, length, IfOk};
 ghost use Rattle.lapi_base.specs.Form.{bytes_form};
 ghost use Rattle.lapi_base.specs.Heads.{am_form, header_count_form};
 ghost use Rattle.lapi_packet.specs.Reader.{Reads};
@@ -18,7 +18,7 @@ ghost use Rattle.lapi_base.specs.Written as written;
 use crate::counter;
 use crate::fault::{Fault, cut_short, refused};
 use crate::number::{read_one, write_one};
-use lapi_base::{Frame, Head, Reason, UserHeader};
+use lapi_base::{FRAME_ROOM, Frame, Head, Reason, UserHeader};
 
 const LAST_HANDLER: u32 = 15;
 
@@ -52,7 +52,7 @@ pub(crate) fn write(
     header: &UserHeader,
     out: &mut Frame,
 )
-    requires { length out.old + 68 ≤ 640 }
+    requires { length out.old + 68 ≤ FRAME_ROOM }
     ensures bytes { out.new ≡ out.old ++ written.head (Head.Am handler tgt cmpl header.now) }
     ensures room { length out.new ≤ length out.old + 68 }
 {
@@ -88,28 +88,4 @@ fn read_header(count: u32, bytes: &[u8]) -> Result<(UserHeader, &[u8]), Fault>
     let mut header = UserHeader::new();
     header.extend_from_slice(front);
     Ok((header, rest))
-}
-
-/// Whether a head is this one.
-pub(crate) fn is(
-    head: &Head,
-    handler: u32,
-    tgt: Option<u32>,
-    cmpl: Option<u32>,
-    header: &UserHeader,
-) -> bool
-    ensures { IsTrue result ↔ (head.now ≡ Head.Am handler tgt cmpl header.now) }
-{
-    match head {
-        Head::Am {
-            handler: its_handler,
-            tgt: its_tgt,
-            cmpl: its_cmpl,
-            header: its_header,
-        } => *its_handler == handler
-            && *its_tgt == tgt
-            && *its_cmpl == cmpl
-            && its_header == header,
-        _ => false,
-    }
 }

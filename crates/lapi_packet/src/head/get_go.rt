@@ -9,7 +9,7 @@
 //! 1     org     below 64, or ff for none                    Field
 //! ```
 
-ghost use Rattle.std.specs.Prelude.{◌≡◌, ◌↔◌, IsTrue, ◌≤◌, ◌+◌, ◌++◌, length};
+ghost use Rattle.std.specs.Prelude.{◌≡◌, ◌≤◌, ◌+◌, ◌++◌, length};
 ghost use Rattle.lapi_base.specs.Heads.{get_go_form};
 ghost use Rattle.lapi_base.specs.Layout.{First};
 ghost use Rattle.lapi_packet.specs.Reader.{Reads};
@@ -20,7 +20,7 @@ use crate::fault::{Fault, refused};
 use crate::fragment::LONGEST;
 use crate::number::{read_four, write_four};
 use crate::range::read_range;
-use lapi_base::{Frame, Head, Reason};
+use lapi_base::{FRAME_ROOM, Frame, Head, Reason};
 
 #[tactic(auto, using(lapi_base::proofs::FormLaws::read_bind), unfolding(lapi_base::specs::Heads::get_go_form))]
 pub(crate) fn read(bytes: &[u8]) -> Result<(Head, &[u8]), Fault>
@@ -52,7 +52,7 @@ pub(crate) fn write(
     org: Option<u32>,
     out: &mut Frame,
 )
-    requires { length out.old + 14 ≤ 640 }
+    requires { length out.old + 14 ≤ FRAME_ROOM }
     ensures bytes { out.new ≡ out.old ++ written.head (Head.GetGo asked source dest tgt org) }
     ensures room { length out.new ≤ length out.old + 14 }
 {
@@ -61,31 +61,4 @@ pub(crate) fn write(
     write_four(dest, out);
     counter::write(tgt, out);
     counter::write(org, out);
-}
-
-/// Whether a head is this one.
-pub(crate) fn is(
-    head: &Head,
-    asked: u32,
-    source: u32,
-    dest: u32,
-    tgt: Option<u32>,
-    org: Option<u32>,
-) -> bool
-    ensures { IsTrue result ↔ (head.now ≡ Head.GetGo asked source dest tgt org) }
-{
-    match head {
-        Head::GetGo {
-            asked: its_asked,
-            source: its_source,
-            dest: its_dest,
-            tgt: its_tgt,
-            org: its_org,
-        } => *its_asked == asked
-            && *its_source == source
-            && *its_dest == dest
-            && *its_tgt == tgt
-            && *its_org == org,
-        _ => false,
-    }
 }

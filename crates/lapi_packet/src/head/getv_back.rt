@@ -8,7 +8,7 @@
 //!               and the last all of it
 //! ```
 
-ghost use Rattle.std.specs.Prelude.{◌≡◌, ◌↔◌, IsTrue, ◌≤◌, ◌+◌, ◌++◌, length};
+ghost use Rattle.std.specs.Prelude.{◌≡◌, ◌≤◌, ◌+◌, ◌++◌, length};
 ghost use Rattle.lapi_base.specs.Heads.{getv_back_form};
 ghost use Rattle.lapi_packet.specs.Reader.{Reads};
 ghost use Rattle.lapi_base.specs.Written as written;
@@ -16,7 +16,7 @@ ghost use Rattle.lapi_base.specs.Written as written;
 use crate::fault::Fault;
 use crate::number::write_one;
 use crate::{counter, spans};
-use lapi_base::{Frame, Head, Spans};
+use lapi_base::{FRAME_ROOM, Frame, Head, Spans};
 
 #[tactic(auto, using(lapi_base::proofs::FormLaws::read_bind), unfolding(lapi_base::specs::Heads::getv_back_form))]
 pub(crate) fn read(length: u32, bytes: &[u8]) -> Result<(Head, &[u8]), Fault>
@@ -29,7 +29,7 @@ pub(crate) fn read(length: u32, bytes: &[u8]) -> Result<(Head, &[u8]), Fault>
 }
 
 pub(crate) fn write(org: Option<u32>, dest: &Spans, out: &mut Frame)
-    requires { length out.old + 130 ≤ 640 }
+    requires { length out.old + 130 ≤ FRAME_ROOM }
     ensures bytes { out.new ≡ out.old ++ written.head (Head.GetvBack org dest.now) }
     ensures room { length out.new ≤ length out.old + 130 }
 {
@@ -37,17 +37,4 @@ pub(crate) fn write(org: Option<u32>, dest: &Spans, out: &mut Frame)
     let dest = dest.as_slice();
     write_one(dest.len() as u32, out);
     spans::write(dest, out);
-}
-
-/// Whether a head is this one.
-pub(crate) fn is(head: &Head, org: Option<u32>, dest: &Spans) -> bool
-    ensures { IsTrue result ↔ (head.now ≡ Head.GetvBack org dest.now) }
-{
-    match head {
-        Head::GetvBack {
-            org: its_org,
-            dest: its_dest,
-        } => *its_org == org && spans::same(its_dest, dest),
-        _ => false,
-    }
 }

@@ -9,7 +9,7 @@
 //! 8     dest    each as long as the span of source          Field
 //! ```
 
-ghost use Rattle.std.specs.Prelude.{◌≡◌, ◌↔◌, IsTrue, ◌≤◌, ◌+◌, ◌++◌, length};
+ghost use Rattle.std.specs.Prelude.{◌≡◌, ◌≤◌, ◌+◌, ◌++◌, length};
 ghost use Rattle.lapi_base.specs.Heads.{getv_go_form};
 ghost use Rattle.lapi_base.specs.Layout.{First};
 ghost use Rattle.lapi_packet.specs.Reader.{Reads};
@@ -19,7 +19,7 @@ use crate::fault::Fault;
 use crate::fragment::LONGEST;
 use crate::number::write_one;
 use crate::{counter, spans};
-use lapi_base::{Frame, Head, Spans};
+use lapi_base::{FRAME_ROOM, Frame, Head, Spans};
 
 #[tactic(auto, using(lapi_base::proofs::FormLaws::read_bind), unfolding(lapi_base::specs::Heads::getv_go_form))]
 pub(crate) fn read(bytes: &[u8]) -> Result<(Head, &[u8]), Fault>
@@ -46,7 +46,7 @@ pub(crate) fn write(
     dest: &Spans,
     out: &mut Frame,
 )
-    requires { length out.old + 259 ≤ 640 }
+    requires { length out.old + 259 ≤ FRAME_ROOM }
     ensures bytes { out.new ≡ out.old ++ written.head (Head.GetvGo tgt org source.now dest.now) }
     ensures room { length out.new ≤ length out.old + 259 }
 {
@@ -56,28 +56,4 @@ pub(crate) fn write(
     write_one(source.len() as u32, out);
     spans::write(source, out);
     spans::write(dest.as_slice(), out);
-}
-
-/// Whether a head is this one.
-pub(crate) fn is(
-    head: &Head,
-    tgt: Option<u32>,
-    org: Option<u32>,
-    source: &Spans,
-    dest: &Spans,
-) -> bool
-    ensures { IsTrue result ↔ (head.now ≡ Head.GetvGo tgt org source.now dest.now) }
-{
-    match head {
-        Head::GetvGo {
-            tgt: its_tgt,
-            org: its_org,
-            source: its_source,
-            dest: its_dest,
-        } => *its_tgt == tgt
-            && *its_org == org
-            && spans::same(its_source, source)
-            && spans::same(its_dest, dest),
-        _ => false,
-    }
 }

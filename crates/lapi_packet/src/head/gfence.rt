@@ -5,14 +5,14 @@
 //! 2     round   at most 511                                 Field
 //! ```
 
-ghost use Rattle.std.specs.Prelude.{◌≡◌, ◌↔◌, IsTrue, ◌≤◌, ◌+◌, ◌++◌, length};
+ghost use Rattle.std.specs.Prelude.{◌≡◌, ◌≤◌, ◌+◌, ◌++◌, length};
 ghost use Rattle.lapi_base.specs.Heads.{gfence_form, round_form};
 ghost use Rattle.lapi_packet.specs.Reader.{Reads};
 ghost use Rattle.lapi_base.specs.Written as written;
 
 use crate::fault::{Fault, refused};
 use crate::number::{read_two, write_two};
-use lapi_base::{Frame, Head, Reason};
+use lapi_base::{FRAME_ROOM, Frame, Head, Reason};
 
 const LAST_ROUND: u32 = 511;
 
@@ -25,7 +25,7 @@ pub(crate) fn read(bytes: &[u8]) -> Result<(Head, &[u8]), Fault>
 }
 
 pub(crate) fn write(round: u32, out: &mut Frame)
-    requires { length out.old + 2 ≤ 640 }
+    requires { length out.old + 2 ≤ FRAME_ROOM }
     ensures bytes { out.new ≡ out.old ++ written.head (Head.Gfence round) }
     ensures room { length out.new ≤ length out.old + 2 }
 {
@@ -42,14 +42,4 @@ pub(super) fn read_round(bytes: &[u8]) -> Result<(u32, &[u8]), Fault>
         return Err(refused(bytes, Reason::Field));
     }
     Ok((round, rest))
-}
-
-/// Whether a head is this one.
-pub(crate) fn is(head: &Head, round: u32) -> bool
-    ensures { IsTrue result ↔ (head.now ≡ Head.Gfence round) }
-{
-    match head {
-        Head::Gfence { round: its_round } => *its_round == round,
-        _ => false,
-    }
 }

@@ -7,7 +7,7 @@
 //! 1     cmpl    below 64, or ff for none                    Field
 //! ```
 
-ghost use Rattle.std.specs.Prelude.{◌≡◌, ◌↔◌, IsTrue, ◌≤◌, ◌+◌, ◌++◌, length};
+ghost use Rattle.std.specs.Prelude.{◌≡◌, ◌≤◌, ◌+◌, ◌++◌, length};
 ghost use Rattle.lapi_base.specs.Heads.{put_form};
 ghost use Rattle.lapi_packet.specs.Reader.{Reads};
 ghost use Rattle.lapi_base.specs.Written as written;
@@ -16,7 +16,7 @@ use crate::counter;
 use crate::fault::Fault;
 use crate::number::write_four;
 use crate::range::read_range;
-use lapi_base::{Frame, Head};
+use lapi_base::{FRAME_ROOM, Frame, Head};
 
 #[tactic(auto, using(lapi_base::proofs::FormLaws::read_bind), unfolding(lapi_base::specs::Heads::put_form))]
 pub(crate) fn read(length: u32, bytes: &[u8]) -> Result<(Head, &[u8]), Fault>
@@ -29,25 +29,11 @@ pub(crate) fn read(length: u32, bytes: &[u8]) -> Result<(Head, &[u8]), Fault>
 }
 
 pub(crate) fn write(at: u32, tgt: Option<u32>, cmpl: Option<u32>, out: &mut Frame)
-    requires { length out.old + 6 ≤ 640 }
+    requires { length out.old + 6 ≤ FRAME_ROOM }
     ensures bytes { out.new ≡ out.old ++ written.head (Head.Put at tgt cmpl) }
     ensures room { length out.new ≤ length out.old + 6 }
 {
     write_four(at, out);
     counter::write(tgt, out);
     counter::write(cmpl, out);
-}
-
-/// Whether a head is this one.
-pub(crate) fn is(head: &Head, at: u32, tgt: Option<u32>, cmpl: Option<u32>) -> bool
-    ensures { IsTrue result ↔ (head.now ≡ Head.Put at tgt cmpl) }
-{
-    match head {
-        Head::Put {
-            at: its_at,
-            tgt: its_tgt,
-            cmpl: its_cmpl,
-        } => *its_at == at && *its_tgt == tgt && *its_cmpl == cmpl,
-        _ => false,
-    }
 }

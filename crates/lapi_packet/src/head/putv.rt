@@ -9,7 +9,7 @@
 //!               and the last all of it
 //! ```
 
-ghost use Rattle.std.specs.Prelude.{◌≡◌, ◌↔◌, IsTrue, ◌≤◌, ◌+◌, ◌++◌, length};
+ghost use Rattle.std.specs.Prelude.{◌≡◌, ◌≤◌, ◌+◌, ◌++◌, length};
 ghost use Rattle.lapi_base.specs.Heads.{putv_form};
 ghost use Rattle.lapi_packet.specs.Reader.{Reads};
 ghost use Rattle.lapi_base.specs.Written as written;
@@ -17,7 +17,7 @@ ghost use Rattle.lapi_base.specs.Written as written;
 use crate::fault::Fault;
 use crate::number::write_one;
 use crate::{counter, spans};
-use lapi_base::{Frame, Head, Spans};
+use lapi_base::{FRAME_ROOM, Frame, Head, Spans};
 
 #[tactic(auto, using(lapi_base::proofs::FormLaws::read_bind), unfolding(lapi_base::specs::Heads::putv_form))]
 pub(crate) fn read(length: u32, bytes: &[u8]) -> Result<(Head, &[u8]), Fault>
@@ -31,7 +31,7 @@ pub(crate) fn read(length: u32, bytes: &[u8]) -> Result<(Head, &[u8]), Fault>
 }
 
 pub(crate) fn write(tgt: Option<u32>, cmpl: Option<u32>, pieces: &Spans, out: &mut Frame)
-    requires { length out.old + 131 ≤ 640 }
+    requires { length out.old + 131 ≤ FRAME_ROOM }
     ensures bytes { out.new ≡ out.old ++ written.head (Head.Putv tgt cmpl pieces.now) }
     ensures room { length out.new ≤ length out.old + 131 }
 {
@@ -40,18 +40,4 @@ pub(crate) fn write(tgt: Option<u32>, cmpl: Option<u32>, pieces: &Spans, out: &m
     let pieces = pieces.as_slice();
     write_one(pieces.len() as u32, out);
     spans::write(pieces, out);
-}
-
-/// Whether a head is this one.
-pub(crate) fn is(head: &Head, tgt: Option<u32>, cmpl: Option<u32>, pieces: &Spans) -> bool
-    ensures { IsTrue result ↔ (head.now ≡ Head.Putv tgt cmpl pieces.now) }
-{
-    match head {
-        Head::Putv {
-            tgt: its_tgt,
-            cmpl: its_cmpl,
-            pieces: its_pieces,
-        } => *its_tgt == tgt && *its_cmpl == cmpl && spans::same(its_pieces, pieces),
-        _ => false,
-    }
 }

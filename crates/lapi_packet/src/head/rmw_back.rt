@@ -6,7 +6,7 @@
 //! 1     org     below 64, or ff for none                    Field
 //! ```
 
-ghost use Rattle.std.specs.Prelude.{◌≡◌, ◌↔◌, IsTrue, ◌≤◌, ◌+◌, ◌++◌, length};
+ghost use Rattle.std.specs.Prelude.{◌≡◌, ◌≤◌, ◌+◌, ◌++◌, length};
 ghost use Rattle.lapi_base.specs.Heads.{rmw_back_form};
 ghost use Rattle.lapi_packet.specs.Reader.{Reads};
 ghost use Rattle.lapi_base.specs.Written as written;
@@ -15,7 +15,7 @@ use crate::counter;
 use crate::fault::Fault;
 use crate::number::write_four;
 use crate::range::read_word;
-use lapi_base::{Frame, Head};
+use lapi_base::{FRAME_ROOM, Frame, Head};
 
 #[tactic(auto, using(lapi_base::proofs::FormLaws::read_bind), unfolding(lapi_base::specs::Heads::rmw_back_form))]
 pub(crate) fn read(bytes: &[u8]) -> Result<(Head, &[u8]), Fault>
@@ -27,23 +27,10 @@ pub(crate) fn read(bytes: &[u8]) -> Result<(Head, &[u8]), Fault>
 }
 
 pub(crate) fn write(dest: u32, org: Option<u32>, out: &mut Frame)
-    requires { length out.old + 5 ≤ 640 }
+    requires { length out.old + 5 ≤ FRAME_ROOM }
     ensures bytes { out.new ≡ out.old ++ written.head (Head.RmwBack dest org) }
     ensures room { length out.new ≤ length out.old + 5 }
 {
     write_four(dest, out);
     counter::write(org, out);
-}
-
-/// Whether a head is this one.
-pub(crate) fn is(head: &Head, dest: u32, org: Option<u32>) -> bool
-    ensures { IsTrue result ↔ (head.now ≡ Head.RmwBack dest org) }
-{
-    match head {
-        Head::RmwBack {
-            dest: its_dest,
-            org: its_org,
-        } => *its_dest == dest && *its_org == org,
-        _ => false,
-    }
 }

@@ -10,7 +10,7 @@
 //! 1     org     below 64, or ff for none                    Field
 //! ```
 
-ghost use Rattle.std.specs.Prelude.{◌≡◌, ◌↔◌, IsTrue, ◌≤◌, ◌+◌, ◌++◌, length};
+ghost use Rattle.std.specs.Prelude.{◌≡◌, ◌≤◌, ◌+◌, ◌++◌, length};
 ghost use Rattle.lapi_base.specs.Heads.{rmw_go_form, update_form, update_of};
 ghost use Rattle.lapi_base.specs.Written.{update_number};
 ghost use Rattle.lapi_packet.specs.Reader.{Reads};
@@ -20,7 +20,7 @@ use crate::counter;
 use crate::fault::{Fault, refused};
 use crate::number::{read_four, read_one, write_four, write_one};
 use crate::range::read_word;
-use lapi_base::{Frame, Head, Reason, RmwOp};
+use lapi_base::{FRAME_ROOM, Frame, Head, Reason, RmwOp};
 
 #[tactic(auto, using(lapi_base::proofs::FormLaws::read_bind), unfolding(lapi_base::specs::Heads::rmw_go_form))]
 pub(crate) fn read(bytes: &[u8]) -> Result<(Head, &[u8]), Fault>
@@ -55,7 +55,7 @@ pub(crate) fn write(
     org: Option<u32>,
     out: &mut Frame,
 )
-    requires { length out.old + 18 ≤ 640 }
+    requires { length out.old + 18 ≤ FRAME_ROOM }
     ensures bytes { out.new ≡ out.old ++ written.head (Head.RmwGo op at in1 in2 prev org) }
     ensures room { length out.new ≤ length out.old + 18 }
 {
@@ -97,35 +97,5 @@ fn number_of(op: RmwOp) -> u32
         RmwOp::Or => 2,
         RmwOp::Swap => 3,
         RmwOp::Cas => 4,
-    }
-}
-
-/// Whether a head is this one.
-pub(crate) fn is(
-    head: &Head,
-    op: RmwOp,
-    at: u32,
-    in1: u32,
-    in2: u32,
-    prev: u32,
-    org: Option<u32>,
-) -> bool
-    ensures { IsTrue result ↔ (head.now ≡ Head.RmwGo op at in1 in2 prev org) }
-{
-    match head {
-        Head::RmwGo {
-            op: its_op,
-            at: its_at,
-            in1: its_in1,
-            in2: its_in2,
-            prev: its_prev,
-            org: its_org,
-        } => *its_op == op
-            && *its_at == at
-            && *its_in1 == in1
-            && *its_in2 == in2
-            && *its_prev == prev
-            && *its_org == org,
-        _ => false,
     }
 }

@@ -30,7 +30,7 @@ pub(crate) fn putv(words: &mut Words) -> Result<ReadStatement, LineFault>
             org,
             cmpl,
         }),
-        _ => ReadStatement::Crowded,
+        _ => ReadStatement::TooManyPieces,
     })
 }
 
@@ -52,6 +52,6 @@ pub(crate) fn getv(words: &mut Words) -> Result<ReadStatement, LineFault>
             tgt,
             org,
         }),
-        _ => ReadStatement::Crowded,
+        _ => ReadStatement::TooManyPieces,
     })
 }

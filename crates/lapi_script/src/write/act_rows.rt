@@ -3,7 +3,7 @@
 ghost use Rattle.std.specs.Prelude.{◌≡◌, ◌++◌, ◌∷◌, OnOk};
 ghost use Rattle.lapi_base.specs.Rows.{act_row, row_line};
 
-use crate::write::values::{number, optional_hex, put};
+use crate::write::values::{number, optional_hex, put, word_with_two};
 use lapi_base::{Act, Memory};
 use std::alloc::Global;
 
@@ -42,15 +42,7 @@ pub(crate) fn act(alloc: Global, out: &mut Vec<u8>, act: &Act) -> Result<(), Mem
             number(alloc, out, *b)?;
             optional_hex(alloc, out, bytes.as_slice())
         }
-        Act::Begin { task, worker } => {
-            put(out, b" begin")?;
-            number(alloc, out, *task)?;
-            number(alloc, out, *worker)
-        }
-        Act::End { task, worker } => {
-            put(out, b" end")?;
-            number(alloc, out, *task)?;
-            number(alloc, out, *worker)
-        }
+        Act::Begin { task, worker } => word_with_two(alloc, out, b" begin", *task, *worker),
+        Act::End { task, worker } => word_with_two(alloc, out, b" end", *task, *worker),
     }
 }

@@ -2,10 +2,12 @@
 
 ghost use Rattle.std.specs.Prelude.{◌≡◌, ◌++◌, OnOk};
 ghost use Rattle.lapi_base.specs.Rows.{operation_word, statement_row, row_line};
+ghost use Rattle.lapi_script.specs.Kinds.{IsPut, IsGet, IsPutv, IsGetv, IsRmw, IsAm};
 ghost use Rattle.lapi_script.specs.Operations.{second_text, operation_text};
 
 use crate::write::values::{
     address, counter, hex, number, optional_hex, put, three_counters, two_counters, vector,
+    word_with_two,
 };
 use lapi_base::{Addr, Memory, RmwOp, Statement};
 use std::alloc::Global;
@@ -27,7 +29,7 @@ fn second_operand(alloc: Global, out: &mut Vec<u8>, op: RmwOp, in2: u32) -> Resu
 {
     match op {
         RmwOp::Cas => number(alloc, out, in2),
-        _ => Ok(()),
+        RmwOp::Add | RmwOp::Or | RmwOp::Swap => Ok(()),
     }
 }
 
@@ -49,8 +51,153 @@ fn operation(
     second_operand(alloc, out, op, in2)
 }
 
-/// A statement's line, without its end.
+/// A put.
+fn put_row(alloc: Global, out: &mut Vec<u8>, statement: &Statement) -> Result<(), Memory>
+    requires { IsPut statement.now }
+    ensures { OnOk result (out.new.items ≡ out.old.items ++ row_line (statement_row statement.now)) }
+{
+    let Statement::Put {
+        target,
+        to,
+        from,
+        len,
+        tgt,
+        org,
+        cmpl,
+    } = statement
+    else {
+        unreachable!()
+    };
+    put(out, b"put")?;
+    number(alloc, out, *target)?;
+    address(alloc, out, *to)?;
+    number(alloc, out, *from)?;
+    number(alloc, out, *len)?;
+    three_counters(alloc, out, *tgt, *org, *cmpl)
+}
+
+/// A get.
+fn get_row(alloc: Global, out: &mut Vec<u8>, statement: &Statement) -> Result<(), Memory>
+    requires { IsGet statement.now }
+    ensures { OnOk result (out.new.items ≡ out.old.items ++ row_line (statement_row statement.now)) }
+{
+    let Statement::Get {
+        target,
+        from,
+        to,
+        len,
+        tgt,
+        org,
+    } = statement
+    else {
+        unreachable!()
+    };
+    put(out, b"get")?;
+    number(alloc, out, *target)?;
+    address(alloc, out, *from)?;
+    number(alloc, out, *to)?;
+    number(alloc, out, *len)?;
+    two_counters(alloc, out, *tgt, *org)
+}
+
+/// A put of vectors.
+fn putv_row(alloc: Global, out: &mut Vec<u8>, statement: &Statement) -> Result<(), Memory>
+    requires { IsPutv statement.now }
+    ensures { OnOk result (out.new.items ≡ out.old.items ++ row_line (statement_row statement.now)) }
+{
+    let Statement::Putv {
+        target,
+        to,
+        from,
+        tgt,
+        org,
+        cmpl,
+    } = statement
+    else {
+        unreachable!()
+    };
+    put(out, b"putv")?;
+    number(alloc, out, *target)?;
+    vector(alloc, out, to)?;
+    vector(alloc, out, from)?;
+    three_counters(alloc, out, *tgt, *org, *cmpl)
+}
+
+/// A get of vectors.
+fn getv_row(alloc: Global, out: &mut Vec<u8>, statement: &Statement) -> Result<(), Memory>
+    requires { IsGetv statement.now }
+    ensures { OnOk result (out.new.items ≡ out.old.items ++ row_line (statement_row statement.now)) }
+{
+    let Statement::Getv {
+        target,
+        from,
+        to,
+        tgt,
+        org,
+    } = statement
+    else {
+        unreachable!()
+    };
+    put(out, b"getv")?;
+    number(alloc, out, *target)?;
+    vector(alloc, out, from)?;
+    vector(alloc, out, to)?;
+    two_counters(alloc, out, *tgt, *org)
+}
+
+/// A read-modify-write of a word.
 #[tactic(auto, using(crate::proofs::Texts::rmw_text))]
+fn rmw_row(alloc: Global, out: &mut Vec<u8>, statement: &Statement) -> Result<(), Memory>
+    requires { IsRmw statement.now }
+    ensures { OnOk result (out.new.items ≡ out.old.items ++ row_line (statement_row statement.now)) }
+{
+    let Statement::Rmw {
+        target,
+        op,
+        at,
+        in1,
+        in2,
+        prev,
+        org,
+    } = statement
+    else {
+        unreachable!()
+    };
+    put(out, b"rmw")?;
+    number(alloc, out, *target)?;
+    operation(alloc, out, *op, *at, *in1, *in2)?;
+    number(alloc, out, *prev)?;
+    counter(alloc, out, *org)
+}
+
+/// An active message.
+fn am_row(alloc: Global, out: &mut Vec<u8>, statement: &Statement) -> Result<(), Memory>
+    requires { IsAm statement.now }
+    ensures { OnOk result (out.new.items ≡ out.old.items ++ row_line (statement_row statement.now)) }
+{
+    let Statement::Am {
+        target,
+        handler,
+        header,
+        from,
+        len,
+        tgt,
+        org,
+        cmpl,
+    } = statement
+    else {
+        unreachable!()
+    };
+    put(out, b"amsend")?;
+    number(alloc, out, *target)?;
+    number(alloc, out, *handler)?;
+    optional_hex(alloc, out, header.as_slice())?;
+    number(alloc, out, *from)?;
+    number(alloc, out, *len)?;
+    three_counters(alloc, out, *tgt, *org, *cmpl)
+}
+
+/// A statement's line, without its end.
 pub(crate) fn statement(
     alloc: Global,
     out: &mut Vec<u8>,
@@ -64,106 +211,17 @@ pub(crate) fn statement(
             number(alloc, out, *at)?;
             hex(alloc, out, bytes.as_slice())
         }
-        Statement::Put {
-            target,
-            to,
-            from,
-            len,
-            tgt,
-            org,
-            cmpl,
-        } => {
-            put(out, b"put")?;
-            number(alloc, out, *target)?;
-            address(alloc, out, *to)?;
-            number(alloc, out, *from)?;
-            number(alloc, out, *len)?;
-            three_counters(alloc, out, *tgt, *org, *cmpl)
-        }
-        Statement::Get {
-            target,
-            from,
-            to,
-            len,
-            tgt,
-            org,
-        } => {
-            put(out, b"get")?;
-            number(alloc, out, *target)?;
-            address(alloc, out, *from)?;
-            number(alloc, out, *to)?;
-            number(alloc, out, *len)?;
-            two_counters(alloc, out, *tgt, *org)
-        }
-        Statement::Putv {
-            target,
-            to,
-            from,
-            tgt,
-            org,
-            cmpl,
-        } => {
-            put(out, b"putv")?;
-            number(alloc, out, *target)?;
-            vector(alloc, out, to)?;
-            vector(alloc, out, from)?;
-            three_counters(alloc, out, *tgt, *org, *cmpl)
-        }
-        Statement::Getv {
-            target,
-            from,
-            to,
-            tgt,
-            org,
-        } => {
-            put(out, b"getv")?;
-            number(alloc, out, *target)?;
-            vector(alloc, out, from)?;
-            vector(alloc, out, to)?;
-            two_counters(alloc, out, *tgt, *org)
-        }
-        Statement::Rmw {
-            target,
-            op,
-            at,
-            in1,
-            in2,
-            prev,
-            org,
-        } => {
-            put(out, b"rmw")?;
-            number(alloc, out, *target)?;
-            operation(alloc, out, *op, *at, *in1, *in2)?;
-            number(alloc, out, *prev)?;
-            counter(alloc, out, *org)
-        }
-        Statement::Am {
-            target,
-            handler,
-            header,
-            from,
-            len,
-            tgt,
-            org,
-            cmpl,
-        } => {
-            put(out, b"amsend")?;
-            number(alloc, out, *target)?;
-            number(alloc, out, *handler)?;
-            optional_hex(alloc, out, header.as_slice())?;
-            number(alloc, out, *from)?;
-            number(alloc, out, *len)?;
-            three_counters(alloc, out, *tgt, *org, *cmpl)
-        }
+        Statement::Put { .. } => put_row(alloc, out, statement),
+        Statement::Get { .. } => get_row(alloc, out, statement),
+        Statement::Putv { .. } => putv_row(alloc, out, statement),
+        Statement::Getv { .. } => getv_row(alloc, out, statement),
+        Statement::Rmw { .. } => rmw_row(alloc, out, statement),
+        Statement::Am { .. } => am_row(alloc, out, statement),
         Statement::Wait { counter, value } => {
-            put(out, b"waitcntr")?;
-            number(alloc, out, *counter)?;
-            number(alloc, out, *value)
+            word_with_two(alloc, out, b"waitcntr", *counter, *value)
         }
         Statement::Set { counter, value } => {
-            put(out, b"setcntr")?;
-            number(alloc, out, *counter)?;
-            number(alloc, out, *value)
+            word_with_two(alloc, out, b"setcntr", *counter, *value)
         }
         Statement::Read { counter } => {
             put(out, b"getcntr")?;

@@ -179,3 +179,18 @@ pub(crate) fn vector(alloc: Global, out: &mut Vec<u8>, vector: &Vector) -> Resul
         }
     }
 }
+
+/// A word and two numbers.
+pub(crate) fn word_with_two(
+    alloc: Global,
+    out: &mut Vec<u8>,
+    word: &[u8],
+    first: u32,
+    second: u32,
+) -> Result<(), Memory>
+    ensures { OnOk result (out.new.items ≡ out.old.items ++ (word.now ++ 32 ∷ (decimal first ++ 32 ∷ decimal second))) }
+{
+    put(out, word)?;
+    number(alloc, out, first)?;
+    number(alloc, out, second)
+}

@@ -37,7 +37,7 @@ impl Task {
         let Some(put) = put_at(script, self.number, i) else {
             unreachable!()
         };
-        self.copy(alloc, put, i)?;
+        self.copy(alloc, script.unit(), put, i)?;
         events.push(Event::Copy(MsgName {
             origin: self.number,
             statement: i,
@@ -46,9 +46,9 @@ impl Task {
     }
 
     /// Reads the bytes of a put, which have their numbers on its link from then on.
-    fn copy(&mut self, alloc: Global, put: Put, i: u32) -> Result<(), Memory>
-        requires { IsCopyable self.old put i }
-        ensures { OnOk result (IsCopied put i self.old self.new) }
+    fn copy(&mut self, alloc: Global, unit: u32, put: Put, i: u32) -> Result<(), Memory>
+        requires { IsCopyable unit self.old put i }
+        ensures { OnOk result (IsCopied unit put i self.old self.new) }
     {
         let source = Span {
             at: u64::from(put.from),
@@ -58,6 +58,7 @@ impl Task {
         append_put(
             alloc,
             sender,
+            unit,
             put,
             self.number,
             i,

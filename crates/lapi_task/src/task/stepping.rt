@@ -3,10 +3,12 @@ ghost use Rattle.std.specs.Prelude.{◌≡◌, ℕ, ◌+◌, ◌<◌, ◌^◌, �
 ghost use Rattle.std.specs.List.{AllByRecursion};
 ghost use Rattle.lapi_base.specs.Record.{Run, start, step};
 ghost use Rattle.lapi_base.specs.Seen.{no_rules};
+ghost use Rattle.lapi_base.specs.Layout.{window_of, unit_of};
 ghost use Rattle.lapi_link.specs.Sender.{IsFresh};
+ghost use Rattle.lapi_link.specs.Receiver.{IsBlank};
 ghost use Rattle.lapi_task.specs.Performed.{IsPerformed};
 ghost use Rattle.lapi_task.specs.StandsFor.{StandsFor};
-ghost use Rattle.lapi_task.specs.Steps.{Suits, IsRefused, IsIssued, IsPassed, IsBlocked, IsPast, IsBlank};
+ghost use Rattle.lapi_task.specs.Steps.{Suits, IsRefused, IsIssued, IsPassed, IsBlocked, IsPast};
 ghost use Rattle.lapi_task.specs.Does.{IsAt, IsAtSome, Does};
 
 use crate::outcome::Outcome;
@@ -29,8 +31,8 @@ impl Task {
     {
         let memory = TaskMemory::new(alloc, script.memory)?;
         let counters = Counters::new(alloc, script.counters)?;
-        let senders = senders(alloc, script.tasks)?;
-        let receivers = receivers(alloc, script.tasks)?;
+        let senders = senders(alloc, script)?;
+        let receivers = receivers(alloc, script)?;
         Ok(Task {
             number: task,
             next: 0,
@@ -132,25 +134,27 @@ impl Task {
     }
 }
 
-/// The sending ends of so many links.
-fn senders(alloc: Global, count: u32) -> Result<Vec<Sender>, Memory>
-    ensures { IfOk result (λ made. (length made.items ≡ count) × AllByRecursion IsFresh made.items) }
+/// The sending ends of the links to each task.
+fn senders(alloc: Global, script: &Script) -> Result<Vec<Sender>, Memory>
+    ensures count { IfOk result (λ made. length made.items ≡ script.now.tasks) }
+    ensures fresh { IfOk result (λ made. AllByRecursion (IsFresh (window_of script.now)) made.items) }
 {
     let mut senders = Vec::new(alloc);
-    for _task in 0..count {
-        let sender = Sender::new(alloc)?;
+    for _task in 0..script.tasks {
+        let sender = Sender::new(alloc, script.window())?;
         senders.push(sender)?;
     }
     Ok(senders)
 }
 
-/// The receiving ends of so many links.
-fn receivers(alloc: Global, count: u32) -> Result<Vec<Receiver>, Memory>
-    ensures { IfOk result (λ made. (length made.items ≡ count) × AllByRecursion IsBlank made.items) }
+/// The receiving ends of the links from each task.
+fn receivers(alloc: Global, script: &Script) -> Result<Vec<Receiver>, Memory>
+    ensures count { IfOk result (λ made. length made.items ≡ script.now.tasks) }
+    ensures blank { IfOk result (λ v. AllByRecursion (IsBlank (window_of script.now) (unit_of script.now)) v.items) }
 {
     let mut receivers = Vec::new(alloc);
-    for _task in 0..count {
-        let receiver = Receiver::new(alloc)?;
+    for _task in 0..script.tasks {
+        let receiver = Receiver::new(alloc, script.window(), script.unit())?;
         receivers.push(receiver)?;
     }
     Ok(receivers)

@@ -1,12 +1,14 @@
 use Rattle.std.proofs.Common.{◌∙◌}
 use Rattle.lapi_packet.proofs.Answering.{has_one, is_answer, has_none}
+use Rattle.lapi_packet.proofs.Equality.{same_packet}
 use Rattle.lapi_packet.proofs.validity.valid.Goals as goal
 
 pub returns-in-Ok : goal.returns-in-Ok
 returns-in-Ok c =
-    let written = c.as_slice.ensures.items ∙ c.write.ensures in (
-      λ same. has_one c.in-Ok.packet c.args.p.now c.as_slice.result.now (c.same_packet.ensures.0 same) c.in-Ok.ensures.found,
-      λ spelled. c.same_packet.ensures.1 (is_answer c.in-Ok.packet c.args.p.now c.as_slice.result.now written c.decode.result c.in-Ok.is (c.decode.ensures.only c.args.p.now) spelled),
+    let written = c.as_slice.ensures.items ∙ c.write.ensures in
+    let decides = same_packet c.in-Ok.packet c.args.p.now c.eq.result c.eq.ensures in (
+      λ same. has_one c.in-Ok.packet c.args.p.now c.as_slice.result.now (decides.0 same) c.in-Ok.ensures.found,
+      λ spelled. decides.1 (is_answer c.in-Ok.packet c.args.p.now c.as_slice.result.now written c.decode.result c.in-Ok.is (c.decode.ensures.only c.args.p.now) spelled),
     )
 
 pub returns-in-Err : goal.returns-in-Err

@@ -14,7 +14,7 @@ pub append-requires : goal.append-requires
 append-requires c =
     let put = c.args.put in
     let j = c.loop-fragment.fragment in
-    let lt : j < fragments_in 256 put.len = (let e = fragment-count put.len in let f = c.div_ceil.ensures in let g = c.max-fragment-end.ensures in let h = c.loop-fragment-test.true in subst (λ (k : ℕ). j < k) (g ∙ ap (λ (k : ℕ). max k 1) f ∙ e) h) in
+    let lt : j < fragments_in c.args.unit put.len = (let e = fragment-count c.args.unit put.len c.requires.unit.0 in let f = c.div_ceil.ensures in let g = c.max-fragment-end.ensures in let h = c.loop-fragment-test.true in subst (λ (k : ℕ). j < k) (g ∙ ap (λ (k : ℕ). max k 1) f ∙ e) h) in
     subst (λ (p : DataPacket). HasSpelling (Data p)) (sym (c.packet.ensures ∙ ap (put_packet put c.args.t c.args.i c.numbers-seq.result j) c.payload_of-payload.ensures)) (c.requires.spelled c.numbers-seq.result j c.numbers-seq.type_inv lt)
 
 pub loop-fragment-preserved : goal.loop-fragment-preserved
@@ -25,20 +25,20 @@ loop-fragment-preserved c =
     let s = c.args.sender.now in
     let bytes = c.args.bytes.now in
     let j = c.loop-fragment.fragment in
-    let f = put_bytes put t i s.window.numbers bytes in
+    let f = put_bytes c.args.unit put t i s.window.numbers bytes in
     let seq : c.numbers-seq.result ≡ s.window.numbers + j = c.numbers-seq.ensures ∙ ap (λ (w : _). w.numbers) c.window.ensures ∙ ap (λ (x : SendingEnd). x.window.numbers) c.loop-fragment.invariant ∙ extended-count s f j in
-    let packet : c.packet.result ≡ put_packet put t i (s.window.numbers + j) j (fragment_bytes 256 j bytes) = c.packet.ensures ∙ (λ k. put_packet put t i (seq k) j (c.payload_of-payload.ensures k)) in
+    let packet : c.packet.result ≡ put_packet put t i (s.window.numbers + j) j (fragment_bytes c.args.unit j bytes) = c.packet.ensures ∙ (λ k. put_packet put t i (seq k) j (c.payload_of-payload.ensures k)) in
     c.in_ok-append.ensures
     ∙ (λ k. appended (c.loop-fragment.invariant k) (written.packet (Data (packet k))))
     ∙ extended-more s f j
 
 pub loop-fragment-init : goal.loop-fragment-init
-loop-fragment-init c = extended-none c.args.sender.now (put_bytes c.args.put c.args.t c.args.i c.args.sender.now.window.numbers c.args.bytes.now)
+loop-fragment-init c = extended-none c.args.sender.now (put_bytes c.args.unit c.args.put c.args.t c.args.i c.args.sender.now.window.numbers c.args.bytes.now)
 
 pub returns : goal.returns
 returns c =
     let put = c.args.put in
     let s = c.args.sender.now in
-    let f = put_bytes put c.args.t c.args.i s.window.numbers c.args.bytes.now in
-    let end : c.max-fragment-end.result ≡ fragments_in 256 put.len = c.max-fragment-end.ensures ∙ ap (λ (k : ℕ). max k 1) c.div_ceil.ensures ∙ fragment-count put.len in
-    c.loop-fragment.invariant ∙ ap (λ (k : ℕ). extended s (map f (upto k))) (let e : c.loop-fragment.fragment ≡ fragments_in 256 put.len = omega (arith, c.loop-fragment-test.false, c.loop-fragment.auto.fragment-end, end) in e)
+    let f = put_bytes c.args.unit put c.args.t c.args.i s.window.numbers c.args.bytes.now in
+    let end : c.max-fragment-end.result ≡ fragments_in c.args.unit put.len = c.max-fragment-end.ensures ∙ ap (λ (k : ℕ). max k 1) c.div_ceil.ensures ∙ fragment-count c.args.unit put.len c.requires.unit.0 in
+    c.loop-fragment.invariant ∙ ap (λ (k : ℕ). extended s (map f (upto k))) (let e : c.loop-fragment.fragment ≡ fragments_in c.args.unit put.len = omega (arith, c.loop-fragment-test.false, c.loop-fragment.auto.fragment-end, end) in e)

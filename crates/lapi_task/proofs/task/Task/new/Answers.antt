@@ -3,7 +3,7 @@ use Rattle.lapi_task.proofs.NewStands.{new-stands}
 use Rattle.lapi_task.proofs.task.Task.new.Goals as goal
 
 pub returns : goal.returns
-returns c = new-stands c.args.script.now c.requires.script.valid c.args.task _ (record {
+returns c = new-stands c.args.script.now c.args.task _ (record {
   number = refl;
   next = refl;
   memory = c.in_ok-memory.ensures;
@@ -11,6 +11,6 @@ returns c = new-stands c.args.script.now c.requires.script.valid c.args.task _ (
   reads = c.new-3.ensures.items;
   refusals = c.new-4.ensures.items;
   uncopied = c.new-5.ensures.items;
-  senders = c.in_ok-senders.ensures;
-  receivers = c.in_ok-receivers.ensures;
+  senders = (c.in_ok-senders.ensures.count, c.in_ok-senders.ensures.fresh);
+  receivers = (c.in_ok-receivers.ensures.count, c.in_ok-receivers.ensures.blank);
 })
