@@ -18,6 +18,7 @@ use Rattle.lapi_base.specs.Atomic.{Atomic}
 use Rattle.lapi_base.specs.Below.{below}
 use Rattle.lapi_base.specs.Counters.{count, reads, tells, copy_tells, is_counter}
 use Rattle.lapi_base.specs.Entries.{carried}
+use Rattle.lapi_base.specs.Layout.{unit_of}
 use Rattle.lapi_base.specs.Fragments.{fragments_in, fragment_bytes}
 use Rattle.lapi_base.specs.Jobs.{runs}
 use Rattle.lapi_base.specs.Names.{message, name_eq, done, Issued, Copied}
