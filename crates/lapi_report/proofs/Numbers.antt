@@ -8,7 +8,8 @@ use Rattle.std.specs.List.{flat_map}
 use Rattle.std.specs.Io.KnownBytes.{Appends}
 use Rattle.lapi_base.specs.Below.{below}
 use Rattle.lapi_base.specs.Operations.{upto}
-use Rattle.lapi_report.specs.Written.{AppendsFront, Progress}
+use Rattle.lapi_io.specs.Writes.{AppendsFront}
+use Rattle.lapi_report.specs.Written.{Progress}
 use Rattle.lapi_report.proofs.Progress.{item_written, item_stops, is_done}
 
 pub upto_length : (n : ℕ) → length (upto n) ≡ n

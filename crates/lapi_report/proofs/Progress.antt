@@ -4,7 +4,8 @@ use Rattle.std.proofs.lemmas.List.{append-nil, drop_more}
 use Rattle.std.specs.Prelude.{IsErr}
 use Rattle.std.specs.List.{flat_map}
 use Rattle.std.specs.Io.KnownBytes.{Appends}
-use Rattle.lapi_report.specs.Written.{AppendsFront, Progress, Wrote, WroteUpTo}
+use Rattle.lapi_io.specs.Writes.{AppendsFront, Wrote}
+use Rattle.lapi_report.specs.Written.{Progress, WroteUpTo}
 
 pub nothing_appended : (old : Option (List ℕ)) → Appends old old []
 nothing_appended None = tt

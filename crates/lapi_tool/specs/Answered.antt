@@ -15,7 +15,7 @@ use Rattle.lapi_base.specs.Reading.{most_input, read}
 use Rattle.lapi_base.specs.ReportText.{report_text}
 use Rattle.lapi_base.specs.Rows.{Reads}
 use Rattle.lapi_base.specs.Seen.{no_rules}
-use Rattle.lapi_report.specs.Written.{AppendsFront}
+use Rattle.lapi_io.specs.Writes.{AppendsFront}
 
 -- all that was left was read; or, of a source with more bytes than an input may have, one byte more than those
 abbrev pub WasRead : (left rest : Option (List ℕ)) → List ℕ → Type 0

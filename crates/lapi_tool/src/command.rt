@@ -5,7 +5,7 @@ ghost use Rattle.lapi_base.specs.Answers.{input_answer};
 ghost use Rattle.lapi_base.specs.Commands as commands_of;
 ghost use Rattle.lapi_base.specs.Reading.{read};
 ghost use Rattle.lapi_io.specs.Causes.{Rose};
-ghost use Rattle.lapi_report.specs.Written.{Wrote};
+ghost use Rattle.lapi_io.specs.Writes.{Wrote};
 ghost use Rattle.lapi_tool.specs.Answered.{IsAnswered, IsReported, Gives, refused_answer};
 
 use crate::fault::{status_of, write_fault};

@@ -3,7 +3,7 @@ ghost use Rattle.lapi_base.specs.Answers.{view_text};
 ghost use Rattle.lapi_base.specs.Built.{IsBuilt};
 ghost use Rattle.lapi_base.specs.Spelling.{spells_packet};
 ghost use Rattle.lapi_base.specs.Valid.{ValidScript, ValidSchedule};
-ghost use Rattle.lapi_report.specs.Written.{HasWriteCause, Wrote};
+ghost use Rattle.lapi_report.specs.Written.{WritesWithMemory};
 ghost use Rattle.lapi_tool.specs.Shown.{world_text};
 
 use crate::counts::write_counts;
@@ -25,9 +25,7 @@ pub fn write_view<K: Sink>(
     requires script { ValidScript input.script }
     requires schedule { ValidSchedule input.script spells_packet input.schedule }
     requires built { IsBuilt input }
-    ensures text { Wrote (K.held sink.old) (K.held sink.new) (view_text view input) result }
-    ensures cause { HasWriteCause (K.faults sink.old) (K.faults sink.new) result }
-    ensures room { K.room sink.new ≡ K.room sink.old }
+    ensures { WritesWithMemory K.held K.faults K.room sink.old sink.new (view_text view input) result }
 {
     match view {
         View::Counts => write_counts(alloc, &input, sink),
@@ -46,9 +44,7 @@ fn write_performed<K: Sink>(
     requires script { ValidScript input.script }
     requires schedule { ValidSchedule input.script spells_packet input.schedule }
     requires built { IsBuilt input }
-    ensures text { Wrote (K.held sink.old) (K.held sink.new) (view_text view input) result }
-    ensures cause { HasWriteCause (K.faults sink.old) (K.faults sink.new) result }
-    ensures room { K.room sink.new ≡ K.room sink.old }
+    ensures { WritesWithMemory K.held K.faults K.room sink.old sink.new (view_text view input) result }
 {
     lines_are_taken();
     let world = performed(alloc, input)?;
@@ -58,9 +54,7 @@ fn write_performed<K: Sink>(
 /// Writes what is asked of a world.
 fn write_world<K: Sink>(view: View, world: &World, sink: &mut K) -> Result<(), WriteFault>
     requires { world.now.spent ≡ false }
-    ensures text { Wrote (K.held sink.old) (K.held sink.new) (world_text view world.now) result }
-    ensures cause { HasWriteCause (K.faults sink.old) (K.faults sink.new) result }
-    ensures room { K.room sink.new ≡ K.room sink.old }
+    ensures { WritesWithMemory K.held K.faults K.room sink.old sink.new (world_text view world.now) result }
 {
     match view {
         View::Report => write_report(world, sink),
