@@ -17,10 +17,8 @@ pub fn write_journal<K: Sink>(world: &World, sink: &mut K) -> Result<(), WriteFa
     ensures written { Writes K.held K.faults K.room sink.old sink.new (journal_text (seen_record world.now)) result }
     ensures only_failed { IfErr result (λ fault. fault ≡ WriteFault.Failed) }
 {
-    match write_events(world.journal(), sink) {
-        Ok(()) => Ok(()),
-        Err(Failed) => Err(WriteFault::Failed),
-    }
+    write_events(world.journal(), sink)?;
+    Ok(())
 }
 
 pub(crate) fn write_events<K: Sink>(events: &[Event], sink: &mut K) -> Result<(), Failed>

@@ -6,7 +6,7 @@ use crate::head::{add_head, head_name};
 use crate::parts::{add_message, reason_name, reason_number};
 use crate::text_line::TextLine;
 use lapi_base::{Bad, DataPacket, Packet, WriteFault};
-use lapi_io::{Failed, Sink};
+use lapi_io::Sink;
 use lapi_packet::decode;
 
 /// Writes the fields of the packet that the bytes spell, or why they spell none. It takes no memory.
@@ -17,10 +17,8 @@ pub fn write_packet<K: Sink>(bytes: &[u8], sink: &mut K) -> Result<(), WriteFaul
 {
     let mut line = TextLine::new();
     fill(bytes, &mut line);
-    match line.write(sink) {
-        Ok(()) => Ok(()),
-        Err(Failed) => Err(WriteFault::Failed),
-    }
+    line.write(sink)?;
+    Ok(())
 }
 
 #[tactic(auto, unfolding(lapi_base::specs::PacketText::packet_text))]

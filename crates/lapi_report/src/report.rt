@@ -19,10 +19,8 @@ pub fn write_report<K: Sink>(world: &World, sink: &mut K) -> Result<(), WriteFau
         (report_text world.now.script world.now.rules (seen_record world.now) (length world.now.taken)) result }
     ensures only_failed { IfErr result (λ fault. fault ≡ WriteFault.Failed) }
 {
-    match write_parts(world, sink) {
-        Ok(()) => Ok(()),
-        Err(Failed) => Err(WriteFault::Failed),
-    }
+    write_parts(world, sink)?;
+    Ok(())
 }
 
 #[tactic(auto, unfolding(lapi_base::specs::ReportText::report_text))]

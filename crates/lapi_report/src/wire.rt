@@ -16,10 +16,8 @@ pub fn write_wire<K: Sink>(world: &World, sink: &mut K) -> Result<(), WriteFault
         (wire_text world.now.script (seen_record world.now)) result }
     ensures only_failed { IfErr result (λ fault. fault ≡ WriteFault.Failed) }
 {
-    match write_wires(world, sink) {
-        Ok(()) => Ok(()),
-        Err(Failed) => Err(WriteFault::Failed),
-    }
+    write_wires(world, sink)?;
+    Ok(())
 }
 
 #[tactic(auto, unfolding(lapi_base::specs::WireText::wire_text))]

@@ -8,8 +8,6 @@ use lapi_io::{Sink, write_all};
 pub fn write_text<K: Sink>(text: &str, sink: &mut K) -> Result<(), WriteFault>
     ensures { WritesWithMemory K.held K.faults K.room sink.old sink.new text.now result }
 {
-    match write_all(sink, text.as_bytes()) {
-        Ok(()) => Ok(()),
-        Err(_) => Err(WriteFault::Failed),
-    }
+    write_all(sink, text.as_bytes())?;
+    Ok(())
 }
