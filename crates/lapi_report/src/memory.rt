@@ -12,8 +12,9 @@ use lapi_io::{Failed, Sink};
 pub(crate) fn write_memory<K: Sink>(t: u32, bytes: &[u8], sink: &mut K) -> Result<(), Failed>
     ensures { Writes K.held K.faults K.room sink.old sink.new (memory_text t bytes.now) result }
 {
+    let mut line = TextLine::new();
     for k in 0..bytes.len().div_ceil(16) {
-        write_row(t, 16 * k, row_at(bytes, 16 * k), sink)?;
+        write_row(t, 16 * k, row_at(bytes, 16 * k), &mut line, sink)?;
     }
     Ok(())
 }
@@ -35,14 +36,19 @@ fn is_zero(row: &[u8]) -> bool
     row.iter().all(|byte| *byte == 0)
 }
 
-fn write_row<K: Sink>(t: u32, at: usize, row: &[u8], sink: &mut K) -> Result<(), Failed>
+fn write_row<K: Sink>(
+    t: u32,
+    at: usize,
+    row: &[u8],
+    line: &mut TextLine,
+    sink: &mut K,
+) -> Result<(), Failed>
     requires { length row.now ≤ 16 }
     ensures { Writes K.held K.faults K.room sink.old sink.new (row_text t at row.now) result }
 {
     if is_zero(row) {
         return Ok(());
     }
-    let mut line = TextLine::new();
     line.begin("memory ");
     line.number(u64::from(t));
     line.text(" ");

@@ -175,20 +175,26 @@ fn write_counters<K: Sink>(world: &World, t: u32, sink: &mut K) -> Result<(), Fa
         (counters_text world.now.script world.now.rules (seen_record world.now) t) result }
 {
     let task = world.task(t);
+    let mut line = TextLine::new();
     for c in 0..world.script().counters {
-        write_counter(t, c, task.counter(c), sink)?;
+        write_counter(t, c, task.counter(c), &mut line, sink)?;
     }
     Ok(())
 }
 
 /// A counter's line, where it is above 0.
-fn write_counter<K: Sink>(t: u32, c: u32, value: u64, sink: &mut K) -> Result<(), Failed>
+fn write_counter<K: Sink>(
+    t: u32,
+    c: u32,
+    value: u64,
+    line: &mut TextLine,
+    sink: &mut K,
+) -> Result<(), Failed>
     ensures { Writes K.held K.faults K.room sink.old sink.new (counter_text t c value) result }
 {
     if value == 0 {
         return Ok(());
     }
-    let mut line = TextLine::new();
     line.begin("counter ");
     line.number(u64::from(t));
     line.text(" ");

@@ -33,31 +33,43 @@ pub(crate) fn write_lines<K: Sink>(
     ensures { Writes K.held K.faults K.room sink.old sink.new
         (trace_text schedule.now taken.now replies.now) result }
 {
+    let mut text = TextLine::new();
     for (n, reply) in taken.iter().zip(replies) {
-        write_taken(schedule, *n, *reply, sink)?;
+        write_taken(schedule, *n, *reply, &mut text, sink)?;
     }
     Ok(())
 }
 
 /// Line `n` of the schedule and its reply.
-fn write_taken<K: Sink>(schedule: &[Line], n: u32, reply: Reply, sink: &mut K) -> Result<(), Failed>
+fn write_taken<K: Sink>(
+    schedule: &[Line],
+    n: u32,
+    reply: Reply,
+    text: &mut TextLine,
+    sink: &mut K,
+) -> Result<(), Failed>
     ensures { Writes K.held K.faults K.room sink.old sink.new (taken_text schedule.now (n, reply)) result }
 {
     match schedule.get(n as usize) {
-        Some(line) => write_line(line, reply, sink),
+        Some(line) => write_line(line, reply, text, sink),
         None => Ok(()),
     }
 }
 
-fn write_line<K: Sink>(line: &Line, reply: Reply, sink: &mut K) -> Result<(), Failed>
+fn write_line<K: Sink>(
+    line: &Line,
+    reply: Reply,
+    text: &mut TextLine,
+    sink: &mut K,
+) -> Result<(), Failed>
     ensures { Writes K.held K.faults K.room sink.old sink.new (trace_line line.now reply) result }
 {
-    let mut text = TextLine::new();
+    text.begin("");
     text.number(u64::from(line.lane));
     text.text(" ");
-    add_act(&line.act, &mut text, sink)?;
+    add_act(&line.act, text, sink)?;
     text.text(" : ");
-    add_reply(reply, &mut text);
+    add_reply(reply, text);
     text.text("\n");
     text.write(sink)
 }
