@@ -4,7 +4,7 @@ ghost use Rattle.lapi_base.specs.JournalText.{event_line, journal_text};
 ghost use Rattle.lapi_base.specs.Seen.{seen_record};
 ghost use Rattle.lapi_io.specs.Writes.{Writes};
 
-use crate::event;
+use crate::event::event_line;
 use crate::text_line::TextLine;
 use lapi_base::{Event, WriteFault};
 use lapi_io::{Failed, Sink};
@@ -26,7 +26,7 @@ pub(crate) fn write_events<K: Sink>(events: &[Event], sink: &mut K) -> Result<()
 {
     let mut line = TextLine::new();
     for event in events {
-        event::fill(*event, &mut line);
+        event_line(*event, &mut line);
         line.write(sink)?;
     }
     Ok(())
