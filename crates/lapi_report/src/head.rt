@@ -181,20 +181,8 @@ fn add_operation(op: RmwOp, at: u32, line: &mut TextLine)
     ensures room { length line.new ≤ length line.old + 50 }
 {
     line.text(" operation ");
-    line.text(operation_word(op));
+    line.text(op.word());
     add_number(" at ", at, line);
-}
-
-fn operation_word(op: RmwOp) -> &'static str
-    ensures name { result.now ≡ operation_word op }
-    ensures short { length result.now ≤ 4 }
-{
-    match op {
-        RmwOp::Add => "add",
-        RmwOp::Or => "or",
-        RmwOp::Swap => "swap",
-        RmwOp::Cas => "cas",
-    }
 }
 
 fn add_am(
