@@ -6,5 +6,5 @@ use Rattle.lapi_tool.proofs.views.write_performed.Goals as goal
 pub returns : goal.returns
 returns g c =
     subst (λ text. WritesWithMemory g.K.Sink.held g.K.Sink.faults g.K.Sink.room c.args.sink.now c.write_world.new.sink text c.write_world.result)
-    (world_texts c.args.view c.args.input c.in_ok-world.world c.in_ok-world.ensures c.requires.view c.lines_are_taken.ensures.whole)
+    (world_texts c.args.view c.args.input c.in_ok-world.world c.in_ok-world.ensures c.lines_are_taken.ensures.whole)
     c.write_world.ensures
