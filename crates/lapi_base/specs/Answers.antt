@@ -4,7 +4,7 @@ use Rattle.std.specs.List.{sum}
 use Rattle.std.specs.Fmt.{decimal}
 use Rattle.lapi_base.specs.declared.command.Command.{Command}
 use Rattle.lapi_base.specs.declared.command.View.{View}
-use Rattle.lapi_base.specs.declared.command.View.TheVariants.{Report, Journal, Wires, Trace, Counts}
+use Rattle.lapi_base.specs.declared.command.View.TheVariants.{Report, Journal, Wires, Trace}
 use Rattle.lapi_base.specs.declared.input.Input.{Input}
 use Rattle.lapi_base.specs.declared.input.Which.{Which}
 use Rattle.lapi_base.specs.declared.input.Which.TheVariants as which
@@ -56,7 +56,7 @@ abbrev pub fault_answer : Fault → Answer
 fault_answer (Syntax, line) = record { status = status.Syntax; text = codes "syntax " ++ decimal line ++ codes "\n" }
 fault_answer (Limit w, line) = record { status = status.Limit; text = codes "limit " ++ which_name w ++ codes " " ++ decimal line ++ codes "\n" }
 
--- What is written of an input: of the record of all its lines in order, or its counts alone.
+-- What is written of an input: its counts alone, or of the record of all its lines in order.
 abbrev pub recorded : Input → Run
 recorded x = record_of_all x.script no_rules x.schedule
 
@@ -72,8 +72,7 @@ view_text Report x = report_text x.script no_rules (recorded x) (length x.schedu
 view_text Journal x = journal_text (recorded x)
 view_text Wires x = wire_text x.script (recorded x)
 view_text Trace x = trace_text x.schedule (upto (length x.schedule)) (recorded x).replies
-view_text Counts x = counts_text x
 
-abbrev pub input_answer : View → Result Input Fault → Answer
-input_answer view (Ok x) = record { status = status.Ok; text = view_text view x }
-input_answer view (Err fault) = fault_answer fault
+abbrev pub input_answer : (text : Input → List ℕ) → Result Input Fault → Answer
+input_answer text (Ok x) = record { status = status.Ok; text = text x }
+input_answer text (Err fault) = fault_answer fault

@@ -1,6 +1,6 @@
 use crate::bytes::Bytes;
 
-/// What is written of an input.
+/// What is written of the record of all lines of an input.
 #[derive(Clone, Copy, Debug, Eq, PartialEq)]
 pub enum View {
     /// How far the lines have come: counts, tasks with counters and memory, and quiet.
@@ -11,8 +11,6 @@ pub enum View {
     Wires,
     /// Each line with its reply.
     Trace,
-    /// How many tasks, statements and lines there are; no line is performed.
-    Counts,
 }
 
 /// What the words of a command ask for.
@@ -20,6 +18,8 @@ pub enum View {
 pub enum Command {
     /// To read an input, and to write this of it.
     Read(View),
+    /// To read an input, and to write how many tasks, statements and lines it has; no line is performed.
+    Check,
     /// To show the packet that these bytes spell.
     Show(Bytes),
 }

@@ -20,6 +20,24 @@ pub enum RmwOp {
     Cas,
 }
 
+impl RmwOp {
+    ghost use Rattle.std.specs.Prelude.{◌≡◌, ◌≤◌, length};
+    ghost use Rattle.lapi_base.specs.Rows.{operation_word};
+
+    /// Its word in a text.
+    pub fn word(self) -> &'static str
+        ensures name { result.now ≡ operation_word self }
+        ensures short { length result.now ≤ 4 }
+    {
+        match self {
+            RmwOp::Add => "add",
+            RmwOp::Or => "or",
+            RmwOp::Swap => "swap",
+            RmwOp::Cas => "cas",
+        }
+    }
+}
+
 /// One call of a task. `tgt`, `org` and `cmpl` name the target, origin and completion counter.
 #[derive(Debug, Drop)]
 pub enum Statement {

@@ -4,3 +4,4 @@ pub mod MemSource
 pub mod StdSink
 pub mod StdSource
 pub mod SureRoom
+pub mod Writes

@@ -1,7 +1,8 @@
-ghost use Rattle.std.specs.Prelude.{◌≡◌, ◌<◌, ◌++◌, ℕ, List, Option, Some, IfOk, OnOk, OnErr, length};
+ghost use Rattle.std.specs.Prelude.{◌≡◌, ◌<◌, ℕ, List, Option, Some, IfOk, length};
 ghost use Rattle.std.specs.Io.{WritesAtMost};
-ghost use Rattle.std.specs.Io.KnownBytes.{WriteAppends, Appends};
+ghost use Rattle.std.specs.Io.KnownBytes.{WriteAppends};
 ghost use Rattle.lapi_io.specs.Causes.{HasCause};
+ghost use Rattle.lapi_io.specs.Writes.{Writes};
 
 use crate::source::Failed;
 
@@ -30,10 +31,7 @@ pub trait Sink {
 
 /// Appends the whole piece, or a front of it where a write failed.
 pub fn write_all<K: Sink>(sink: &mut K, piece: &[u8]) -> Result<(), Failed>
-    ensures ok { OnOk result (Appends (K.held sink.old) (K.held sink.new) piece.now) }
-    ensures err { OnErr result ((front : List ℕ) × (rest : List ℕ) × (piece.now ≡ front ++ rest) × Appends (K.held sink.old) (K.held sink.new) front) }
-    ensures cause { HasCause (K.faults sink.old) (K.faults sink.new) result }
-    ensures room { K.room sink.new ≡ K.room sink.old }
+    ensures { Writes K.held K.faults K.room sink.old sink.new piece.now result }
 {
     let mut rest = piece;
     while !rest.is_empty() {

@@ -4,13 +4,23 @@ ghost use Rattle.std.specs.Io.KnownBytes.{ReadConsumes, Consumes, IsAtEnd};
 ghost use Rattle.lapi_io.specs.Causes.{HasCause, Rose};
 ghost use Rattle.lapi_io.specs.declared.source.ReadAll.TheVariants.{Memory};
 
-use lapi_base::LONGEST_INPUT;
+use lapi_base::{LONGEST_INPUT, WriteFault};
 use std::alloc::{AllocError, Global};
 use std::cmp;
 
 /// The answer to a read or a write that failed.
 #[derive(Clone, Copy, Debug, Eq, PartialEq)]
 pub struct Failed;
+
+impl From<Failed> for WriteFault {
+    ghost use Rattle.lapi_base.specs.declared.status.WriteFault.TheVariants as faults;
+
+    ghost from_gives = { λ _ fault. fault ≡ faults.Failed };
+
+    fn from(_error: Failed) -> WriteFault {
+        WriteFault::Failed
+    }
+}
 
 /// What bytes are read from.
 pub trait Source {

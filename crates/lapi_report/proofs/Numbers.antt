@@ -5,7 +5,8 @@ use Rattle.std.specs.List.{flat_map}
 use Rattle.std.specs.Io.KnownBytes.{Appends}
 use Rattle.lapi_base.specs.Operations.{upto}
 use Rattle.lapi_base.proofs.UptoLaws.{upto-length, upto_at}
-use Rattle.lapi_report.specs.Written.{AppendsFront, Progress}
+use Rattle.lapi_io.specs.Writes.{AppendsFront}
+use Rattle.lapi_report.specs.Written.{Progress}
 use Rattle.lapi_report.proofs.Progress.{item_written, item_stops, is_done}
 
 below_length : (n i : ℕ) → i < n → i < length (upto n)

@@ -5,7 +5,8 @@ use Rattle.std.specs.Prelude.{IsErr}
 use Rattle.std.specs.List.{flat_map}
 use Rattle.std.specs.Io.KnownBytes.{Appends}
 use Rattle.lapi_base.proofs.Appended.{appended_twice, nothing_appended}
-use Rattle.lapi_report.specs.Written.{AppendsFront, Progress, Wrote, WroteUpTo}
+use Rattle.lapi_io.specs.Writes.{AppendsFront, Wrote}
+use Rattle.lapi_report.specs.Written.{Progress, WroteUpTo}
 
 pub starts : (old : Option (List ℕ)) (text : List ℕ) → Progress old old text text
 starts old text = record { front = []; appended = nothing_appended old; whole = refl }

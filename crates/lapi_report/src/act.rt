@@ -3,8 +3,7 @@
 ghost use Rattle.std.specs.Prelude.{◌≡◌, ◌≤◌, ◌+◌, ◌++◌, length, codes};
 ghost use Rattle.std.specs.Fmt.{decimal};
 ghost use Rattle.lapi_base.specs.Rows.{act_row, row_line};
-ghost use Rattle.lapi_io.specs.Causes.{HasCause};
-ghost use Rattle.lapi_report.specs.Written.{WroteUpTo};
+ghost use Rattle.lapi_report.specs.Written.{WritesUpTo};
 
 use crate::text_line::TextLine;
 use lapi_base::{Act, Bytes};
@@ -13,10 +12,9 @@ use lapi_io::{Failed, Sink};
 /// Adds the words of an act. Of bytes for which there is no room, the first are written at once.
 pub(crate) fn add_act<K: Sink>(act: &Act, line: &mut TextLine, sink: &mut K) -> Result<(), Failed>
     requires { length line.old ≤ 100 }
-    ensures text { WroteUpTo (K.held sink.old) (K.held sink.new) (line.old ++ row_line (act_row act.now)) line.new result }
+    ensures written { WritesUpTo K.held K.faults K.room sink.old sink.new
+        (line.old ++ row_line (act_row act.now)) line.new result }
     ensures short { length line.new ≤ 2048 }
-    ensures cause { HasCause (K.faults sink.old) (K.faults sink.new) result }
-    ensures room { K.room sink.new ≡ K.room sink.old }
 {
     match act {
         Act::Step(t) => add_one("step ", *t, line),
@@ -51,10 +49,9 @@ fn add_inject<K: Sink>(
     sink: &mut K,
 ) -> Result<(), Failed>
     requires { length line.old ≤ 100 }
-    ensures text { WroteUpTo (K.held sink.old) (K.held sink.new) (line.old ++ row_line (act_row (Act.Inject a b bytes.now))) line.new result }
+    ensures written { WritesUpTo K.held K.faults K.room sink.old sink.new
+        (line.old ++ row_line (act_row (Act.Inject a b bytes.now))) line.new result }
     ensures short { length line.new ≤ 2048 }
-    ensures cause { HasCause (K.faults sink.old) (K.faults sink.new) result }
-    ensures room { K.room sink.new ≡ K.room sink.old }
 {
     add_two("inject ", a, b, line);
     line.text(" ");

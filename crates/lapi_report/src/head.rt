@@ -55,10 +55,7 @@ pub(crate) fn add_head(head: &Head, line: &mut TextLine)
             tgt,
             org,
         } => add_get_go(*asked, *source, *dest, *tgt, *org, line),
-        Head::GetBack { dest, org } | Head::RmwBack { dest, org } => {
-            add_number(" dest ", *dest, line);
-            add_counter(" org ", *org, line);
-        }
+        Head::GetBack { dest, org } | Head::RmwBack { dest, org } => add_back(*dest, *org, line),
         Head::Putv { tgt, cmpl, pieces } => add_putv(*tgt, *cmpl, pieces, line),
         Head::GetvGo {
             tgt,
@@ -84,16 +81,10 @@ pub(crate) fn add_head(head: &Head, line: &mut TextLine)
             cmpl,
             header,
         } => add_am(*handler, *tgt, *cmpl, header, line),
-        Head::Echo { dest, cmpl } => {
-            add_number(" dest ", *dest, line);
-            add_counter(" cmpl ", *cmpl, line);
-        }
+        Head::Echo { dest, cmpl } => add_echo(*dest, *cmpl, line),
         Head::Note { cmpl, .. } => add_number(" cmpl ", *cmpl, line),
         Head::Gfence { round } => add_number(" round ", *round, line),
-        Head::Addr { round, address } => {
-            add_number(" round ", *round, line);
-            add_number(" address ", *address, line);
-        }
+        Head::Addr { round, address } => add_addr(*round, *address, line),
     }
 }
 
@@ -123,6 +114,16 @@ fn add_get_go(
     add_number(" source ", source, line);
     add_number(" dest ", dest, line);
     add_counter(" tgt ", tgt, line);
+    add_counter(" org ", org, line);
+}
+
+/// What comes back of a get or a read-modify-write.
+fn add_back(dest: u32, org: Option<u32>, line: &mut TextLine)
+    requires { length line.old + 200 ≤ 4096 }
+    ensures text { line.new ≡ line.old ++ (codes " dest " ++ decimal dest ++ codes " org " ++ counter_word org) }
+    ensures room { length line.new ≤ length line.old + 200 }
+{
+    add_number(" dest ", dest, line);
     add_counter(" org ", org, line);
 }
 
@@ -180,20 +181,8 @@ fn add_operation(op: RmwOp, at: u32, line: &mut TextLine)
     ensures room { length line.new ≤ length line.old + 50 }
 {
     line.text(" operation ");
-    line.text(operation_word(op));
+    line.text(op.word());
     add_number(" at ", at, line);
-}
-
-fn operation_word(op: RmwOp) -> &'static str
-    ensures name { result.now ≡ operation_word op }
-    ensures short { length result.now ≤ 4 }
-{
-    match op {
-        RmwOp::Add => "add",
-        RmwOp::Or => "or",
-        RmwOp::Swap => "swap",
-        RmwOp::Cas => "cas",
-    }
 }
 
 fn add_am(
@@ -212,6 +201,24 @@ fn add_am(
     add_counter(" cmpl ", cmpl, line);
     line.text(" header ");
     line.optional_hex(header.as_slice());
+}
+
+fn add_echo(dest: u32, cmpl: Option<u32>, line: &mut TextLine)
+    requires { length line.old + 200 ≤ 4096 }
+    ensures text { line.new ≡ line.old ++ head_text (Head.Echo dest cmpl) }
+    ensures room { length line.new ≤ length line.old + 200 }
+{
+    add_number(" dest ", dest, line);
+    add_counter(" cmpl ", cmpl, line);
+}
+
+fn add_addr(round: u32, address: u32, line: &mut TextLine)
+    requires { length line.old + 200 ≤ 4096 }
+    ensures text { line.new ≡ line.old ++ head_text (Head.Addr round address) }
+    ensures room { length line.new ≤ length line.old + 200 }
+{
+    add_number(" round ", round, line);
+    add_number(" address ", address, line);
 }
 
 /// A field's name and its number.

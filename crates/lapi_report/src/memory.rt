@@ -3,20 +3,18 @@
 ghost use Rattle.std.specs.Prelude.{◌≡◌, ◌==◌, ◌*◌, ◌≤◌, length, take, drop};
 ghost use Rattle.std.specs.List.{list_all};
 ghost use Rattle.lapi_base.specs.ReportText.{row_text, memory_text};
-ghost use Rattle.lapi_io.specs.Causes.{HasCause};
-ghost use Rattle.lapi_report.specs.Written.{Wrote};
+ghost use Rattle.lapi_io.specs.Writes.{Writes};
 
 use crate::text_line::TextLine;
 use lapi_io::{Failed, Sink};
 
 /// A line for each 16 bytes that aren't all zero; the last of them may be fewer.
 pub(crate) fn write_memory<K: Sink>(t: u32, bytes: &[u8], sink: &mut K) -> Result<(), Failed>
-    ensures text { Wrote (K.held sink.old) (K.held sink.new) (memory_text t bytes.now) result }
-    ensures cause { HasCause (K.faults sink.old) (K.faults sink.new) result }
-    ensures room { K.room sink.new ≡ K.room sink.old }
+    ensures { Writes K.held K.faults K.room sink.old sink.new (memory_text t bytes.now) result }
 {
+    let mut line = TextLine::new();
     for k in 0..bytes.len().div_ceil(16) {
-        write_row(t, 16 * k, row_at(bytes, 16 * k), sink)?;
+        write_row(t, 16 * k, row_at(bytes, 16 * k), &mut line, sink)?;
     }
     Ok(())
 }
@@ -38,16 +36,19 @@ fn is_zero(row: &[u8]) -> bool
     row.iter().all(|byte| *byte == 0)
 }
 
-fn write_row<K: Sink>(t: u32, at: usize, row: &[u8], sink: &mut K) -> Result<(), Failed>
+fn write_row<K: Sink>(
+    t: u32,
+    at: usize,
+    row: &[u8],
+    line: &mut TextLine,
+    sink: &mut K,
+) -> Result<(), Failed>
     requires { length row.now ≤ 16 }
-    ensures text { Wrote (K.held sink.old) (K.held sink.new) (row_text t at row.now) result }
-    ensures cause { HasCause (K.faults sink.old) (K.faults sink.new) result }
-    ensures room { K.room sink.new ≡ K.room sink.old }
+    ensures { Writes K.held K.faults K.room sink.old sink.new (row_text t at row.now) result }
 {
     if is_zero(row) {
         return Ok(());
     }
-    let mut line = TextLine::new();
     line.begin("memory ");
     line.number(u64::from(t));
     line.text(" ");

@@ -1,28 +1,24 @@
 ghost use Rattle.std.specs.Prelude.{◌≡◌, ◌≤◌, length, IfErr};
 ghost use Rattle.lapi_base.specs.PacketText.{data_front, packet_line, bad_line, packet_text};
-ghost use Rattle.lapi_report.specs.Written.{Wrote, HasWriteCause};
+ghost use Rattle.lapi_io.specs.Writes.{Writes};
 
 use crate::head::{add_head, head_name};
 use crate::parts::{add_message, reason_name, reason_number};
 use crate::text_line::TextLine;
 use lapi_base::{Bad, DataPacket, Packet, WriteFault};
-use lapi_io::{Failed, Sink};
+use lapi_io::Sink;
 use lapi_packet::decode;
 
 /// Writes the fields of the packet that the bytes spell, or why they spell none. It takes no memory.
 #[tactic(auto, unfolding(lapi_base::specs::PacketText::packet_text))]
 pub fn write_packet<K: Sink>(bytes: &[u8], sink: &mut K) -> Result<(), WriteFault>
-    ensures text { Wrote (K.held sink.old) (K.held sink.new) (packet_text bytes.now) result }
-    ensures cause { HasWriteCause (K.faults sink.old) (K.faults sink.new) result }
+    ensures written { Writes K.held K.faults K.room sink.old sink.new (packet_text bytes.now) result }
     ensures only_failed { IfErr result (λ fault. fault ≡ WriteFault.Failed) }
-    ensures room { K.room sink.new ≡ K.room sink.old }
 {
     let mut line = TextLine::new();
     fill(bytes, &mut line);
-    match line.write(sink) {
-        Ok(()) => Ok(()),
-        Err(Failed) => Err(WriteFault::Failed),
-    }
+    line.write(sink)?;
+    Ok(())
 }
 
 #[tactic(auto, unfolding(lapi_base::specs::PacketText::packet_text))]

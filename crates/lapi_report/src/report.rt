@@ -3,8 +3,7 @@ ghost use Rattle.std.specs.List.{flat_map};
 ghost use Rattle.lapi_base.specs.Operations.{upto};
 ghost use Rattle.lapi_base.specs.ReportText.{totals_text, task_text, quiet_line, report_text};
 ghost use Rattle.lapi_base.specs.Seen.{seen_record};
-ghost use Rattle.lapi_io.specs.Causes.{HasCause};
-ghost use Rattle.lapi_report.specs.Written.{Wrote, HasWriteCause};
+ghost use Rattle.lapi_io.specs.Writes.{Writes};
 
 use crate::task::write_task;
 use crate::text_line::TextLine;
@@ -16,23 +15,19 @@ use lapi_world::World;
 /// It takes no memory.
 pub fn write_report<K: Sink>(world: &World, sink: &mut K) -> Result<(), WriteFault>
     requires { world.now.spent ≡ false }
-    ensures text { Wrote (K.held sink.old) (K.held sink.new) (report_text world.now.script world.now.rules (seen_record world.now) (length world.now.taken)) result }
-    ensures cause { HasWriteCause (K.faults sink.old) (K.faults sink.new) result }
+    ensures written { Writes K.held K.faults K.room sink.old sink.new
+        (report_text world.now.script world.now.rules (seen_record world.now) (length world.now.taken)) result }
     ensures only_failed { IfErr result (λ fault. fault ≡ WriteFault.Failed) }
-    ensures room { K.room sink.new ≡ K.room sink.old }
 {
-    match write_parts(world, sink) {
-        Ok(()) => Ok(()),
-        Err(Failed) => Err(WriteFault::Failed),
-    }
+    write_parts(world, sink)?;
+    Ok(())
 }
 
 #[tactic(auto, unfolding(lapi_base::specs::ReportText::report_text))]
 fn write_parts<K: Sink>(world: &World, sink: &mut K) -> Result<(), Failed>
     requires { world.now.spent ≡ false }
-    ensures text { Wrote (K.held sink.old) (K.held sink.new) (report_text world.now.script world.now.rules (seen_record world.now) (length world.now.taken)) result }
-    ensures cause { HasCause (K.faults sink.old) (K.faults sink.new) result }
-    ensures room { K.room sink.new ≡ K.room sink.old }
+    ensures { Writes K.held K.faults K.room sink.old sink.new
+        (report_text world.now.script world.now.rules (seen_record world.now) (length world.now.taken)) result }
 {
     write_totals(world, sink)?;
     write_tasks(world, sink)?;
@@ -41,9 +36,8 @@ fn write_parts<K: Sink>(world: &World, sink: &mut K) -> Result<(), Failed>
 
 fn write_totals<K: Sink>(world: &World, sink: &mut K) -> Result<(), Failed>
     requires { world.now.spent ≡ false }
-    ensures text { Wrote (K.held sink.old) (K.held sink.new) (totals_text (length world.now.taken) (length (seen_record world.now).journal)) result }
-    ensures cause { HasCause (K.faults sink.old) (K.faults sink.new) result }
-    ensures room { K.room sink.new ≡ K.room sink.old }
+    ensures { Writes K.held K.faults K.room sink.old sink.new
+        (totals_text (length world.now.taken) (length (seen_record world.now).journal)) result }
 {
     let mut line = TextLine::new();
     line.begin("lines ");
@@ -56,9 +50,9 @@ fn write_totals<K: Sink>(world: &World, sink: &mut K) -> Result<(), Failed>
 
 fn write_tasks<K: Sink>(world: &World, sink: &mut K) -> Result<(), Failed>
     requires { world.now.spent ≡ false }
-    ensures text { Wrote (K.held sink.old) (K.held sink.new) (flat_map (task_text world.now.script world.now.rules (seen_record world.now)) (upto world.now.script.tasks)) result }
-    ensures cause { HasCause (K.faults sink.old) (K.faults sink.new) result }
-    ensures room { K.room sink.new ≡ K.room sink.old }
+    ensures { Writes K.held K.faults K.room sink.old sink.new
+        (flat_map (task_text world.now.script world.now.rules (seen_record world.now)) (upto world.now.script.tasks))
+        result }
 {
     for t in 0..world.script().tasks {
         write_task(world, t, sink)?;
@@ -67,9 +61,7 @@ fn write_tasks<K: Sink>(world: &World, sink: &mut K) -> Result<(), Failed>
 }
 
 fn write_quiet<K: Sink>(quiet: bool, sink: &mut K) -> Result<(), Failed>
-    ensures text { Wrote (K.held sink.old) (K.held sink.new) (quiet_line quiet) result }
-    ensures cause { HasCause (K.faults sink.old) (K.faults sink.new) result }
-    ensures room { K.room sink.new ≡ K.room sink.old }
+    ensures { Writes K.held K.faults K.room sink.old sink.new (quiet_line quiet) result }
 {
     let mut line = TextLine::new();
     line.begin("quiet ");

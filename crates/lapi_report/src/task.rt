@@ -8,8 +8,7 @@ ghost use Rattle.lapi_base.specs.Operations.{statements};
 ghost use Rattle.lapi_base.specs.Refusals.{next, refusals};
 ghost use Rattle.lapi_base.specs.ReportText.{task_line, refused_if, read_if, statement_text, statements_text, counter_text, counters_text, task_text};
 ghost use Rattle.lapi_base.specs.Seen.{seen_record};
-ghost use Rattle.lapi_io.specs.Causes.{HasCause};
-ghost use Rattle.lapi_report.specs.Written.{Wrote};
+ghost use Rattle.lapi_io.specs.Writes.{Writes};
 
 use crate::memory::write_memory;
 use crate::parts::add_refusal;
@@ -23,9 +22,8 @@ use lapi_world::World;
 pub(crate) fn write_task<K: Sink>(world: &World, t: u32, sink: &mut K) -> Result<(), Failed>
     requires spent { world.now.spent ≡ false }
     requires task { t < world.now.script.tasks }
-    ensures text { Wrote (K.held sink.old) (K.held sink.new) (task_text world.now.script world.now.rules (seen_record world.now) t) result }
-    ensures cause { HasCause (K.faults sink.old) (K.faults sink.new) result }
-    ensures room { K.room sink.new ≡ K.room sink.old }
+    ensures { Writes K.held K.faults K.room sink.old sink.new
+        (task_text world.now.script world.now.rules (seen_record world.now) t) result }
 {
     write_standing(world, t, sink)?;
     write_statements(world, t, sink)?;
@@ -55,9 +53,10 @@ fn statement_count(script: &Script, t: u32) -> usize
 fn write_standing<K: Sink>(world: &World, t: u32, sink: &mut K) -> Result<(), Failed>
     requires spent { world.now.spent ≡ false }
     requires task { t < world.now.script.tasks }
-    ensures text { let J = (seen_record world.now).journal in Wrote (K.held sink.old) (K.held sink.new) (task_line t (next J t) (length (statements world.now.script t)) (length (queue world.now.script world.now.rules J t)) (length (busy world.now.script J t))) result }
-    ensures cause { HasCause (K.faults sink.old) (K.faults sink.new) result }
-    ensures room { K.room sink.new ≡ K.room sink.old }
+    ensures { let J = (seen_record world.now).journal in
+        Writes K.held K.faults K.room sink.old sink.new
+        (task_line t (next J t) (length (statements world.now.script t))
+        (length (queue world.now.script world.now.rules J t)) (length (busy world.now.script J t))) result }
 {
     let task = world.task(t);
     let mut line = TextLine::new();
@@ -79,9 +78,10 @@ fn write_standing<K: Sink>(world: &World, t: u32, sink: &mut K) -> Result<(), Fa
 fn write_statements<K: Sink>(world: &World, t: u32, sink: &mut K) -> Result<(), Failed>
     requires spent { world.now.spent ≡ false }
     requires task { t < world.now.script.tasks }
-    ensures text { let J = (seen_record world.now).journal in Wrote (K.held sink.old) (K.held sink.new) (statements_text t (length (statements world.now.script t)) (refusals J t) (reads world.now.script world.now.rules J t)) result }
-    ensures cause { HasCause (K.faults sink.old) (K.faults sink.new) result }
-    ensures room { K.room sink.new ≡ K.room sink.old }
+    ensures { let J = (seen_record world.now).journal in
+        Writes K.held K.faults K.room sink.old sink.new
+        (statements_text t (length (statements world.now.script t)) (refusals J t)
+        (reads world.now.script world.now.rules J t)) result }
 {
     let task = world.task(t);
     for s in 0..statement_count(world.script(), t) {
@@ -98,9 +98,7 @@ pub(crate) fn write_statement<K: Sink>(
     reads: &[(u32, u64)],
     sink: &mut K,
 ) -> Result<(), Failed>
-    ensures text { Wrote (K.held sink.old) (K.held sink.new) (statement_text t refusals.now reads.now s) result }
-    ensures cause { HasCause (K.faults sink.old) (K.faults sink.new) result }
-    ensures room { K.room sink.new ≡ K.room sink.old }
+    ensures { Writes K.held K.faults K.room sink.old sink.new (statement_text t refusals.now reads.now s) result }
 {
     write_refused(t, s, refusals, sink)?;
     write_read(t, s, reads, sink)
@@ -112,9 +110,7 @@ fn write_refused<K: Sink>(
     refusals: &[(u32, Refusal)],
     sink: &mut K,
 ) -> Result<(), Failed>
-    ensures text { Wrote (K.held sink.old) (K.held sink.new) (flat_map (refused_if t s) refusals.now) result }
-    ensures cause { HasCause (K.faults sink.old) (K.faults sink.new) result }
-    ensures room { K.room sink.new ≡ K.room sink.old }
+    ensures { Writes K.held K.faults K.room sink.old sink.new (flat_map (refused_if t s) refusals.now) result }
 {
     for refusal in refusals {
         write_if_refused(t, s, *refusal, sink)?;
@@ -128,9 +124,7 @@ fn write_if_refused<K: Sink>(
     refusal: (u32, Refusal),
     sink: &mut K,
 ) -> Result<(), Failed>
-    ensures text { Wrote (K.held sink.old) (K.held sink.new) (refused_if t s refusal) result }
-    ensures cause { HasCause (K.faults sink.old) (K.faults sink.new) result }
-    ensures room { K.room sink.new ≡ K.room sink.old }
+    ensures { Writes K.held K.faults K.room sink.old sink.new (refused_if t s refusal) result }
 {
     let (statement, why) = refusal;
     if statement as usize != s {
@@ -148,9 +142,7 @@ fn write_if_refused<K: Sink>(
 }
 
 fn write_read<K: Sink>(t: u32, s: usize, reads: &[(u32, u64)], sink: &mut K) -> Result<(), Failed>
-    ensures text { Wrote (K.held sink.old) (K.held sink.new) (flat_map (read_if t s) reads.now) result }
-    ensures cause { HasCause (K.faults sink.old) (K.faults sink.new) result }
-    ensures room { K.room sink.new ≡ K.room sink.old }
+    ensures { Writes K.held K.faults K.room sink.old sink.new (flat_map (read_if t s) reads.now) result }
 {
     for read in reads {
         write_if_read(t, s, *read, sink)?;
@@ -159,9 +151,7 @@ fn write_read<K: Sink>(t: u32, s: usize, reads: &[(u32, u64)], sink: &mut K) -> 
 }
 
 fn write_if_read<K: Sink>(t: u32, s: usize, read: (u32, u64), sink: &mut K) -> Result<(), Failed>
-    ensures text { Wrote (K.held sink.old) (K.held sink.new) (read_if t s read) result }
-    ensures cause { HasCause (K.faults sink.old) (K.faults sink.new) result }
-    ensures room { K.room sink.new ≡ K.room sink.old }
+    ensures { Writes K.held K.faults K.room sink.old sink.new (read_if t s read) result }
 {
     let (statement, value) = read;
     if statement as usize != s {
@@ -181,27 +171,30 @@ fn write_if_read<K: Sink>(t: u32, s: usize, read: (u32, u64), sink: &mut K) -> R
 fn write_counters<K: Sink>(world: &World, t: u32, sink: &mut K) -> Result<(), Failed>
     requires spent { world.now.spent ≡ false }
     requires task { t < world.now.script.tasks }
-    ensures text { Wrote (K.held sink.old) (K.held sink.new) (counters_text world.now.script world.now.rules (seen_record world.now) t) result }
-    ensures cause { HasCause (K.faults sink.old) (K.faults sink.new) result }
-    ensures room { K.room sink.new ≡ K.room sink.old }
+    ensures { Writes K.held K.faults K.room sink.old sink.new
+        (counters_text world.now.script world.now.rules (seen_record world.now) t) result }
 {
     let task = world.task(t);
+    let mut line = TextLine::new();
     for c in 0..world.script().counters {
-        write_counter(t, c, task.counter(c), sink)?;
+        write_counter(t, c, task.counter(c), &mut line, sink)?;
     }
     Ok(())
 }
 
 /// A counter's line, where it is above 0.
-fn write_counter<K: Sink>(t: u32, c: u32, value: u64, sink: &mut K) -> Result<(), Failed>
-    ensures text { Wrote (K.held sink.old) (K.held sink.new) (counter_text t c value) result }
-    ensures cause { HasCause (K.faults sink.old) (K.faults sink.new) result }
-    ensures room { K.room sink.new ≡ K.room sink.old }
+fn write_counter<K: Sink>(
+    t: u32,
+    c: u32,
+    value: u64,
+    line: &mut TextLine,
+    sink: &mut K,
+) -> Result<(), Failed>
+    ensures { Writes K.held K.faults K.room sink.old sink.new (counter_text t c value) result }
 {
     if value == 0 {
         return Ok(());
     }
-    let mut line = TextLine::new();
     line.begin("counter ");
     line.number(u64::from(t));
     line.text(" ");

@@ -2,8 +2,8 @@ ghost use Rattle.std.specs.Prelude.{◌≡◌, ◌≤◌, ◌+◌, ◌*◌, [], 
 ghost use Rattle.std.specs.Fmt.{decimal};
 ghost use Rattle.hex.specs.Hex.{encode_lower};
 ghost use Rattle.lapi_base.specs.TextParts.{counter_word, hex_word};
-ghost use Rattle.lapi_io.specs.Causes.{HasCause};
-ghost use Rattle.lapi_report.specs.Written.{Wrote, WroteUpTo};
+ghost use Rattle.lapi_io.specs.Writes.{Writes};
+ghost use Rattle.lapi_report.specs.Written.{WritesUpTo};
 
 use arrayvec::ArrayVec;
 use itoa::Buffer;
@@ -111,10 +111,9 @@ impl TextLine {
     /// In hexadecimal, however many: what there is no room for is written at once.
     pub(crate) fn long_hex<K: Sink>(&mut self, bytes: &[u8], sink: &mut K) -> Result<(), Failed>
         requires { length self.old ≤ 1024 }
-        ensures text { WroteUpTo (K.held sink.old) (K.held sink.new) (self.old ++ encode_lower bytes.now) self.new result }
+        ensures written { WritesUpTo K.held K.faults K.room sink.old sink.new
+            (self.old ++ encode_lower bytes.now) self.new result }
         ensures short { length self.new ≤ 2048 }
-        ensures cause { HasCause (K.faults sink.old) (K.faults sink.new) result }
-        ensures room { K.room sink.new ≡ K.room sink.old }
     {
         let mut rest = bytes;
         while rest.len() > 512 {
@@ -130,9 +129,7 @@ impl TextLine {
 
     /// Writes the line whole.
     pub(crate) fn write<K: Sink>(&self, sink: &mut K) -> Result<(), Failed>
-        ensures text { Wrote (K.held sink.old) (K.held sink.new) self.now result }
-        ensures cause { HasCause (K.faults sink.old) (K.faults sink.new) result }
-        ensures room { K.room sink.new ≡ K.room sink.old }
+        ensures { Writes K.held K.faults K.room sink.old sink.new self.now result }
     {
         write_all(sink, self.items.as_slice())
     }

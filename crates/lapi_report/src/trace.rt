@@ -1,8 +1,7 @@
 ghost use Rattle.std.specs.Prelude.{◌≡◌, ◌≤◌, ◌+◌, ◌++◌, false, length, IfErr};
 ghost use Rattle.lapi_base.specs.Seen.{seen_record};
 ghost use Rattle.lapi_base.specs.TraceText.{reply_text, trace_line, taken_text, trace_text};
-ghost use Rattle.lapi_io.specs.Causes.{HasCause};
-ghost use Rattle.lapi_report.specs.Written.{Wrote, HasWriteCause};
+ghost use Rattle.lapi_io.specs.Writes.{Writes};
 
 use crate::act::add_act;
 use crate::parts::reason_number;
@@ -14,10 +13,9 @@ use lapi_world::World;
 /// Writes each line taken, as it is written in a schedule, with its reply. It takes no memory.
 pub fn write_trace<K: Sink>(world: &World, sink: &mut K) -> Result<(), WriteFault>
     requires { world.now.spent ≡ false }
-    ensures text { Wrote (K.held sink.old) (K.held sink.new) (trace_text world.now.schedule world.now.taken (seen_record world.now).replies) result }
-    ensures cause { HasWriteCause (K.faults sink.old) (K.faults sink.new) result }
+    ensures written { Writes K.held K.faults K.room sink.old sink.new
+        (trace_text world.now.schedule world.now.taken (seen_record world.now).replies) result }
     ensures only_failed { IfErr result (λ fault. fault ≡ WriteFault.Failed) }
-    ensures room { K.room sink.new ≡ K.room sink.old }
 {
     match write_lines(world.schedule(), world.taken(), world.replies(), sink) {
         Ok(()) => Ok(()),
@@ -32,39 +30,46 @@ pub(crate) fn write_lines<K: Sink>(
     replies: &[Reply],
     sink: &mut K,
 ) -> Result<(), Failed>
-    ensures text { Wrote (K.held sink.old) (K.held sink.new) (trace_text schedule.now taken.now replies.now) result }
-    ensures cause { HasCause (K.faults sink.old) (K.faults sink.new) result }
-    ensures room { K.room sink.new ≡ K.room sink.old }
+    ensures { Writes K.held K.faults K.room sink.old sink.new
+        (trace_text schedule.now taken.now replies.now) result }
 {
+    let mut text = TextLine::new();
     for (n, reply) in taken.iter().zip(replies) {
-        write_taken(schedule, *n, *reply, sink)?;
+        write_taken(schedule, *n, *reply, &mut text, sink)?;
     }
     Ok(())
 }
 
 /// Line `n` of the schedule and its reply.
-fn write_taken<K: Sink>(schedule: &[Line], n: u32, reply: Reply, sink: &mut K) -> Result<(), Failed>
-    ensures text { Wrote (K.held sink.old) (K.held sink.new) (taken_text schedule.now (n, reply)) result }
-    ensures cause { HasCause (K.faults sink.old) (K.faults sink.new) result }
-    ensures room { K.room sink.new ≡ K.room sink.old }
+fn write_taken<K: Sink>(
+    schedule: &[Line],
+    n: u32,
+    reply: Reply,
+    text: &mut TextLine,
+    sink: &mut K,
+) -> Result<(), Failed>
+    ensures { Writes K.held K.faults K.room sink.old sink.new (taken_text schedule.now (n, reply)) result }
 {
     match schedule.get(n as usize) {
-        Some(line) => write_line(line, reply, sink),
+        Some(line) => write_line(line, reply, text, sink),
         None => Ok(()),
     }
 }
 
-fn write_line<K: Sink>(line: &Line, reply: Reply, sink: &mut K) -> Result<(), Failed>
-    ensures text { Wrote (K.held sink.old) (K.held sink.new) (trace_line line.now reply) result }
-    ensures cause { HasCause (K.faults sink.old) (K.faults sink.new) result }
-    ensures room { K.room sink.new ≡ K.room sink.old }
+fn write_line<K: Sink>(
+    line: &Line,
+    reply: Reply,
+    text: &mut TextLine,
+    sink: &mut K,
+) -> Result<(), Failed>
+    ensures { Writes K.held K.faults K.room sink.old sink.new (trace_line line.now reply) result }
 {
-    let mut text = TextLine::new();
+    text.begin("");
     text.number(u64::from(line.lane));
     text.text(" ");
-    add_act(&line.act, &mut text, sink)?;
+    add_act(&line.act, text, sink)?;
     text.text(" : ");
-    add_reply(reply, &mut text);
+    add_reply(reply, text);
     text.text("\n");
     text.write(sink)
 }

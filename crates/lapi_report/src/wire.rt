@@ -2,8 +2,7 @@ ghost use Rattle.std.specs.Prelude.{◌≡◌, ◌<◌, ◌≤◌, ◌++◌, len
 ghost use Rattle.std.specs.Fmt.{decimal};
 ghost use Rattle.lapi_base.specs.Seen.{seen_record};
 ghost use Rattle.lapi_base.specs.WireText.{entry_line, entry_lines, wires_from_text, wire_text};
-ghost use Rattle.lapi_io.specs.Causes.{HasCause};
-ghost use Rattle.lapi_report.specs.Written.{Wrote, HasWriteCause};
+ghost use Rattle.lapi_io.specs.Writes.{Writes};
 
 use crate::text_line::TextLine;
 use lapi_base::{Bytes, WriteFault};
@@ -13,23 +12,19 @@ use lapi_world::World;
 /// Writes a line for each entry of each wire. It takes no memory.
 pub fn write_wire<K: Sink>(world: &World, sink: &mut K) -> Result<(), WriteFault>
     requires { world.now.spent ≡ false }
-    ensures text { Wrote (K.held sink.old) (K.held sink.new) (wire_text world.now.script (seen_record world.now)) result }
-    ensures cause { HasWriteCause (K.faults sink.old) (K.faults sink.new) result }
+    ensures written { Writes K.held K.faults K.room sink.old sink.new
+        (wire_text world.now.script (seen_record world.now)) result }
     ensures only_failed { IfErr result (λ fault. fault ≡ WriteFault.Failed) }
-    ensures room { K.room sink.new ≡ K.room sink.old }
 {
-    match write_wires(world, sink) {
-        Ok(()) => Ok(()),
-        Err(Failed) => Err(WriteFault::Failed),
-    }
+    write_wires(world, sink)?;
+    Ok(())
 }
 
 #[tactic(auto, unfolding(lapi_base::specs::WireText::wire_text))]
 fn write_wires<K: Sink>(world: &World, sink: &mut K) -> Result<(), Failed>
     requires { world.now.spent ≡ false }
-    ensures text { Wrote (K.held sink.old) (K.held sink.new) (wire_text world.now.script (seen_record world.now)) result }
-    ensures cause { HasCause (K.faults sink.old) (K.faults sink.new) result }
-    ensures room { K.room sink.new ≡ K.room sink.old }
+    ensures { Writes K.held K.faults K.room sink.old sink.new
+        (wire_text world.now.script (seen_record world.now)) result }
 {
     for a in 0..world.script().tasks {
         write_wires_from(world, a, sink)?;
@@ -40,9 +35,8 @@ fn write_wires<K: Sink>(world: &World, sink: &mut K) -> Result<(), Failed>
 fn write_wires_from<K: Sink>(world: &World, a: u32, sink: &mut K) -> Result<(), Failed>
     requires spent { world.now.spent ≡ false }
     requires task { a < world.now.script.tasks }
-    ensures text { Wrote (K.held sink.old) (K.held sink.new) (wires_from_text world.now.script (seen_record world.now) a) result }
-    ensures cause { HasCause (K.faults sink.old) (K.faults sink.new) result }
-    ensures room { K.room sink.new ≡ K.room sink.old }
+    ensures { Writes K.held K.faults K.room sink.old sink.new
+        (wires_from_text world.now.script (seen_record world.now) a) result }
 {
     for b in 0..world.script().tasks {
         write_entries(a, b, world.wire(a, b), sink)?;
@@ -56,9 +50,7 @@ pub(crate) fn write_entries<K: Sink>(
     entries: &[Bytes],
     sink: &mut K,
 ) -> Result<(), Failed>
-    ensures text { Wrote (K.held sink.old) (K.held sink.new) (entry_lines a b 0 entries.now) result }
-    ensures cause { HasCause (K.faults sink.old) (K.faults sink.new) result }
-    ensures room { K.room sink.new ≡ K.room sink.old }
+    ensures { Writes K.held K.faults K.room sink.old sink.new (entry_lines a b 0 entries.now) result }
 {
     let mut line = TextLine::new();
     for (k, entry) in entries.iter().enumerate() {
@@ -75,9 +67,7 @@ fn write_entry<K: Sink>(
     line: &mut TextLine,
     sink: &mut K,
 ) -> Result<(), Failed>
-    ensures text { Wrote (K.held sink.old) (K.held sink.new) (entry_line a b k entry.now) result }
-    ensures cause { HasCause (K.faults sink.old) (K.faults sink.new) result }
-    ensures room { K.room sink.new ≡ K.room sink.old }
+    ensures { Writes K.held K.faults K.room sink.old sink.new (entry_line a b k entry.now) result }
 {
     begin_entry(a, b, k, line);
     line.long_hex(entry, sink)?;

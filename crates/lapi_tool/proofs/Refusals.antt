@@ -2,7 +2,6 @@
 use Rattle.std.proofs.Common.{◌≡◌, ℕ, ◌+◌, List, [], ◌∷◌, ◌++◌, arith, Option, Err, Result, refl, sym, subst, ap, inl, inr}
 use Rattle.std.specs.Prelude.{length, nat_lt, if◌then◌else◌}
 use Rattle.std.specs.Io.KnownBytes.{Appends}
-use Rattle.lapi_base.specs.declared.command.View.{View}
 use Rattle.lapi_base.specs.declared.input.Input.{Input}
 use Rattle.lapi_base.specs.declared.input.ReadFault.{ReadFault}
 use Rattle.lapi_base.specs.declared.input.ReadFault.TheVariants as faults
@@ -25,11 +24,11 @@ cut_short answer held now result (inr (cut, wrote)) = inr (cut, ([], answer.text
     empty [] rest e = refl
     empty (b ∷ front) rest e = absurd (omega (arith, ap length e))
 
-pub refused_is : (view : View) (fault : ReadFault) (reading : Result Input Fault) (held now : Option (List ℕ)) (result : Status)
-    → GivesInput (Err fault) reading → Gives (refused_answer fault) held now result → Gives (input_answer view reading) held now result
-refused_is view (faults.Syntax line) reading held now result e told = subst (λ r. Gives (input_answer view r) held now result) (sym e) told
-refused_is view (faults.Limit which line) reading held now result e told = subst (λ r. Gives (input_answer view r) held now result) (sym e) told
-refused_is view faults.Memory reading held now result e told = cut_short (input_answer view reading) held now result told
+pub refused_is : (text : Input → List ℕ) (fault : ReadFault) (reading : Result Input Fault) (held now : Option (List ℕ)) (result : Status)
+    → GivesInput (Err fault) reading → Gives (refused_answer fault) held now result → Gives (input_answer text reading) held now result
+refused_is text (faults.Syntax line) reading held now result e told = subst (λ r. Gives (input_answer text r) held now result) (sym e) told
+refused_is text (faults.Limit which line) reading held now result e told = subst (λ r. Gives (input_answer text r) held now result) (sym e) told
+refused_is text faults.Memory reading held now result e told = cut_short (input_answer text reading) held now result told
 
 -- one byte more than an input may have
 pub too_long : (bytes : List ℕ) → length bytes ≡ most_input + 1 → read bytes ≡ Err (why.Limit which.Input, 0)

@@ -10,7 +10,7 @@ use Rattle.lapi_base.specs.declared.status.Status.TheVariants as status
 use Rattle.lapi_base.specs.declared.command.Command.TheVariants.{Read}
 use Rattle.lapi_base.specs.declared.input.Which.TheVariants as which
 use Rattle.lapi_base.specs.declared.input.Why.TheVariants as why
-use Rattle.lapi_base.specs.Answers.{recorded, input_answer}
+use Rattle.lapi_base.specs.Answers.{recorded, input_answer, view_text}
 use Rattle.lapi_base.specs.Atomic.{AtomicInTime}
 use Rattle.lapi_base.specs.Lines.{lines_of}
 use Rattle.lapi_base.specs.Reading.{Fault, First, most_input, read, read_from}
@@ -55,7 +55,7 @@ module _
     unfolding record_of
     atomic x bytes reads = in_time x.script no_rules spells_packet packet_size refusal (map act_of x.schedule) (acts_valid x.script x.schedule reads.schedule.lines)
 
-    of_input : (bytes : List ℕ) → WasRead left rest bytes → (reading : Result Input Fault) → read bytes ≡ reading → (result : Status) → Gives (input_answer Report reading) held now result → result ≡ status.Ok → IsReported left rest held now
+    of_input : (bytes : List ℕ) → WasRead left rest bytes → (reading : Result Input Fault) → read bytes ≡ reading → (result : Status) → Gives (input_answer (view_text Report) reading) held now result → result ≡ status.Ok → IsReported left rest held now
     of_input bytes taken (Ok x) e result (inl told) ok =
         let reads = found bytes x e in
         record { bytes = bytes; x = x; read = (taken.0, taken.2 (kept bytes x e)); reads = reads; written = told.1; atomic = atomic x bytes reads }

@@ -2,20 +2,20 @@
 use Rattle.std.specs.Prelude.{◌≡◌, ℕ, ◌+◌, ◌≤◌, ◌⊎◌, List, [], length, reverse, Option, Some, None}
 use Rattle.std.specs.Io.KnownBytes.{Appends, Consumes, IsAtEnd}
 use Rattle.lapi_base.specs.declared.command.Command.{Command}
-use Rattle.lapi_base.specs.declared.command.Command.TheVariants.{Read, Show}
+use Rattle.lapi_base.specs.declared.command.Command.TheVariants.{Read, Check, Show}
 use Rattle.lapi_base.specs.declared.input.Input.{Input}
 use Rattle.lapi_base.specs.declared.input.ReadFault.{ReadFault}
 use Rattle.lapi_base.specs.declared.input.ReadFault.TheVariants as faults
 use Rattle.lapi_base.specs.declared.input.Why.TheVariants as why
 use Rattle.lapi_base.specs.declared.status.Status.{Status}
 use Rattle.lapi_base.specs.declared.status.Status.TheVariants as status
-use Rattle.lapi_base.specs.Answers.{Answer, usage_answer, fault_answer, shown_answer, input_answer, recorded}
+use Rattle.lapi_base.specs.Answers.{Answer, usage_answer, fault_answer, shown_answer, input_answer, counts_text, view_text, recorded}
 use Rattle.lapi_base.specs.Atomic.{AtomicInTime}
 use Rattle.lapi_base.specs.Reading.{most_input, read}
 use Rattle.lapi_base.specs.ReportText.{report_text}
 use Rattle.lapi_base.specs.Rows.{Reads}
 use Rattle.lapi_base.specs.Seen.{no_rules}
-use Rattle.lapi_report.specs.Written.{AppendsFront}
+use Rattle.lapi_io.specs.Writes.{AppendsFront}
 
 -- all that was left was read; or, of a source with more bytes than an input may have, one byte more than those
 abbrev pub WasRead : (left rest : Option (List ℕ)) → List ℕ → Type 0
@@ -47,11 +47,16 @@ IsUnread _ = ⊥
 abbrev pub IsSilent : Status → (held now : Option (List ℕ)) → Type 0
 IsSilent result held now = IsUnread result × (now ≡ held)
 
+-- the source couldn't be read, and nothing was written; or it was read, and this text of its input was given
+abbrev pub IsToldOf : (text : Input → List ℕ) → (left rest held now : Option (List ℕ)) → Status → Type 0
+IsToldOf text left rest held now result =
+    IsSilent result held now ⊎ ((bytes : List ℕ) × WasRead left rest bytes × Gives (input_answer text (read bytes)) held now result)
+
 abbrev pub IsAnswered : Option Command → (left rest held now : Option (List ℕ)) → Status → Type 0
 IsAnswered None left rest held now result = Gives usage_answer held now result × (rest ≡ left)
 IsAnswered (Some (Show bytes)) left rest held now result = Gives (shown_answer bytes) held now result × (rest ≡ left)
-IsAnswered (Some (Read view)) left rest held now result =
-    IsSilent result held now ⊎ ((bytes : List ℕ) × WasRead left rest bytes × Gives (input_answer view (read bytes)) held now result)
+IsAnswered (Some Check) left rest held now result = IsToldOf counts_text left rest held now result
+IsAnswered (Some (Read view)) left rest held now result = IsToldOf (view_text view) left rest held now result
 
 -- The whole source is the text of an input; the report of the record of all its lines was appended; and the journal of
 -- that record is one of the atomic message machine, which has no packets.

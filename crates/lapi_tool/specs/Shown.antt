@@ -1,21 +1,26 @@
--- What is written of a world.
-use Rattle.std.specs.Prelude.{ℕ, ◌≤◌, List, [], length}
+-- What is written of a world and of an input.
+use Rattle.std.specs.Prelude.{ℕ, ◌≤◌, List, length, Option, Some, None}
 use Rattle.lapi_base.specs.declared.command.View.{View}
-use Rattle.lapi_base.specs.declared.command.View.TheVariants.{Report, Journal, Wires, Trace, Counts}
+use Rattle.lapi_base.specs.declared.command.View.TheVariants.{Report, Journal, Wires, Trace}
+use Rattle.lapi_base.specs.declared.input.Input.{Input}
 use Rattle.lapi_base.specs.declared.statement.Statement.{Statement}
+use Rattle.lapi_base.specs.Answers.{counts_text, view_text}
 use Rattle.lapi_base.specs.Seen.{Seen, seen_record}
 use Rattle.lapi_base.specs.ReportText.{report_text}
 use Rattle.lapi_base.specs.JournalText.{journal_text}
 use Rattle.lapi_base.specs.WireText.{wire_text}
 use Rattle.lapi_base.specs.TraceText.{trace_text}
 
--- counts are those of an input: a world has no text for them
 abbrev pub world_text : View → Seen → List ℕ
 world_text Report w = report_text w.script w.rules (seen_record w) (length w.taken)
 world_text Journal w = journal_text (seen_record w)
 world_text Wires w = wire_text w.script (seen_record w)
 world_text Trace w = trace_text w.schedule w.taken (seen_record w).replies
-world_text Counts w = []
+
+-- and of an input: its counts, where no view of its record is asked for
+abbrev pub asked_text : Option View → Input → List ℕ
+asked_text None = counts_text
+asked_text (Some view) = view_text view
 
 -- as many statements as a task may have
 abbrev pub HasFew : List Statement → Type 0

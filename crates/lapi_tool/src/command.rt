@@ -5,8 +5,9 @@ ghost use Rattle.lapi_base.specs.Answers.{input_answer};
 ghost use Rattle.lapi_base.specs.Commands as commands_of;
 ghost use Rattle.lapi_base.specs.Reading.{read};
 ghost use Rattle.lapi_io.specs.Causes.{Rose};
-ghost use Rattle.lapi_report.specs.Written.{Wrote};
-ghost use Rattle.lapi_tool.specs.Answered.{IsAnswered, IsReported, Gives, refused_answer};
+ghost use Rattle.lapi_io.specs.Writes.{Wrote};
+ghost use Rattle.lapi_tool.specs.Answered.{IsAnswered, IsToldOf, IsReported, Gives, refused_answer};
+ghost use Rattle.lapi_tool.specs.Shown.{asked_text};
 
 use crate::fault::{status_of, write_fault};
 use crate::text::write_text;
@@ -55,18 +56,19 @@ pub fn run<S: Source, K: Sink>(
         Err(_) => Status::Memory,
         Ok(None) => end(Status::Usage, write_text(USAGE, sink)),
         Ok(Some(Command::Show(bytes))) => end(Status::Ok, write_packet(bytes.as_slice(), sink)),
-        Ok(Some(Command::Read(view))) => read_and_answer(alloc, view, source, sink),
+        Ok(Some(Command::Check)) => read_and_answer(alloc, None, source, sink),
+        Ok(Some(Command::Read(view))) => read_and_answer(alloc, Some(view), source, sink),
     }
 }
 
 /// Reads the whole source, and answers what was read.
 fn read_and_answer<S: Source, K: Sink>(
     alloc: Global,
-    view: View,
+    view: Option<View>,
     source: &mut S,
     sink: &mut K,
 ) -> Status
-    ensures answer { IsAnswered (Some (commands.Read view)) (S.left source.old) (S.left source.new) (K.held sink.old) (K.held sink.new) result }
+    ensures answer { IsToldOf (asked_text view) (S.left source.old) (S.left source.new) (K.held sink.old) (K.held sink.new) result }
     ensures source { result ≡ Status.SourceFault → Rose (S.faults source.old) (S.faults source.new) }
     ensures unwritten { result ≡ Status.SourceFault → sink.new ≡ sink.old }
     ensures sink { result ≡ Status.SinkFault → Rose (K.faults sink.old) (K.faults sink.new) }
@@ -81,8 +83,8 @@ fn read_and_answer<S: Source, K: Sink>(
 }
 
 /// Answers bytes that are no more than an input may have.
-fn answer_input<K: Sink>(alloc: Global, view: View, bytes: &[u8], sink: &mut K) -> Status
-    ensures answer { Gives (input_answer view (read bytes.now)) (K.held sink.old) (K.held sink.new) result }
+fn answer_input<K: Sink>(alloc: Global, view: Option<View>, bytes: &[u8], sink: &mut K) -> Status
+    ensures answer { Gives (input_answer (asked_text view) (read bytes.now)) (K.held sink.old) (K.held sink.new) result }
     ensures source { result ≢ Status.SourceFault }
     ensures sink { result ≡ Status.SinkFault → Rose (K.faults sink.old) (K.faults sink.new) }
     ensures room { K.room sink.new ≡ K.room sink.old }

@@ -3,7 +3,7 @@ ghost use Rattle.std.specs.List as lists;
 ghost use Rattle.std.specs.List.{AllByRecursion};
 ghost use Rattle.lapi_base.specs.Answers.{counts_line, counts_text};
 ghost use Rattle.lapi_base.specs.Valid.{ValidScript};
-ghost use Rattle.lapi_report.specs.Written.{HasWriteCause, Wrote};
+ghost use Rattle.lapi_report.specs.Written.{WritesWithMemory};
 ghost use Rattle.lapi_tool.specs.Shown.{HasFew};
 
 use crate::text::write_text;
@@ -14,9 +14,7 @@ use std::alloc::Global;
 /// Writes how many tasks, statements and lines an input has.
 pub fn write_counts<K: Sink>(alloc: Global, input: &Input, sink: &mut K) -> Result<(), WriteFault>
     requires { ValidScript input.now.script }
-    ensures text { Wrote (K.held sink.old) (K.held sink.new) (counts_text input.now) result }
-    ensures cause { HasWriteCause (K.faults sink.old) (K.faults sink.new) result }
-    ensures room { K.room sink.new ≡ K.room sink.old }
+    ensures { WritesWithMemory K.held K.faults K.room sink.old sink.new (counts_text input.now) result }
 {
     let statements = count_of(input.script.lists.as_slice());
     let lines = input.schedule.as_slice().len();
@@ -31,9 +29,7 @@ fn write_line<K: Sink>(
     lines: usize,
     sink: &mut K,
 ) -> Result<(), WriteFault>
-    ensures text { Wrote (K.held sink.old) (K.held sink.new) (counts_line tasks statements lines) result }
-    ensures cause { HasWriteCause (K.faults sink.old) (K.faults sink.new) result }
-    ensures room { K.room sink.new ≡ K.room sink.old }
+    ensures { WritesWithMemory K.held K.faults K.room sink.old sink.new (counts_line tasks statements lines) result }
 {
     let Ok(text) = format!(in alloc; "ok tasks {tasks} statements {statements} lines {lines}\n")
     else {

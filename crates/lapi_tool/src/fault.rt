@@ -1,6 +1,6 @@
 ghost use Rattle.std.specs.Prelude.{◌≡◌};
 ghost use Rattle.lapi_base.specs.Answers.{which_name};
-ghost use Rattle.lapi_report.specs.Written.{HasWriteCause, Wrote};
+ghost use Rattle.lapi_report.specs.Written.{WritesWithMemory};
 ghost use Rattle.lapi_tool.specs.Answered.{refused_answer};
 
 use crate::text::write_text;
@@ -22,9 +22,7 @@ pub fn status_of(fault: ReadFault) -> Status
 /// Writes what a user is told of it.
 #[tactic(auto, using(crate::proofs::Unwritten::nothing_written))]
 pub fn write_fault<K: Sink>(alloc: Global, fault: ReadFault, sink: &mut K) -> Result<(), WriteFault>
-    ensures text { Wrote (K.held sink.old) (K.held sink.new) (refused_answer fault).text result }
-    ensures cause { HasWriteCause (K.faults sink.old) (K.faults sink.new) result }
-    ensures room { K.room sink.new ≡ K.room sink.old }
+    ensures { WritesWithMemory K.held K.faults K.room sink.old sink.new (refused_answer fault).text result }
 {
     match fault {
         ReadFault::Syntax { line } => {

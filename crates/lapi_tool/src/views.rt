@@ -1,10 +1,10 @@
-ghost use Rattle.std.specs.Prelude.{◌≡◌, ◌≢◌, false};
+ghost use Rattle.std.specs.Prelude.{◌≡◌, false};
 ghost use Rattle.lapi_base.specs.Answers.{view_text};
 ghost use Rattle.lapi_base.specs.Built.{IsBuilt};
 ghost use Rattle.lapi_base.specs.Spelling.{spells_packet};
 ghost use Rattle.lapi_base.specs.Valid.{ValidScript, ValidSchedule};
-ghost use Rattle.lapi_report.specs.Written.{HasWriteCause, Wrote};
-ghost use Rattle.lapi_tool.specs.Shown.{world_text};
+ghost use Rattle.lapi_report.specs.Written.{WritesWithMemory};
+ghost use Rattle.lapi_tool.specs.Shown.{asked_text, world_text};
 
 use crate::counts::write_counts;
 use crate::performed::performed;
@@ -15,23 +15,21 @@ use lapi_report::{write_journal, write_report, write_trace, write_wire};
 use lapi_world::World;
 use std::alloc::Global;
 
-/// Writes what is asked of an input.
+/// Writes what is asked of an input: its counts, where that is no view of its record.
 pub fn write_view<K: Sink>(
     alloc: Global,
-    view: View,
+    view: Option<View>,
     input: Input,
     sink: &mut K,
 ) -> Result<(), WriteFault>
     requires script { ValidScript input.script }
     requires schedule { ValidSchedule input.script spells_packet input.schedule }
     requires built { IsBuilt input }
-    ensures text { Wrote (K.held sink.old) (K.held sink.new) (view_text view input) result }
-    ensures cause { HasWriteCause (K.faults sink.old) (K.faults sink.new) result }
-    ensures room { K.room sink.new ≡ K.room sink.old }
+    ensures { WritesWithMemory K.held K.faults K.room sink.old sink.new (asked_text view input) result }
 {
     match view {
-        View::Counts => write_counts(alloc, &input, sink),
-        _ => write_performed(alloc, view, input, sink),
+        Some(view) => write_performed(alloc, view, input, sink),
+        None => write_counts(alloc, &input, sink),
     }
 }
 
@@ -42,13 +40,10 @@ fn write_performed<K: Sink>(
     input: Input,
     sink: &mut K,
 ) -> Result<(), WriteFault>
-    requires view { view ≢ View.Counts }
     requires script { ValidScript input.script }
     requires schedule { ValidSchedule input.script spells_packet input.schedule }
     requires built { IsBuilt input }
-    ensures text { Wrote (K.held sink.old) (K.held sink.new) (view_text view input) result }
-    ensures cause { HasWriteCause (K.faults sink.old) (K.faults sink.new) result }
-    ensures room { K.room sink.new ≡ K.room sink.old }
+    ensures { WritesWithMemory K.held K.faults K.room sink.old sink.new (view_text view input) result }
 {
     lines_are_taken();
     let world = performed(alloc, input)?;
@@ -58,15 +53,12 @@ fn write_performed<K: Sink>(
 /// Writes what is asked of a world.
 fn write_world<K: Sink>(view: View, world: &World, sink: &mut K) -> Result<(), WriteFault>
     requires { world.now.spent ≡ false }
-    ensures text { Wrote (K.held sink.old) (K.held sink.new) (world_text view world.now) result }
-    ensures cause { HasWriteCause (K.faults sink.old) (K.faults sink.new) result }
-    ensures room { K.room sink.new ≡ K.room sink.old }
+    ensures { WritesWithMemory K.held K.faults K.room sink.old sink.new (world_text view world.now) result }
 {
     match view {
         View::Report => write_report(world, sink),
         View::Journal => write_journal(world, sink),
         View::Wires => write_wire(world, sink),
         View::Trace => write_trace(world, sink),
-        View::Counts => Ok(()),
     }
 }

@@ -14,7 +14,7 @@ pub fn command_of(alloc: Global, words: &Vec<String>) -> Result<Option<Command>,
     ensures { IfOk result (λ command. command ≡ spec.command_of (map (λ word. word.bytes.items) words.now.items)) }
 {
     match words.as_slice() {
-        [word] => Ok(view_of(word.as_str()).map(Command::Read)),
+        [word] => Ok(read_of(word.as_str())),
         [word, argument] => show_of(alloc, word.as_str(), argument.as_str()),
         _ => Ok(None),
     }
@@ -32,6 +32,16 @@ fn show_of(alloc: Global, word: &str, digits: &str) -> Result<Option<Command>, M
     }
 }
 
+fn read_of(word: &str) -> Option<Command>
+    ensures { result ≡ spec.read_of word.now }
+{
+    if word == "check" {
+        Some(Command::Check)
+    } else {
+        view_of(word).map(Command::Read)
+    }
+}
+
 fn view_of(word: &str) -> Option<View>
     ensures { result ≡ spec.view_of word.now }
 {
@@ -43,8 +53,6 @@ fn view_of(word: &str) -> Option<View>
         Some(View::Wires)
     } else if word == "trace" {
         Some(View::Trace)
-    } else if word == "check" {
-        Some(View::Counts)
     } else {
         None
     }

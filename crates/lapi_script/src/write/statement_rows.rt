@@ -12,17 +12,6 @@ use crate::write::values::{
 use lapi_base::{Addr, Memory, RmwOp, Statement};
 use std::alloc::Global;
 
-fn operation_word(op: RmwOp) -> &'static [u8]
-    ensures { result.now ≡ operation_word op }
-{
-    match op {
-        RmwOp::Add => b"add",
-        RmwOp::Or => b"or",
-        RmwOp::Swap => b"swap",
-        RmwOp::Cas => b"cas",
-    }
-}
-
 /// A second operand, with a compare-and-swap alone.
 fn second_operand(alloc: Global, out: &mut Vec<u8>, op: RmwOp, in2: u32) -> Result<(), Memory>
     ensures { OnOk result (out.new.items ≡ out.old.items ++ second_text op in2) }
@@ -45,7 +34,7 @@ fn operation(
     ensures { OnOk result (out.new.items ≡ out.old.items ++ operation_text op at in1 in2) }
 {
     put(out, b" ")?;
-    put(out, operation_word(op))?;
+    put(out, op.word().as_bytes())?;
     address(alloc, out, at)?;
     number(alloc, out, in1)?;
     second_operand(alloc, out, op, in2)

@@ -5,10 +5,14 @@ use Rattle.lapi_report.proofs.Progress.{refused}
 use Rattle.lapi_report.proofs.Numbers.{number_written, number_stops, numbers_done}
 use Rattle.lapi_report.proofs.report.write_tasks.Goals as goal
 
-pub returns-in_err-write_task-clause-text : goal.returns-in_err-write_task-clause-text
-returns-in_err-write_task-clause-text g c =
+pub returns-in_err-write_task : goal.returns-in_err-write_task
+returns-in_err-write_task g c =
     let lt : c.loop-t.t < c.args.world.now.script.tasks = search rules in
-    refused _ _ _ _ c.from_residual.ensures.0 (number_stops (task_text c.args.world.now.script c.args.world.now.rules (seen_record c.args.world.now)) _ _ _ _ _ _ lt c.loop-t.invariant.written (c.in_err-write_task.ensures.text))
+    record {
+      text = refused _ _ _ _ c.from_residual.ensures.0 (number_stops (task_text c.args.world.now.script c.args.world.now.rules (seen_record c.args.world.now)) _ _ _ _ _ _ lt c.loop-t.invariant.written (c.in_err-write_task.ensures.text));
+      cause = search rules;
+      room = search rules;
+    }
 
 pub loop-t-preserved : goal.loop-t-preserved
 loop-t-preserved g c =
@@ -19,7 +23,11 @@ loop-t-preserved g c =
       room = search rules;
     }
 
-pub returns-clause-text : goal.returns-clause-text
-returns-clause-text g c =
+pub returns : goal.returns
+returns g c =
     let ge : c.args.world.now.script.tasks ≤ c.loop-t.t = search rules in
-    numbers_done (task_text c.args.world.now.script c.args.world.now.rules (seen_record c.args.world.now)) _ _ _ _ _ ge c.loop-t.invariant.written
+    record {
+      text = numbers_done (task_text c.args.world.now.script c.args.world.now.rules (seen_record c.args.world.now)) _ _ _ _ _ ge c.loop-t.invariant.written;
+      cause = search rules;
+      room = search rules;
+    }

@@ -7,11 +7,15 @@ use Rattle.lapi_report.proofs.Progress.{refused}
 use Rattle.lapi_report.proofs.Numbers.{number_written, number_stops, numbers_done}
 use Rattle.lapi_report.proofs.task.write_counters.Goals as goal
 
-pub returns-in_err-write_counter-clause-text : goal.returns-in_err-write_counter-clause-text
-returns-in_err-write_counter-clause-text g c =
+pub returns-in_err-write_counter : goal.returns-in_err-write_counter
+returns-in_err-write_counter g c =
     let lt : c.loop-c.c < c.args.world.now.script.counters = search rules in
     let told = c.counter.ensures c.args.world.now.script c.args.t (seen_record c.args.world.now) (c.task-task.ensures.stands c.requires.spent).stands lt ∙ ap (λ (rules : Rules). count c.args.world.now.script rules (seen_record c.args.world.now).journal c.args.t c.loop-c.c) (sym c.task-task.ensures.rules) in
-    refused _ _ _ _ c.from_residual.ensures.0 (number_stops (counter_text_of c.args.world.now.script c.args.world.now.rules (seen_record c.args.world.now) c.args.t) _ _ _ _ _ _ lt c.loop-c.invariant.written (rw told at c.in_err-write_counter.ensures.text))
+    record {
+      text = refused _ _ _ _ c.from_residual.ensures.0 (number_stops (counter_text_of c.args.world.now.script c.args.world.now.rules (seen_record c.args.world.now) c.args.t) _ _ _ _ _ _ lt c.loop-c.invariant.written (rw told at c.in_err-write_counter.ensures.text));
+      cause = search rules;
+      room = search rules;
+    }
 
 pub loop-c-preserved : goal.loop-c-preserved
 loop-c-preserved g c =
@@ -23,7 +27,11 @@ loop-c-preserved g c =
       room = search rules;
     }
 
-pub returns-clause-text : goal.returns-clause-text
-returns-clause-text g c =
+pub returns : goal.returns
+returns g c =
     let ge : c.args.world.now.script.counters ≤ c.loop-c.c = search rules in
-    numbers_done (counter_text_of c.args.world.now.script c.args.world.now.rules (seen_record c.args.world.now) c.args.t) _ _ _ _ _ ge c.loop-c.invariant.written
+    record {
+      text = numbers_done (counter_text_of c.args.world.now.script c.args.world.now.rules (seen_record c.args.world.now) c.args.t) _ _ _ _ _ ge c.loop-c.invariant.written;
+      cause = search rules;
+      room = search rules;
+    }

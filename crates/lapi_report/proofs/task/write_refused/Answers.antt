@@ -3,9 +3,12 @@ use Rattle.lapi_base.specs.ReportText.{refused_if}
 use Rattle.lapi_report.proofs.Progress.{refused, item_written, item_stops}
 use Rattle.lapi_report.proofs.task.write_refused.Goals as goal
 
-pub returns-in_err-write_if_refused-clause-text : goal.returns-in_err-write_if_refused-clause-text
-returns-in_err-write_if_refused-clause-text g c =
-    refused _ _ _ _ c.from_residual.ensures.0 (item_stops (refused_if c.args.t c.args.s) _ _ _ _ _ _ _ c.loop-refusal-test.true c.loop-refusal.invariant.written c.in_err-write_if_refused.ensures.text)
+pub returns-in_err-write_if_refused : goal.returns-in_err-write_if_refused
+returns-in_err-write_if_refused g c = record {
+  text = refused _ _ _ _ c.from_residual.ensures.0 (item_stops (refused_if c.args.t c.args.s) _ _ _ _ _ _ _ c.loop-refusal-test.true c.loop-refusal.invariant.written c.in_err-write_if_refused.ensures.text);
+  cause = search rules;
+  room = search rules;
+}
 
 pub loop-refusal-preserved : goal.loop-refusal-preserved
 loop-refusal-preserved g c = record {

@@ -10,13 +10,17 @@ use Rattle.lapi_report.proofs.Progress.{refused}
 use Rattle.lapi_report.proofs.Numbers.{number_written, number_stops, numbers_done}
 use Rattle.lapi_report.proofs.task.write_statements.Goals as goal
 
-pub returns-in_err-write_statement-clause-text : goal.returns-in_err-write_statement-clause-text
-returns-in_err-write_statement-clause-text g c =
+pub returns-in_err-write_statement : goal.returns-in_err-write_statement
+returns-in_err-write_statement g c =
     let lt : c.loop-s.s < length (statements c.args.world.now.script c.args.t) = search rules in
     let stands = (c.task-task.ensures.stands c.requires.spent).stands in
     let refused-told = c.refusals.ensures c.args.world.now.script c.args.t (seen_record c.args.world.now) stands in
     let read-told = c.reads.ensures c.args.world.now.script c.args.t (seen_record c.args.world.now) stands ∙ ap (λ (rules : Rules). reads c.args.world.now.script rules (seen_record c.args.world.now).journal c.args.t) (sym c.task-task.ensures.rules) in
-    refused _ _ _ _ c.from_residual.ensures.0 (number_stops (statement_text c.args.t (refusals (seen_record c.args.world.now).journal c.args.t) (reads c.args.world.now.script c.args.world.now.rules (seen_record c.args.world.now).journal c.args.t)) _ _ _ _ _ _ lt c.loop-s.invariant.written (rw (refused-told, read-told) at c.in_err-write_statement.ensures.text))
+    record {
+      text = refused _ _ _ _ c.from_residual.ensures.0 (number_stops (statement_text c.args.t (refusals (seen_record c.args.world.now).journal c.args.t) (reads c.args.world.now.script c.args.world.now.rules (seen_record c.args.world.now).journal c.args.t)) _ _ _ _ _ _ lt c.loop-s.invariant.written (rw (refused-told, read-told) at c.in_err-write_statement.ensures.text));
+      cause = search rules;
+      room = search rules;
+    }
 
 pub loop-s-preserved : goal.loop-s-preserved
 loop-s-preserved g c =
@@ -30,7 +34,11 @@ loop-s-preserved g c =
       room = search rules;
     }
 
-pub returns-clause-text : goal.returns-clause-text
-returns-clause-text g c =
+pub returns : goal.returns
+returns g c =
     let ge : length (statements c.args.world.now.script c.args.t) ≤ c.loop-s.s = search rules in
-    numbers_done (statement_text c.args.t (refusals (seen_record c.args.world.now).journal c.args.t) (reads c.args.world.now.script c.args.world.now.rules (seen_record c.args.world.now).journal c.args.t)) _ _ _ _ _ ge c.loop-s.invariant.written
+    record {
+      text = numbers_done (statement_text c.args.t (refusals (seen_record c.args.world.now).journal c.args.t) (reads c.args.world.now.script c.args.world.now.rules (seen_record c.args.world.now).journal c.args.t)) _ _ _ _ _ ge c.loop-s.invariant.written;
+      cause = search rules;
+      room = search rules;
+    }

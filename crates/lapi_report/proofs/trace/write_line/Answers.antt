@@ -5,15 +5,23 @@ use Rattle.lapi_report.proofs.ScheduleLines.{lane_first}
 use Rattle.lapi_report.proofs.Progress.{refused, stops_early, with_more, last_piece}
 use Rattle.lapi_report.proofs.trace.write_line.Goals as goal
 
-pub returns-in_err-add_act-clause-text : goal.returns-in_err-add_act-clause-text
-returns-in_err-add_act-clause-text g c =
+pub returns-in_err-add_act : goal.returns-in_err-add_act
+returns-in_err-add_act g c =
     let begun : c.text.new.self ≡ decimal c.args.line.now.lane ++ codes " " = search rules in
-    let act = rw (begun, sym (lane_first c.args.line.now)) at c.in_err-add_act.ensures.text in
-    refused _ _ _ _ c.from_residual.ensures.0 (stops_early _ _ _ _ (stops_early _ _ _ _ (stops_early _ _ _ _ act)))
+    let act = rw (begun, sym (lane_first c.args.line.now)) at c.in_err-add_act.ensures.written.text in
+    record {
+      text = refused _ _ _ _ c.from_residual.ensures.0 (stops_early _ _ _ _ (stops_early _ _ _ _ (stops_early _ _ _ _ act)));
+      cause = search rules;
+      room = search rules;
+    }
 
-pub returns-clause-text : goal.returns-clause-text
-returns-clause-text g c =
+pub returns : goal.returns
+returns g c =
     let begun : c.text.new.self ≡ decimal c.args.line.now.lane ++ codes " " = search rules in
-    let act = rw (begun, sym (lane_first c.args.line.now)) at c.in_ok-add_act.ensures.text in
+    let act = rw (begun, sym (lane_first c.args.line.now)) at c.in_ok-add_act.ensures.written.text in
     let whole = rw (c.text-3.ensures, c.add_reply.ensures.text, c.text-2.ensures) at c.write.ensures.text in
-    last_piece _ _ _ _ _ _ (with_more _ _ _ _ _ (with_more _ _ _ _ _ (with_more _ _ _ _ _ act))) whole
+    record {
+      text = last_piece _ _ _ _ _ _ (with_more _ _ _ _ _ (with_more _ _ _ _ _ (with_more _ _ _ _ _ act))) whole;
+      cause = search rules;
+      room = search rules;
+    }

@@ -22,18 +22,26 @@ loop-n-preserved g c =
       room = search rules;
     }
 
-pub returns-in_err-write_taken-clause-text : goal.returns-in_err-write_taken-clause-text
-returns-in_err-write_taken-clause-text g c =
+pub returns-in_err-write_taken : goal.returns-in_err-write_taken
+returns-in_err-write_taken g c =
     let first : iter_rest (zip_first c.into_iter-n-iterator.result) ≡ c.args.taken.now = search rules in
     let second : iter_rest (zip_second c.into_iter-n-iterator.result) ≡ c.args.replies.now = search rules in
     let turn = zip_turn _ _ _ _ _ c.next.new.self _ first second c.loop-n.yielded_by (c.in-Some.n, c.in-Some.reply) c.in-Some.is c.next.ensures.steps in
-    refused _ _ _ _ c.from_residual.ensures.0 (
-    pair_stops (taken_text c.args.schedule.now) _ _ _ _ _ _ _ _ _ turn.0 turn.1 (turn.2 _) (turn.3 _) c.loop-n.invariant.written c.in_err-write_taken.ensures.text
-    )
+    record {
+      text = refused _ _ _ _ c.from_residual.ensures.0 (
+          pair_stops (taken_text c.args.schedule.now) _ _ _ _ _ _ _ _ _ turn.0 turn.1 (turn.2 _) (turn.3 _) c.loop-n.invariant.written c.in_err-write_taken.ensures.text
+          );
+      cause = search rules;
+      room = search rules;
+    }
 
-pub returns-clause-text : goal.returns-clause-text
-returns-clause-text g c =
+pub returns : goal.returns
+returns g c =
     let first : iter_rest (zip_first c.into_iter-n-iterator.result) ≡ c.args.taken.now = search rules in
     let second : iter_rest (zip_second c.into_iter-n-iterator.result) ≡ c.args.replies.now = search rules in
     let all = zip_end _ _ _ _ _ c.next.new.self _ first second c.loop-n.yielded_by c.in-None.is c.next.ensures.steps in
-    pairs_done (taken_text c.args.schedule.now) _ _ _ _ _ _ all c.loop-n.invariant.written
+    record {
+      text = pairs_done (taken_text c.args.schedule.now) _ _ _ _ _ _ all c.loop-n.invariant.written;
+      cause = search rules;
+      room = search rules;
+    }

@@ -5,10 +5,14 @@ use Rattle.lapi_report.proofs.Progress.{refused}
 use Rattle.lapi_report.proofs.Numbers.{number_written, number_stops, numbers_done}
 use Rattle.lapi_report.proofs.wire.write_wires_from.Goals as goal
 
-pub returns-in_err-write_entries-clause-text : goal.returns-in_err-write_entries-clause-text
-returns-in_err-write_entries-clause-text g c =
+pub returns-in_err-write_entries : goal.returns-in_err-write_entries
+returns-in_err-write_entries g c =
     let lt : c.loop-b.b < c.args.world.now.script.tasks = search rules in
-    refused _ _ _ _ c.from_residual.ensures.0 (number_stops (one_wire_text (seen_record c.args.world.now) c.args.a) _ _ _ _ _ _ lt c.loop-b.invariant.written (rw (c.wire.ensures c.requires.spent) at c.in_err-write_entries.ensures.text))
+    record {
+      text = refused _ _ _ _ c.from_residual.ensures.0 (number_stops (one_wire_text (seen_record c.args.world.now) c.args.a) _ _ _ _ _ _ lt c.loop-b.invariant.written (rw (c.wire.ensures c.requires.spent) at c.in_err-write_entries.ensures.text));
+      cause = search rules;
+      room = search rules;
+    }
 
 pub loop-b-preserved : goal.loop-b-preserved
 loop-b-preserved g c =
@@ -19,7 +23,11 @@ loop-b-preserved g c =
       room = search rules;
     }
 
-pub returns-clause-text : goal.returns-clause-text
-returns-clause-text g c =
+pub returns : goal.returns
+returns g c =
     let ge : c.args.world.now.script.tasks ≤ c.loop-b.b = search rules in
-    numbers_done (one_wire_text (seen_record c.args.world.now) c.args.a) _ _ _ _ _ ge c.loop-b.invariant.written
+    record {
+      text = numbers_done (one_wire_text (seen_record c.args.world.now) c.args.a) _ _ _ _ _ ge c.loop-b.invariant.written;
+      cause = search rules;
+      room = search rules;
+    }
