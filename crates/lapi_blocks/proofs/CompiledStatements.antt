@@ -12,7 +12,7 @@ use Rattle.lapi_base.proofs.BelowLaws.{below-all}
 use Rattle.lapi_base.proofs.TestLaws.{eqb-refl}
 use Rattle.lapi_base.proofs.UptoLaws.{upto-length}
 use Rattle.lapi_laws.proofs.Turns.{below-place}
-use Rattle.lapi_base.proofs.ListLaws.{get-some}
+use Rattle.lapi_base.proofs.ListLaws.{get-some, some-same}
 use Rattle.lapi_blocks.specs.declared.plan.Op.{Op}
 use Rattle.lapi_blocks.specs.declared.plan.Op.TheVariants.{Set, Get}
 use Rattle.lapi_blocks.specs.declared.plan.Plan.{Plan}
@@ -40,7 +40,7 @@ all-nth P (x ∷ xs) (suc i) d h l = all-nth P xs i d h.1 (omega arith)
 
 pub nth-of_get : {X : Type 0} (xs : List X) (i : ℕ) (d x : X) → slice_get xs i ≡ Some x → (get_or xs i d ≡ x) × (i < length xs)
 nth-of_get [] i d x h = absurd (cc)
-nth-of_get (y ∷ xs) zero d x h = (Rattle.lapi_laws.proofs.Arrival.some-same y x h, omega arith)
+nth-of_get (y ∷ xs) zero d x h = (some-same y x h, omega arith)
 nth-of_get (y ∷ xs) (suc i) d x h = let r = nth-of_get xs i d x h in (r.0, omega (arith, r.1))
 
 nth-last : (xs : List Statement) (s d : Statement) → get_or (xs ++ s ∷ []) (length xs) d ≡ s
