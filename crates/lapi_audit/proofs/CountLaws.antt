@@ -11,10 +11,10 @@ use Rattle.lapi_base.specs.declared.message.Leg.TheVariants.{Go, Back, Note, Ech
 use Rattle.lapi_base.specs.declared.message.MsgName.{MsgName}
 use Rattle.lapi_base.specs.declared.event.Event.{Event}
 use Rattle.lapi_base.specs.declared.event.Event.TheVariants.{Issue, Refuse, Enter, Pass, Copy, Head, Land, Begin, End}
-use Rattle.lapi_base.specs.Names.{deed}
-use Rattle.lapi_base.specs.Operations.{statement, target, has_back, tgt_counter, org_counter}
-use Rattle.lapi_base.specs.Counters.{is_counter, copy_tells, land_tells, tells, issued_count, passed_count, count}
-use Rattle.lapi_base.specs.Atomic.{Keeps, pass_allowed}
+use Rattle.lapi_base.specs.Record.Names.{key_of}
+use Rattle.lapi_base.specs.Record.Operations.{statement, target, has_back, tgt_counter, org_counter}
+use Rattle.lapi_base.specs.Record.Counters.{is_counter, copy_tells, land_tells, tells, issued_count, passed_count, count}
+use Rattle.lapi_base.specs.Record.Atomic.{Keeps, pass_allowed}
 use Rattle.lapi_audit.specs.Counts.{value, with_value, less, announced, announced_at, told_copy, told_go, told_land, told, issued, passed, after, CountsStand}
 use Rattle.lapi_calls.specs.Places.{task_of, statement_of}
 use Rattle.lapi_calls.specs.Setting.{completes, target_by}
@@ -62,7 +62,7 @@ module _ (script : Script) (rules : Rules) where
   land-told m Echo t c = refl
   land-told m (Join d) t c = refl
 
-  tells-told : (e : Event) (t c : ℕ) → tells script rules e t c ≡ is_counter (told rules e (statement script (task_of (deed e)) (statement_of (deed e)))).1 (told rules e (statement script (task_of (deed e)) (statement_of (deed e)))).0 t c
+  tells-told : (e : Event) (t c : ℕ) → tells script rules e t c ≡ is_counter (told rules e (statement script (task_of (key_of e)) (statement_of (key_of e)))).1 (told rules e (statement script (task_of (key_of e)) (statement_of (key_of e)))).0 t c
   unfolding tells
   tells-told (Copy m) t c = copy-told m m.leg t c
   tells-told (Land m) t c = land-told m m.leg t c
@@ -74,9 +74,9 @@ module _ (script : Script) (rules : Rules) where
   tells-told (Head m) t c = refl
   tells-told (Begin m b w) t c = refl
 
-  told-value : (tasks : List (List ℕ)) (J : List Event) (e : Event) (t c : ℕ) → t < length tasks → c < length (get_or tasks t []) → value tasks t c ≡ count script rules J t c → value (announced_at tasks (told rules e (statement script (task_of (deed e)) (statement_of (deed e))))) t c ≡ count script rules J t c + cond (tells script rules e t c) 1 0
+  told-value : (tasks : List (List ℕ)) (J : List Event) (e : Event) (t c : ℕ) → t < length tasks → c < length (get_or tasks t []) → value tasks t c ≡ count script rules J t c → value (announced_at tasks (told rules e (statement script (task_of (key_of e)) (statement_of (key_of e))))) t c ≡ count script rules J t c + cond (tells script rules e t c) 1 0
   told-value tasks J e t c lt lc old =
-      let at = told rules e (statement script (task_of (deed e)) (statement_of (deed e))) in
+      let at = told rules e (statement script (task_of (key_of e)) (statement_of (key_of e))) in
       at-counter tasks at.0 at.1 t c lt lc ∙ (λ k. old k + cond (sym (tells-told e t c) k) 1 0)
 
   issued-value : (tasks : List (List ℕ)) (s : Statement) (a t c n : ℕ) → t < length tasks → c < length (get_or tasks t []) → value tasks t c ≡ n → value (issued a s tasks) t c ≡ issued_count script rules s a t c n
@@ -137,7 +137,7 @@ module _ (script : Script) (rules : Rules) where
       }
 
   -- after an event the counters stand for the journal with it
-  pub counts-after : (tasks : List (List ℕ)) (J : List Event) (e : Event) → Keeps script rules J e → CountsStand script rules tasks J → CountsStand script rules (after rules e (statement script (task_of (deed e)) (statement_of (deed e))) tasks) (e ∷ J)
+  pub counts-after : (tasks : List (List ℕ)) (J : List Event) (e : Event) → Keeps script rules J e → CountsStand script rules tasks J → CountsStand script rules (after rules e (statement script (task_of (key_of e)) (statement_of (key_of e))) tasks) (e ∷ J)
   unfolding count
   counts-after tasks J (Issue a i) k s = stands-by tasks (issued a (statement script a i) tasks) J (Issue a i ∷ J) s (same-issued tasks a (statement script a i)) (λ t c lt lc old. issued-value tasks (statement script a i) a t c (count script rules J t c) lt lc old)
   counts-after tasks J (Pass a i) k s = stands-by tasks (passed a (statement script a i) tasks) J (Pass a i ∷ J) s (same-passed tasks a (statement script a i)) (λ t c lt lc old. passed-value tasks J (statement script a i) a i t c lt lc old k.waits)

@@ -12,12 +12,12 @@ use Rattle.lapi_base.specs.declared.message.Leg.TheVariants.{Go, Back, Note, Ech
 use Rattle.lapi_base.specs.declared.message.MsgName.{MsgName}
 use Rattle.lapi_base.specs.declared.event.Event.{Event}
 use Rattle.lapi_base.specs.declared.event.Event.TheVariants.{Issue, Refuse, Enter, Pass, Copy, Head, Land, Begin, End}
-use Rattle.lapi_base.specs.Names.{message, Deed, Issued, Landed, Begun, Ended, deed, done}
-use Rattle.lapi_base.specs.Operations.{statement, target, has_back, tgt_counter, org_counter, cmpl_counter, own_counter, target_of}
-use Rattle.lapi_base.specs.Handlers.{has_completion}
-use Rattle.lapi_base.specs.Counters.{is_counter, copy_tells, land_tells, tells, issued_count, passed_count, count}
-use Rattle.lapi_base.specs.Refusals.{option_any, why, why_by}
-use Rattle.lapi_base.specs.Atomic.{Atomic, Keeps, needs, copy_needs, land_needs, to_follow, to_land, only_if}
+use Rattle.lapi_base.specs.Record.Names.{message, EventKey, Issued, Landed, Begun, Ended, key_of, happened}
+use Rattle.lapi_base.specs.Record.Operations.{statement, target, has_back, tgt_counter, org_counter, cmpl_counter, own_counter, target_of}
+use Rattle.lapi_base.specs.Record.Handlers.{has_completion}
+use Rattle.lapi_base.specs.Record.Counters.{is_counter, copy_tells, land_tells, tells, issued_count, passed_count, count}
+use Rattle.lapi_base.specs.Record.Refusals.{option_any, refusal_of, refusal_by}
+use Rattle.lapi_base.specs.Record.Atomic.{Atomic, Keeps, needs, copy_needs, land_needs, to_follow, to_land, only_if}
 use Rattle.lapi_laws.proofs.Backward.{Atomic-head, Atomic-tail, shown}
 use Rattle.lapi_base.proofs.ListLaws.{list_all-each}
 use Rattle.lapi_laws.proofs.Shorts.{none-tests, last-of}
@@ -51,8 +51,8 @@ module _ (script : Script) (rules : Rules) where
   abbrev pub AllThere : Statement → Type 0
   AllThere s = IsThere (own_counter s) × IsThere (tgt_counter s) × IsThere (org_counter s) × IsThere (cmpl_counter s) × IsTask (target_of s)
 
-  pub why-counters : (J : List Event) (a i : ℕ) → why script rules J a i ≡ None → AllThere (statement script a i)
-  unfolding why why_by
+  pub why-counters : (J : List Event) (a i : ℕ) → refusal_of script rules J a i ≡ None → AllThere (statement script a i)
+  unfolding refusal_of refusal_by
   why-counters J a i h =
       let s = statement script a i in
       let test = λ (c : ℕ). not (nat_lt c script.counters) in
@@ -62,11 +62,11 @@ module _ (script : Script) (rules : Rules) where
       let z = any-none test (option_to_list (own_counter s)) (option_to_list (tgt_counter s)) y.0 in
       (is-there (own_counter s) z.0, is-there (tgt_counter s) z.1, is-there (org_counter s) y.1, is-there (cmpl_counter s) x.1, is-task (target_of s) (none-tests _ h).0)
 
-  abbrev Known : Deed → Type 0
+  abbrev Known : EventKey → Type 0
   Known (Issued a i) = AllThere (statement script a i)
   Known _ = Unit {0}
 
-  known-now : (e : Event) (J : List Event) → Keeps script rules J e → Known (deed e)
+  known-now : (e : Event) (J : List Event) → Keeps script rules J e → Known (key_of e)
   known-now (Issue a i) J k = why-counters J a i k.order.1
   known-now (Refuse a i y) J k = tt
   known-now (Enter a i) J k = tt
@@ -77,7 +77,7 @@ module _ (script : Script) (rules : Rules) where
   known-now (Begin m t w) J k = tt
   known-now (End m t w) J k = tt
 
-  pub known : (J : List Event) (a i : ℕ) → Atomic script rules J → done (Issued a i) J ≡ true → AllThere (statement script a i)
+  pub known : (J : List Event) (a i : ℕ) → Atomic script rules J → happened (Issued a i) J ≡ true → AllThere (statement script a i)
   known J a i h d = shown script rules Known known-now (Issued a i) J h d
 
   -- what isn't there isn't told
@@ -86,10 +86,10 @@ module _ (script : Script) (rules : Rules) where
   untold (Some d) a t c h far = false_from_ne_true (a == t && d == c) (λ y. let same = eqb-true d c (and_parts (a == t) (d == c) y).1 in let q : ⊥ = omega arith in q)
 
   -- the operation of a message was issued
-  pub follows-issued : (J : List Event) (a i : ℕ) → AllByRecursion (λ d. done d J ≡ true) (to_follow script rules a i) → done (Issued a i) J ≡ true
-  follows-issued J a i h = (last-of script rules (λ d. done d J ≡ true) (only_if (has_completion script rules a i) (Begun (message a i Go) ∷ Ended (message a i Go) ∷ [])) (Landed (message a i Go) ∷ to_land script rules a i) h).1.0
+  pub follows-issued : (J : List Event) (a i : ℕ) → AllByRecursion (λ d. happened d J ≡ true) (to_follow script rules a i) → happened (Issued a i) J ≡ true
+  follows-issued J a i h = (last-of script rules (λ d. happened d J ≡ true) (only_if (has_completion script rules a i) (Begun (message a i Go) ∷ Ended (message a i Go) ∷ [])) (Landed (message a i Go) ∷ to_land script rules a i) h).1.0
 
-  copy-untold : (J : List Event) (m : MsgName) (leg : Leg) (t c : ℕ) → Atomic script rules J → AllByRecursion (λ d. done d J ≡ true) (copy_needs script rules m.origin m.statement leg) → script.counters ≤ c → copy_tells script rules m leg (statement script m.origin m.statement) t c ≡ false
+  copy-untold : (J : List Event) (m : MsgName) (leg : Leg) (t c : ℕ) → Atomic script rules J → AllByRecursion (λ d. happened d J ≡ true) (copy_needs script rules m.origin m.statement leg) → script.counters ≤ c → copy_tells script rules m leg (statement script m.origin m.statement) t c ≡ false
   copy-untold J m Go t c h n far =
       let o = untold (org_counter (statement script m.origin m.statement)) m.origin t c (known J m.origin m.statement h n.0).2 far in
       (λ k. not (has_back (statement script m.origin m.statement)) && o k) ∙ never (not (has_back (statement script m.origin m.statement)))
@@ -102,7 +102,7 @@ module _ (script : Script) (rules : Rules) where
   copy-untold J m Echo t c h n far = refl
   copy-untold J m (Join d) t c h n far = refl
 
-  land-untold : (J : List Event) (m : MsgName) (leg : Leg) (t c : ℕ) → Atomic script rules J → AllByRecursion (λ d. done d J ≡ true) (land_needs script rules m.origin m.statement leg) → script.counters ≤ c → land_tells script rules m leg (statement script m.origin m.statement) t c ≡ false
+  land-untold : (J : List Event) (m : MsgName) (leg : Leg) (t c : ℕ) → Atomic script rules J → AllByRecursion (λ d. happened d J ≡ true) (land_needs script rules m.origin m.statement leg) → script.counters ≤ c → land_tells script rules m leg (statement script m.origin m.statement) t c ≡ false
   land-untold J m Go t c h n far =
       let s = statement script m.origin m.statement in
       let o = untold (tgt_counter s) (target script m.origin m.statement) t c (known J m.origin m.statement h n.0).1 far in
@@ -119,11 +119,11 @@ module _ (script : Script) (rules : Rules) where
 
   event-untold : (e : Event) (J : List Event) (t c : ℕ) → Atomic script rules J → Keeps script rules J e → script.counters ≤ c → tells script rules e t c ≡ false
   unfolding tells needs
-  event-untold (Copy m) J t c h k far = copy-untold J m m.leg t c h (list_all-each (λ d. done d J) (copy_needs script rules m.origin m.statement m.leg) k.after) far
-  event-untold (Land m) J t c h k far = land-untold J m m.leg t c h (list_all-each (λ d. done d J) (land_needs script rules m.origin m.statement m.leg) k.after) far
+  event-untold (Copy m) J t c h k far = copy-untold J m m.leg t c h (list_all-each (λ d. happened d J) (copy_needs script rules m.origin m.statement m.leg) k.after) far
+  event-untold (Land m) J t c h k far = land-untold J m m.leg t c h (list_all-each (λ d. happened d J) (land_needs script rules m.origin m.statement m.leg) k.after) far
   event-untold (End m b w) J t c h k far =
-      let all = list_all-each (λ d. done d J) (needs script rules (Ended m)) k.after in
-      let issued = (last-of script rules (λ d. done d J ≡ true) (only_if (has_completion script rules m.origin m.statement) (Begun m ∷ [])) (Landed m ∷ to_land script rules m.origin m.statement) all).1.0 in
+      let all = list_all-each (λ d. happened d J) (needs script rules (Ended m)) k.after in
+      let issued = (last-of script rules (λ d. happened d J ≡ true) (only_if (has_completion script rules m.origin m.statement) (Begun m ∷ [])) (Landed m ∷ to_land script rules m.origin m.statement) all).1.0 in
       untold (tgt_counter (statement script m.origin m.statement)) b t c (known J m.origin m.statement h issued).1 far
   event-untold (Issue a i) J t c h k far = refl
   event-untold (Refuse a i y) J t c h k far = refl

@@ -9,14 +9,14 @@ use Rattle.lapi_base.specs.declared.message.Leg.TheVariants.{Go, Back, Note, Ech
 use Rattle.lapi_base.specs.declared.message.MsgName.{MsgName}
 use Rattle.lapi_base.specs.declared.event.Event.{Event}
 use Rattle.lapi_base.specs.declared.event.Event.TheVariants.{Issue, Refuse, Enter, Pass, Copy, Head, Land, Begin, End}
-use Rattle.lapi_base.specs.Names.{leg_eq, name_eq, Deed, Issued, Refused, Entered, Passed, Copied, Headed, Landed, Begun, Ended, deed, deed_eq}
+use Rattle.lapi_base.specs.Record.Names.{leg_eq, name_eq, EventKey, Issued, Refused, Entered, Passed, Copied, Headed, Landed, Begun, Ended, key_of, key_eq}
 use Rattle.lapi_base.specs.declared.rule.Rules.{Rules}
 use Rattle.lapi_base.specs.declared.statement.Statement.{Statement}
-use Rattle.lapi_base.specs.Operations.{statements, statement, has_leg, is_am}
-use Rattle.lapi_base.specs.Handlers.{answers}
-use Rattle.lapi_base.specs.Atomic.{is_there, has_statement, has_message}
-use Rattle.lapi_base.specs.Valid.{ValidScript}
-use Rattle.lapi_base.proofs.NameLaws.{leg_eq-true, done-cons}
+use Rattle.lapi_base.specs.Record.Operations.{statements, statement, has_leg, is_am}
+use Rattle.lapi_base.specs.Record.Handlers.{answers}
+use Rattle.lapi_base.specs.Record.Atomic.{is_there, has_statement, has_message}
+use Rattle.lapi_base.specs.Record.Valid.{ValidScript}
+use Rattle.lapi_base.proofs.NameLaws.{leg_eq-true, happened-cons}
 use Rattle.lapi_audit.specs.declared.operation.Transit.{Transit}
 use Rattle.lapi_audit.specs.declared.operation.Operation.{Operation}
 use Rattle.lapi_audit.specs.Noted.{still, blank, transit_of, with_transit, noted, after, JoinIsBelow, HasJoinBelow, operation, with_operation, noted_in, stood, HasStates, OperationsStand}
@@ -47,7 +47,7 @@ operation-set t a i b j o la li =
     (cases_Bool (b == a))
 
 -- Deeds by their kind and their operation.
-abbrev pub same_kind : Deed → Deed → Bool
+abbrev pub same_kind : EventKey → EventKey → Bool
 same_kind (Issued a i) (Issued b j) = true
 same_kind (Refused a i) (Refused b j) = true
 same_kind (Entered a i) (Entered b j) = true
@@ -59,14 +59,14 @@ same_kind (Begun m) (Begun n) = leg_eq m.leg n.leg
 same_kind (Ended m) (Ended n) = leg_eq m.leg n.leg
 same_kind _ _ = false
 
-abbrev pub same_place : Deed → Deed → Bool
+abbrev pub same_place : EventKey → EventKey → Bool
 same_place d e = task_of d == task_of e && statement_of d == statement_of e
 
 names-parts : (m n : MsgName) → name_eq m n ≡ (leg_eq m.leg n.leg && (m.origin == n.origin && m.statement == n.statement))
 unfolding name_eq
 names-parts m n = and_comm (m.origin == n.origin && m.statement == n.statement) (leg_eq m.leg n.leg)
 
-deed_eq-parts : (d e : Deed) → deed_eq d e ≡ (same_kind d e && same_place d e)
+deed_eq-parts : (d e : EventKey) → key_eq d e ≡ (same_kind d e && same_place d e)
 deed_eq-parts (Issued a i) (Issued b j) = refl
 deed_eq-parts (Refused a i) (Refused b j) = refl
 deed_eq-parts (Entered a i) (Entered b j) = refl
@@ -143,14 +143,14 @@ go-alone l k b e = subst (λ k. (leg_eq l Go && true) ≡ (leg_eq l k || (leg_eq
     by_test true b = refl
     by_test false b = refl
 
--- a deed that isn't of a message's way
-abbrev IsStill : Deed → Type 0
+-- a key_of that isn't of a message's way
+abbrev IsStill : EventKey → Type 0
 IsStill (Copied m) = ⊥
 IsStill (Landed m) = ⊥
 IsStill d = Unit {0}
 
 -- what else an operation has stays where a message moves
-moved : (o : Operation) (k : Leg) (t : Transit) (d : Deed) → IsStill d → noted (with_transit o k t) d ≡ noted o d
+moved : (o : Operation) (k : Leg) (t : Transit) (d : EventKey) → IsStill d → noted (with_transit o k t) d ≡ noted o d
 moved o Go t (Copied m) h = absurd h
 moved o Go t (Landed m) h = absurd h
 moved o Go t d h = refl
@@ -168,7 +168,7 @@ moved o (Join e) t (Landed m) h = absurd h
 moved o (Join e) t d h = refl
 
 -- which deeds of its operation stand after an event
-noted-after : (o : Operation) (e : Event) (d : Deed) → Suits e o → noted (after e o) d ≡ (same_kind d (deed e) || noted o d)
+noted-after : (o : Operation) (e : Event) (d : EventKey) → Suits e o → noted (after e o) d ≡ (same_kind d (key_of e) || noted o d)
 noted-after o (Issue a i) (Issued b j) s = refl
 noted-after o (Issue a i) _ s = refl
 noted-after o (Refuse a i y) (Refused b j) s = refl
@@ -190,23 +190,23 @@ noted-after o (Land m) (Landed n) s = lands o n.leg m.leg s
 noted-after o (Land m) (Copied n) s = lands-apart o n.leg m.leg s
 noted-after o (Land m) d s = moved o m.leg (record (transit_of o m.leg) { landed = true }) d tt
 
-stood-after : (t : List (List Operation)) (e : Event) (d : Deed) → task_of (deed e) < length t → statement_of (deed e) < length (get_or t (task_of (deed e)) []) → Suits e (operation t (task_of (deed e)) (statement_of (deed e))) → stood (noted_in t e) d ≡ (deed_eq d (deed e) || stood t d)
+stood-after : (t : List (List Operation)) (e : Event) (d : EventKey) → task_of (key_of e) < length t → statement_of (key_of e) < length (get_or t (task_of (key_of e)) []) → Suits e (operation t (task_of (key_of e)) (statement_of (key_of e))) → stood (noted_in t e) d ≡ (key_eq d (key_of e) || stood t d)
 unfolding stood
 stood-after t e d la li s =
-    let a = task_of (deed e) in
-    let i = statement_of (deed e) in
+    let a = task_of (key_of e) in
+    let i = statement_of (key_of e) in
     let o = operation t a i in
     ap (λ x. noted x d) (operation-set t a i (task_of d) (statement_of d) (after e o) la li)
-    ∙ elim (same_place d (deed e)) as (λ b. same_place d (deed e) ≡ b → noted (cond b (after e o) (operation t (task_of d) (statement_of d))) d ≡ ((same_kind d (deed e) && b) || noted (operation t (task_of d) (statement_of d)) d)) [
+    ∙ elim (same_place d (key_of e)) as (λ b. same_place d (key_of e) ≡ b → noted (cond b (after e o) (operation t (task_of d) (statement_of d))) d ≡ ((same_kind d (key_of e) && b) || noted (operation t (task_of d) (statement_of d)) d)) [
       | true ↦ λ same.
           let places = and_parts (task_of d == a) (statement_of d == i) same in
           let here : operation t (task_of d) (statement_of d) ≡ o = λ k. operation t (eqb-true (task_of d) a places.0 k) (eqb-true (statement_of d) i places.1 k) in
           noted-after o e d s
-          ∙ ap (λ x. x || noted o d) (and_true (same_kind d (deed e)))
-          ∙ ap (λ x. (same_kind d (deed e) && true) || noted x d) (sym here)
-      | false ↦ λ _. ap (λ x. x || noted (operation t (task_of d) (statement_of d)) d) (and_false (same_kind d (deed e)))
+          ∙ ap (λ x. x || noted o d) (and_true (same_kind d (key_of e)))
+          ∙ ap (λ x. (same_kind d (key_of e) && true) || noted x d) (sym here)
+      | false ↦ λ _. ap (λ x. x || noted (operation t (task_of d) (statement_of d)) d) (and_false (same_kind d (key_of e)))
     ] refl
-    ∙ ap (λ x. x || stood t d) (sym (deed_eq-parts d (deed e)))
+    ∙ ap (λ x. x || stood t d) (sym (deed_eq-parts d (key_of e)))
   where
     and_true : (x : Bool) → x ≡ (x && true)
     and_true true = refl
@@ -227,7 +227,7 @@ joins-after o _ = refl
 
 module _ (script : Script) (rules : Rules) (valid : ValidScript script) where
   -- an event that is there lies at a statement
-  pub there-place : (e : Event) → is_there script rules e ≡ true → has_statement script rules (task_of (deed e)) (statement_of (deed e)) ≡ true
+  pub there-place : (e : Event) → is_there script rules e ≡ true → has_statement script rules (task_of (key_of e)) (statement_of (key_of e)) ≡ true
   there-place (Issue a i) h = (and_parts _ _ h).0
   there-place (Refuse a i y) h = h
   there-place (Enter a i) h = (and_parts _ _ h).0
@@ -254,10 +254,10 @@ module _ (script : Script) (rules : Rules) (valid : ValidScript script) where
   there-suits _ h = tt
 
   -- the table has the place of an event that is there
-  pub place-in : (t : List (List Operation)) (e : Event) → HasStates script t → is_there script rules e ≡ true → (task_of (deed e) < length t) × (statement_of (deed e) < length (get_or t (task_of (deed e)) [])) × (length (operation t (task_of (deed e)) (statement_of (deed e))).joins ≡ 8)
+  pub place-in : (t : List (List Operation)) (e : Event) → HasStates script t → is_there script rules e ≡ true → (task_of (key_of e) < length t) × (statement_of (key_of e) < length (get_or t (task_of (key_of e)) [])) × (length (operation t (task_of (key_of e)) (statement_of (key_of e))).joins ≡ 8)
   place-in t e fits h =
-      let a = task_of (deed e) in
-      let i = statement_of (deed e) in
+      let a = task_of (key_of e) in
+      let i = statement_of (key_of e) in
       let both = and_parts (nat_lt a script.tasks) (nat_lt i (length (statements script a))) (there-place e h) in
       let la : a < script.tasks = ltb-true a script.tasks both.0 in
       let li : i < length (statements script a) = ltb-true i (length (statements script a)) both.1 in
@@ -276,8 +276,8 @@ module _ (script : Script) (rules : Rules) (valid : ValidScript script) where
   -- after an event the states stand for the journal with it
   pub operations-after : (t : List (List Operation)) (J : List Event) (e : Event) → OperationsStand script t J → is_there script rules e ≡ true → OperationsStand script (noted_in t e) (e ∷ J)
   operations-after t J e s h =
-      let a = task_of (deed e) in
-      let i = statement_of (deed e) in
+      let a = task_of (key_of e) in
+      let i = statement_of (key_of e) in
       let o = operation t a i in
       let at = place-in t e s.fits h in
       record {
@@ -295,5 +295,5 @@ module _ (script : Script) (rules : Rules) (valid : ValidScript script) where
                   (λ _. joins-after o e ∙ at.2)
                   (λ _. s.fits.joins b j lb lj);
             };
-        deeds = λ d. stood-after t e d at.0 at.1 (suits-there o e at.2 h) ∙ ap (λ x. deed_eq d (deed e) || x) (s.deeds d) ∙ sym (done-cons d e J);
+        deeds = λ d. stood-after t e d at.0 at.1 (suits-there o e at.2 h) ∙ ap (λ x. key_eq d (key_of e) || x) (s.deeds d) ∙ sym (happened-cons d e J);
       }

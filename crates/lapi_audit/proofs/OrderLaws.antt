@@ -7,10 +7,10 @@ use Rattle.lapi_base.specs.declared.message.Leg.{Leg}
 use Rattle.lapi_base.specs.declared.message.Leg.TheVariants.{Go, Back, Note, Echo, Join}
 use Rattle.lapi_base.specs.declared.event.Event.{Event}
 use Rattle.lapi_base.specs.declared.event.Event.TheVariants.{Issue, Refuse, Enter, Pass, Copy, Head, Land, Begin, End}
-use Rattle.lapi_base.specs.Names.{leg_eq, message, Deed, Headed, Landed, Begun, Ended, deed}
-use Rattle.lapi_base.specs.Operations.{statement, is_am}
-use Rattle.lapi_base.specs.Handlers.{has_completion}
-use Rattle.lapi_base.specs.Atomic.{needs, to_land, to_follow, copy_needs, land_needs, only_if}
+use Rattle.lapi_base.specs.Record.Names.{leg_eq, message, EventKey, Headed, Landed, Begun, Ended, key_of}
+use Rattle.lapi_base.specs.Record.Operations.{statement, is_am}
+use Rattle.lapi_base.specs.Record.Handlers.{has_completion}
+use Rattle.lapi_base.specs.Record.Atomic.{needs, to_land, to_follow, copy_needs, land_needs, only_if}
 use Rattle.lapi_audit.specs.declared.operation.Operation.{Operation}
 use Rattle.lapi_audit.specs.Noted.{operation, stood, transit_of}
 use Rattle.lapi_calls.specs.Places.{task_of, statement_of}
@@ -20,12 +20,12 @@ last : (x : Bool) → x ≡ (x && true)
 last true = refl
 last false = refl
 
--- one deed, or two, that an operation may have
-if-one : (f : Deed → Bool) (b : Bool) (d : Deed) (ds : List Deed) → ((not b || f d) && list_all f ds) ≡ list_all f (only_if b (d ∷ []) ++ ds)
+-- one key_of, or two, that an operation may have
+if-one : (f : EventKey → Bool) (b : Bool) (d : EventKey) (ds : List EventKey) → ((not b || f d) && list_all f ds) ≡ list_all f (only_if b (d ∷ []) ++ ds)
 if-one f true d ds = refl
 if-one f false d ds = refl
 
-if-two : (f : Deed → Bool) (b : Bool) (d e : Deed) (ds : List Deed) → ((not b || (f d && f e)) && list_all f ds) ≡ list_all f (only_if b (d ∷ e ∷ []) ++ ds)
+if-two : (f : EventKey → Bool) (b : Bool) (d e : EventKey) (ds : List EventKey) → ((not b || (f d && f e)) && list_all f ds) ≡ list_all f (only_if b (d ∷ e ∷ []) ++ ds)
 if-two f true d e ds = grouped (f d) (f e) (list_all f ds)
   where
     grouped : (x y z : Bool) → ((x && y) && z) ≡ (x && (y && z))
@@ -33,7 +33,7 @@ if-two f true d e ds = grouped (f d) (f e) (list_all f ds)
     grouped false y z = refl
 if-two f false d e ds = refl
 
-if-last : (f : Deed → Bool) (b : Bool) (d : Deed) → (not b || f d) ≡ list_all f (only_if b (d ∷ []))
+if-last : (f : EventKey → Bool) (b : Bool) (d : EventKey) → (not b || f d) ≡ list_all f (only_if b (d ∷ []))
 if-last f true d = last (f d)
 if-last f false d = refl
 
@@ -68,7 +68,7 @@ module _ (script : Script) (rules : Rules) (t : List (List Operation)) where
   leg-lands a i Note = ap (λ x. (operation t a i).note.copied && x) (copies a i Note)
   leg-lands a i Echo = ap (λ x. (operation t a i).echo.copied && x) (copies a i Echo)
 
-  pub after-needs : (e : Event) → is_after (operation t (task_of (deed e)) (statement_of (deed e))) (is_am (statement script (task_of (deed e)) (statement_of (deed e)))) (has_completion script rules (task_of (deed e)) (statement_of (deed e))) e ≡ list_all (stood t) (needs script rules (deed e))
+  pub after-needs : (e : Event) → is_after (operation t (task_of (key_of e)) (statement_of (key_of e))) (is_am (statement script (task_of (key_of e)) (statement_of (key_of e)))) (has_completion script rules (task_of (key_of e)) (statement_of (key_of e))) e ≡ list_all (stood t) (needs script rules (key_of e))
   unfolding stood needs
   after-needs (Issue a i) = refl
   after-needs (Refuse a i y) = refl

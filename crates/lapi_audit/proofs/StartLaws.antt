@@ -7,13 +7,13 @@ use Rattle.lapi_base.specs.declared.rule.Rules.{Rules}
 use Rattle.lapi_base.specs.declared.statement.Statement.{Statement}
 use Rattle.lapi_base.specs.declared.message.Leg.{Leg}
 use Rattle.lapi_base.specs.declared.message.Leg.TheVariants.{Go, Back, Note, Echo, Join}
-use Rattle.lapi_base.specs.Names.{leg_eq, Deed, Issued, Refused, Entered, Passed, Copied, Headed, Landed, Begun, Ended}
-use Rattle.lapi_base.specs.Operations.{statements}
-use Rattle.lapi_base.specs.Counters.{count}
-use Rattle.lapi_base.specs.Jobs.{landed_jobs, queue, runs}
-use Rattle.lapi_base.specs.Refusals.{next}
-use Rattle.lapi_base.specs.Valid.{ValidScript}
-use Rattle.lapi_base.proofs.NameLaws.{done-nil}
+use Rattle.lapi_base.specs.Record.Names.{leg_eq, EventKey, Issued, Refused, Entered, Passed, Copied, Headed, Landed, Begun, Ended}
+use Rattle.lapi_base.specs.Record.Operations.{statements}
+use Rattle.lapi_base.specs.Record.Counters.{count}
+use Rattle.lapi_base.specs.Record.Jobs.{landed_jobs, queue, runs}
+use Rattle.lapi_base.specs.Record.Refusals.{next}
+use Rattle.lapi_base.specs.Record.Valid.{ValidScript}
+use Rattle.lapi_base.proofs.NameLaws.{happened-nil}
 use Rattle.lapi_audit.specs.declared.operation.Operation.{Operation}
 use Rattle.lapi_audit.specs.declared.operation.Transit.{Transit}
 use Rattle.lapi_audit.specs.Counts.{CountsStand}
@@ -32,7 +32,7 @@ same-or P n i x d px pd =
     (cases_lt i n)
 
 abbrev IsBlank : Operation → Type 0
-IsBlank o = (d : Deed) → noted o d ≡ false
+IsBlank o = (d : EventKey) → noted o d ≡ false
 
 never : (b : Bool) → (b && false) ≡ false
 never true = refl
@@ -74,7 +74,7 @@ operations-start script valid = record {
   deeds = λ d.
       ap (λ (o : Operation). noted o d) (state-of script (task_of d) (statement_of d))
       ∙ same-or IsBlank (length (statements script (task_of d))) (statement_of d) fresh (blank []) (blank-is 8) (blank-is 0) d
-      ∙ sym (done-nil d);
+      ∙ sym (happened-nil d);
 }
 
 pub counts-start : (script : Script) (rules : Rules) → CountsStand script rules (replicate script.tasks (replicate script.counters 0)) []

@@ -9,8 +9,8 @@ use Rattle.lapi_base.specs.declared.message.Leg.TheVariants.{Go, Back, Note, Ech
 use Rattle.lapi_base.specs.declared.message.MsgName.{MsgName}
 use Rattle.lapi_base.specs.declared.event.Event.{Event}
 use Rattle.lapi_base.specs.declared.event.Event.TheVariants.{Issue, Pass, Copy, Land, End}
-use Rattle.lapi_base.specs.Operations.{has_back, tgt_counter, org_counter, cmpl_counter}
-use Rattle.lapi_base.specs.Counters.{count}
+use Rattle.lapi_base.specs.Record.Operations.{has_back, tgt_counter, org_counter, cmpl_counter}
+use Rattle.lapi_base.specs.Record.Counters.{count}
 use Rattle.lapi_audit.specs.declared.counts.Counts.{Counts}
 use Rattle.lapi_calls.specs.Setting.{completes, target_by}
 

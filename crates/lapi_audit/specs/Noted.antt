@@ -5,8 +5,8 @@ use Rattle.lapi_base.specs.declared.message.Leg.{Leg}
 use Rattle.lapi_base.specs.declared.message.Leg.TheVariants.{Go, Back, Note, Echo, Join}
 use Rattle.lapi_base.specs.declared.event.Event.{Event}
 use Rattle.lapi_base.specs.declared.event.Event.TheVariants.{Issue, Refuse, Enter, Pass, Copy, Head, Land, Begin, End}
-use Rattle.lapi_base.specs.Names.{leg_eq, Deed, Issued, Refused, Entered, Passed, Copied, Headed, Landed, Begun, Ended, deed, done}
-use Rattle.lapi_base.specs.Operations.{statements}
+use Rattle.lapi_base.specs.Record.Names.{leg_eq, EventKey, Issued, Refused, Entered, Passed, Copied, Headed, Landed, Begun, Ended, key_of, happened}
+use Rattle.lapi_base.specs.Record.Operations.{statements}
 use Rattle.lapi_calls.specs.Places.{task_of, statement_of}
 use Rattle.lapi_audit.specs.declared.operation.Transit.{Transit}
 use Rattle.lapi_audit.specs.declared.operation.Operation.{Operation}
@@ -50,8 +50,8 @@ with_transit o Note t = record o { note = t }
 with_transit o Echo t = record o { echo = t }
 with_transit o (Join d) t = record o { joins = slice_set o.joins d t }
 
--- whether a deed of the operation stands
-abbrev pub noted : Operation → Deed → Bool
+-- whether a key_of of the operation stands
+abbrev pub noted : Operation → EventKey → Bool
 noted o (Issued a i) = o.issued
 noted o (Refused a i) = o.refused
 noted o (Entered a i) = o.entered
@@ -93,10 +93,10 @@ with_operation table a i o = slice_set table a (slice_set (slice_index_or table 
 
 -- the table with what an event makes of its operation
 abbrev pub noted_in : List (List Operation) → Event → List (List Operation)
-noted_in table e = with_operation table (task_of (deed e)) (statement_of (deed e)) (after e (operation table (task_of (deed e)) (statement_of (deed e))))
+noted_in table e = with_operation table (task_of (key_of e)) (statement_of (key_of e)) (after e (operation table (task_of (key_of e)) (statement_of (key_of e))))
 
--- whether a deed stands, by the states of all operations
-unfoldable pub stood : List (List Operation) → Deed → Bool
+-- whether a key_of stands, by the states of all operations
+unfoldable pub stood : List (List Operation) → EventKey → Bool
 stood table d = noted (operation table (task_of d) (statement_of d)) d
 
 -- no event of any operation stood
@@ -105,7 +105,7 @@ all_fresh script = map (λ statements. replicate (length statements) fresh) scri
 
 -- the operation of an event is there
 abbrev pub HasOperation : List (List Operation) → Event → Type 0
-HasOperation table e = (task_of (deed e) < length table) × (statement_of (deed e) < length (slice_index_or table (task_of (deed e)) []))
+HasOperation table e = (task_of (key_of e) < length table) × (statement_of (key_of e) < length (slice_index_or table (task_of (key_of e)) []))
 
 -- the table has a state for each operation
 pub record HasStates (script : Script) (table : List (List Operation)) : Type 0 where
@@ -116,4 +116,4 @@ pub record HasStates (script : Script) (table : List (List Operation)) : Type 0 
 -- the states stand for the events so far
 pub record OperationsStand (script : Script) (table : List (List Operation)) (J : List Event) : Type 0 where
   pub fits : HasStates script table
-  pub deeds : (d : Deed) → stood table d ≡ done d J
+  pub deeds : (d : EventKey) → stood table d ≡ happened d J

@@ -7,8 +7,8 @@ use Rattle.lapi_base.specs.declared.event.Event.{Event}
 use Rattle.lapi_base.specs.declared.event.Event.TheVariants.{Copy, Head, Land, Begin, End}
 use Rattle.lapi_base.specs.declared.script.Script.{Script}
 use Rattle.lapi_base.specs.declared.rule.Rules.{Rules}
-use Rattle.lapi_base.specs.Names.{leg_eq, deed}
-use Rattle.lapi_base.specs.Atomic.{needs}
+use Rattle.lapi_base.specs.Record.Names.{leg_eq, key_of}
+use Rattle.lapi_base.specs.Record.Atomic.{needs}
 use Rattle.lapi_audit.specs.declared.operation.Operation.{Operation}
 use Rattle.lapi_audit.specs.Noted.{transit_of, stood}
 
@@ -39,4 +39,4 @@ is_after o is_message completes _ = true
 
 -- all that comes before an event in its operation stands, by the states of all operations
 abbrev pub all_stood : Script → Rules → List (List Operation) → Event → Bool
-all_stood script rules table e = list_all (stood table) (needs script rules (deed e))
+all_stood script rules table e = list_all (stood table) (needs script rules (key_of e))

@@ -1,5 +1,5 @@
 -- What the waits are judged by.
-use Rattle.lapi_base.specs.Valid.{ValidScript}
+use Rattle.lapi_base.specs.Record.Valid.{ValidScript}
 use Rattle.lapi_audit.specs.declared.waits.Seen.{Seen}
 use Rattle.lapi_audit.specs.Noted.{HasStates}
 use Rattle.lapi_audit.specs.Rounds.{RoundsStand}

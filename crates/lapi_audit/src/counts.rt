@@ -1,6 +1,6 @@
 //! The counters of all tasks.
 ghost use Rattle.std.specs.Prelude.{◌≡◌, ◌+◌, ◌^◌, ◌<◌, ◌≤◌, ℕ, [], length, map, replicate, slice_index_or, slice_set, IfOk};
-ghost use Rattle.lapi_base.specs.Valid.{ValidScript};
+ghost use Rattle.lapi_base.specs.Record.Valid.{ValidScript};
 ghost use Rattle.lapi_audit.specs.Counts as counts;
 ghost use Rattle.lapi_calls.specs.Setting.{rules_of};
 

@@ -1,7 +1,7 @@
 //! The jobs that wait for a worker, and those that run.
 ghost use Rattle.std.specs.Prelude.{◌≡◌, ◌<◌, ◌&&◌, ◌∷◌, [], ◌++◌, true, ℕ, List, length, drop, map, replicate, None, slice_get, slice_index_or, slice_set, IfOk, OnOk};
-ghost use Rattle.lapi_base.specs.Names as names;
-ghost use Rattle.lapi_base.specs.Valid.{ValidScript};
+ghost use Rattle.lapi_base.specs.Record.Names as names;
+ghost use Rattle.lapi_base.specs.Record.Valid.{ValidScript};
 ghost use Rattle.lapi_audit.specs.Jobs as jobs;
 ghost use Rattle.lapi_calls.specs.Setting.{rules_of};
 
@@ -193,7 +193,7 @@ fn is_name(name: MsgName, other: Option<MsgName>) -> bool
 }
 
 /// Whether two names are of one message.
-#[tactic(auto, unfolding(lapi_base::specs::Names::name_eq))]
+#[tactic(auto, unfolding(lapi_base::specs::Record::Names::name_eq))]
 fn same_name(a: MsgName, b: MsgName) -> bool
     ensures { result ≡ names.name_eq a b }
 {

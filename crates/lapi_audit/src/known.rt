@@ -1,7 +1,7 @@
 //! The addresses that a task knows, by the events so far.
 ghost use Rattle.std.specs.Prelude.{◌≡◌, ◌<◌, ℕ, length, Some, slice_get};
-ghost use Rattle.lapi_base.specs.Operations as operations;
-ghost use Rattle.lapi_base.specs.Operations.{statement, statements, table_rounds};
+ghost use Rattle.lapi_base.specs.Record.Operations as operations;
+ghost use Rattle.lapi_base.specs.Record.Operations.{statement, statements, table_rounds};
 ghost use Rattle.lapi_audit.specs.Known.{known_to};
 ghost use Rattle.lapi_audit.specs.Seen.{IsSeen};
 

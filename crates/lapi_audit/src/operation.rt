@@ -1,6 +1,6 @@
 //! The state of one operation.
 ghost use Rattle.std.specs.Prelude.{◌≡◌, ◌<◌, true, replicate, slice_index_or};
-ghost use Rattle.lapi_base.specs.Names.{deed};
+ghost use Rattle.lapi_base.specs.Record.Names.{key_of};
 ghost use Rattle.lapi_audit.specs.Noted.{still, fresh, transit_of, with_transit, noted, after, JoinIsBelow, HasJoinBelow};
 
 use lapi_base::{Event, Leg};
@@ -83,7 +83,7 @@ impl Operation {
 
     /// Whether an event of this kind and name stood.
     pub fn has(&self, event: &Event) -> bool
-        ensures { result ≡ noted self.now (deed event.now) }
+        ensures { result ≡ noted self.now (key_of event.now) }
     {
         match event {
             Event::Issue { .. } => self.issued,

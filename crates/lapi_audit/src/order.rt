@@ -1,9 +1,9 @@
 //! What comes before an event in its operation.
 ghost use Rattle.std.specs.Prelude.{◌≡◌, true, length, slice_index_or};
 ghost use Rattle.std.specs.List.{list_all};
-ghost use Rattle.lapi_base.specs.Atomic.{is_there, needs};
-ghost use Rattle.lapi_base.specs.Names.{deed};
-ghost use Rattle.lapi_base.specs.Valid.{ValidScript};
+ghost use Rattle.lapi_base.specs.Record.Atomic.{is_there, needs};
+ghost use Rattle.lapi_base.specs.Record.Names.{key_of};
+ghost use Rattle.lapi_base.specs.Record.Valid.{ValidScript};
 ghost use Rattle.lapi_audit.specs.Noted.{stood, HasStates};
 ghost use Rattle.lapi_audit.specs.Order as order;
 ghost use Rattle.lapi_calls.specs.Setting.{rules_of, IsThere};

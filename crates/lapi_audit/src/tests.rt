@@ -1,6 +1,6 @@
 //! Journals of two tasks, and the verdicts on them. Only task 0 has statements.
 ghost use Rattle.std.specs.Prelude.{IfOk};
-ghost use Rattle.lapi_base.specs.Valid.{ValidScript, ValidStatement};
+ghost use Rattle.lapi_base.specs.Record.Valid.{ValidScript, ValidStatement};
 
 use super::*;
 use lapi_base::{

@@ -5,7 +5,7 @@ use Rattle.std.specs.List.{list_any, AllByRecursion}
 use Rattle.std.proofs.lemmas.Bool.{true≢false, false≢true, and_parts, and_from, and_cases, cases_lt, cond-true, cond-false, eq-eqb, cond_both, both_ways, or_left, or_right, false_from_ne_true}
 use Rattle.std.proofs.lemmas.Option.{slice_get_within}
 use Rattle.std.proofs.lemmas.List.Folds.{list_any-append}
-use Rattle.lapi_base.specs.Below.{every_below, below, least_missing}
+use Rattle.lapi_base.specs.Record.Below.{every_below, below, least_missing}
 use Rattle.lapi_base.proofs.ListLaws.{get-before, get-push, all-weaker, all-append}
 
 pub every_below-at : (n : ℕ) (p : ℕ → Bool) (k : ℕ) → every_below n p ≡ true → k < n → p k ≡ true

@@ -7,7 +7,7 @@ use Rattle.std.proofs.Math.Nat.{pow-suc, pow-le-pow_right}
 use Rattle.std.proofs.lemmas.Bool.{eq-eqb, ne_eqb, cases_lt, cases_eq, eqb-true, cond_both, false≢true, eqb-false}
 use lib.Count.{count_trailing_zeros}
 use mir.Val.{bits}
-use Rattle.lapi_base.specs.Below.{has_bit, every_below, bits_of}
+use Rattle.lapi_base.specs.Record.Below.{has_bit, every_below, bits_of}
 use Rattle.lapi_base.proofs.TestLaws.{same_tests}
 use Rattle.lapi_base.proofs.BelowLaws.{every_below-from, every_below-at}
 

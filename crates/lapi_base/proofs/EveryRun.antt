@@ -6,7 +6,8 @@ use Rattle.lapi_base.specs.declared.rule.Rules.{Rules}
 use Rattle.lapi_base.specs.declared.schedule.Act.{Act}
 use Rattle.lapi_base.specs.declared.reply.Bad.{Bad}
 use Rattle.lapi_base.specs.declared.packet.Packet.{Packet}
-use Rattle.lapi_base.specs.Record.{Run, perform, after}
+use Rattle.lapi_base.specs.Record.Wires.{Run}
+use Rattle.lapi_base.specs.Record.Acts.{perform, after}
 use Rattle.lapi_base.proofs.ListLaws.{all-any}
 
 module _ (script : Script) (rules : Rules) (size : Packet → ℕ) (refusal : List ℕ → Bad) where

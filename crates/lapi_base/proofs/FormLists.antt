@@ -4,7 +4,7 @@ use Rattle.std.proofs.lemmas.Bool.{cases_lt, lt-ltb, le-ltb}
 use Rattle.std.proofs.lemmas.List.{append-nil}
 use Rattle.lapi_base.specs.declared.reply.Reason.{Reason}
 use Rattle.lapi_base.specs.declared.reply.Reason.TheVariants as reasons
-use Rattle.lapi_base.specs.Form.{One, Form, Done, ◌>>=◌, any, bytes_form, repeated, and_then, number_at, reading}
+use Rattle.lapi_base.specs.Packet.Format.{One, Format, Done, ◌>>=◌, any, bytes_form, repeated, and_then, number_at, reading}
 use Rattle.lapi_base.proofs.FormLaws.{read_bind, AtMost, at_most_bind, Written, written_bind, Always, always_bind, always_spelled}
 
 -- ---- bytes
@@ -59,7 +59,7 @@ count_bytes (suc count) = λ b lt kept.
 
 -- ---- parts
 
-pub at_most_repeated : {S A : Type 0} (part : S → ℕ → Form A) (next : S → A → S) (size : ℕ) → ((state : S) (following : ℕ) → AtMost size (part state following))
+pub at_most_repeated : {S A : Type 0} (part : S → ℕ → Format A) (next : S → A → S) (size : ℕ) → ((state : S) (following : ℕ) → AtMost size (part state following))
     → (state : S) (count : ℕ) → AtMost (count * size) (repeated part next state count)
 unfolding repeated
 at_most_repeated part next size each state zero = tt
@@ -69,7 +69,7 @@ at_most_repeated part next size each state (suc count) =
     (at_most_bind (part state count) (λ first. repeated part next (next state first) count >>= λ others. Done (first ∷ others)) size (count * size + 0) (each state count)
     (λ first bytes s. at_most_bind (repeated part next (next state first) count) (λ others. Done (first ∷ others)) (count * size) 0 (at_most_repeated part next size each (next state first) count) (λ others bytes' s'. tt)))
 
-pub written_repeated : {S A : Type 0} (part : S → ℕ → Form A) (next : S → A → S) (one : A → List ℕ) (all : List A → List ℕ)
+pub written_repeated : {S A : Type 0} (part : S → ℕ → Format A) (next : S → A → S) (one : A → List ℕ) (all : List A → List ℕ)
     → all [] ≡ [] → ((x : A) (xs : List A) → all (x ∷ xs) ≡ one x ++ all xs)
     → ((state : S) (following : ℕ) → Written (part state following) [] one) → (state : S) (count : ℕ) → Written (repeated part next state count) [] all
 unfolding repeated
@@ -79,7 +79,7 @@ written_repeated part next one all none more each state (suc count) =
     (λ first bytes s. written_bind (repeated part next (next state first) count) (λ others. Done (first ∷ others)) ([] ++ one first) all all
     (written_repeated part next one all none more each (next state first) count) (λ others bytes' s'. more first others))
 
-pub count_repeated : {S A : Type 0} (part : S → ℕ → Form A) (next : S → A → S) (state : S) (count : ℕ) → Always (λ xs. length xs ≡ count) (repeated part next state count)
+pub count_repeated : {S A : Type 0} (part : S → ℕ → Format A) (next : S → A → S) (state : S) (count : ℕ) → Always (λ xs. length xs ≡ count) (repeated part next state count)
 unfolding repeated
 count_repeated part next state zero = refl
 count_repeated part next state (suc count) =
@@ -105,7 +105,7 @@ each_then : {A B : Type 0} (r : Result (A × List ℕ) (ℕ × Reason)) (f g : A
 each_then (Ok x) f g each = each x
 each_then (Err e) f g each = refl
 
-one_more : {S A : Type 0} (part : S → ℕ → Form A) (next : S → A → S) (state : S) (count : ℕ) (bytes : List ℕ)
+one_more : {S A : Type 0} (part : S → ℕ → Format A) (next : S → A → S) (state : S) (count : ℕ) (bytes : List ℕ)
     → reading (repeated part next state (suc count)) bytes ≡ and_then (reading (part state count) bytes) (λ x. and_then (reading (repeated part next (next state x.0) count) x.1) (λ y. Ok (x.0 ∷ y.0, y.1)))
 unfolding repeated
 one_more part next state count bytes =
@@ -115,12 +115,12 @@ one_more part next state count bytes =
     (λ x. read_bind (repeated part next (next state x.0) count) (λ others. Done (x.0 ∷ others)) x.1)
 
 -- Nothing was read before.
-pub begins : {S A : Type 0} (part : S → ℕ → Form A) (next : S → A → S) (state : S) (count following : ℕ) (bytes : List ℕ)
+pub begins : {S A : Type 0} (part : S → ℕ → Format A) (next : S → A → S) (state : S) (count following : ℕ) (bytes : List ℕ)
     → following ≡ count → with_front [] (reading (repeated part next state following) bytes) ≡ reading (repeated part next state count) bytes
 begins part next state count following bytes same = ap (λ (n : ℕ). with_front [] (reading (repeated part next state n) bytes)) same ∙ nothing_before (reading (repeated part next state count) bytes)
 
 -- One part more was read, and the others are still read.
-pub goes_on : {S A : Type 0} (part : S → ℕ → Form A) (next : S → A → S) (state : S) (count following : ℕ) (front : List A) (bytes : List ℕ) (x : A) (after : List ℕ) (total : Result (List A × List ℕ) (ℕ × Reason))
+pub goes_on : {S A : Type 0} (part : S → ℕ → Format A) (next : S → A → S) (state : S) (count following : ℕ) (front : List A) (bytes : List ℕ) (x : A) (after : List ℕ) (total : Result (List A × List ℕ) (ℕ × Reason))
     → count ≡ suc following → reading (part state following) bytes ≡ Ok (x, after)
     → with_front front (reading (repeated part next state count) bytes) ≡ total → with_front (front ++ x ∷ []) (reading (repeated part next (next state x) following) after) ≡ total
 goes_on part next state count following front bytes x after total more here so_far =
@@ -129,7 +129,7 @@ goes_on part next state count following front bytes x after total more here so_f
     sym (regroup front x r) ∙ ap (with_front front) (sym one) ∙ so_far
 
 -- The next part isn't there, so the whole isn't.
-pub ends : {S A : Type 0} (part : S → ℕ → Form A) (next : S → A → S) (state : S) (count following : ℕ) (front : List A) (bytes : List ℕ) (fault : ℕ × Reason) (total : Result (List A × List ℕ) (ℕ × Reason))
+pub ends : {S A : Type 0} (part : S → ℕ → Format A) (next : S → A → S) (state : S) (count following : ℕ) (front : List A) (bytes : List ℕ) (fault : ℕ × Reason) (total : Result (List A × List ℕ) (ℕ × Reason))
     → count ≡ suc following → reading (part state following) bytes ≡ Err fault
     → with_front front (reading (repeated part next state count) bytes) ≡ total → total ≡ Err fault
 ends part next state count following front bytes fault total more here so_far =
@@ -137,7 +137,7 @@ ends part next state count following front bytes fault total more here so_far =
     sym so_far ∙ ap (with_front front) one
 
 -- No part is left.
-pub is_done : {S A : Type 0} (part : S → ℕ → Form A) (next : S → A → S) (state : S) (count : ℕ) (front : List A) (bytes : List ℕ) (total : Result (List A × List ℕ) (ℕ × Reason))
+pub is_done : {S A : Type 0} (part : S → ℕ → Format A) (next : S → A → S) (state : S) (count : ℕ) (front : List A) (bytes : List ℕ) (total : Result (List A × List ℕ) (ℕ × Reason))
     → count ≡ 0 → with_front front (reading (repeated part next state count) bytes) ≡ total → total ≡ Ok (front, bytes)
 unfolding repeated
 is_done part next state count front bytes total none so_far =

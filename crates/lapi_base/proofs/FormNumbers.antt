@@ -5,7 +5,7 @@ use Rattle.std.proofs.lemmas.Bool.{cases_lt, lt-ltb, le-ltb}
 use Rattle.std.proofs.lemmas.List.{take_at, drop_at, take-append-drop, length-append, length-take, length-drop, get_or-drop, get_or-take, get_or_past}
 use Rattle.std.proofs.lemmas.Nat.{be_bytes_2, be_bytes_4, be_bytes_8, from_be_bytes-to_be_bytes_2, from_be_bytes-to_be_bytes_4, from_be_bytes-to_be_bytes_8}
 use Rattle.lapi_base.specs.declared.reply.Reason.TheVariants as reasons
-use Rattle.lapi_base.specs.Form.{Size, One, Two, Four, Eight, width, byte_count, bytes_of, number_at}
+use Rattle.lapi_base.specs.Packet.Format.{Size, One, Two, Four, Eight, width, byte_count, bytes_of, number_at}
 
 abbrev pub IsBytes : List ℕ → Type 0
 IsBytes bytes = (i : ℕ) → get_or bytes i 0 < 256

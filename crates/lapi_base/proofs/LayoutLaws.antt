@@ -1,7 +1,7 @@
 -- What a layout sets, by its number.
 use Rattle.std.proofs.Common.{◌≡◌, ℕ, ◌<◌, lit<, ◌==◌, true, false, cond, refl}
 use Rattle.lapi_base.specs.declared.script.Script.{Script}
-use Rattle.lapi_base.specs.Layout.{Layout, First, Second, layout_of, unit, window, window_of, longest, longest_active, has_echo, most_lines, most_injected}
+use Rattle.lapi_base.specs.Packet.Layout.{Layout, First, Second, layout_of, unit, window, window_of, longest, longest_active, has_echo, most_lines, most_injected}
 
 pub unit_by : (n : ℕ) → unit (layout_of n) ≡ cond (n == 2) 1024 256
 unit_by n = elim (n == 2) as (λ b. unit (cond b Second First) ≡ cond b 1024 256) [ true ↦ refl | false ↦ refl ]

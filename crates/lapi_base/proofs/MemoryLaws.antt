@@ -4,7 +4,7 @@ use Rattle.std.specs.Prelude.{slice_index}
 use Rattle.std.proofs.lemmas.Bool.{cases_lt}
 use Rattle.std.proofs.lemmas.Bool.Decides.{nat_tests}
 use Rattle.std.proofs.lemmas.List.{places}
-use Rattle.lapi_base.specs.Values.{byte_after}
+use Rattle.lapi_base.specs.Record.Values.{byte_after}
 
 byte_of_written : (memory : List ℕ) (at : ℕ) (bytes : List ℕ) → at + length bytes ≤ length memory → (x : ℕ) → slice_index (take at memory ++ bytes ++ drop (at + length bytes) memory) x ≡ byte_after ((at, bytes) ∷ []) x (slice_index memory x)
 unfolding byte_after

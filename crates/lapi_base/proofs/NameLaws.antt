@@ -6,7 +6,7 @@ use Rattle.lapi_base.specs.declared.message.Leg.{Leg}
 use Rattle.lapi_base.specs.declared.message.Leg.TheVariants.{Go, Back, Note, Echo, Join}
 use Rattle.lapi_base.specs.declared.message.MsgName.{MsgName}
 use Rattle.lapi_base.specs.declared.event.Event.{Event}
-use Rattle.lapi_base.specs.Names.{leg_eq, name_eq, Deed, Issued, Refused, Entered, Passed, Copied, Headed, Landed, Begun, Ended, deed, deed_eq, done}
+use Rattle.lapi_base.specs.Record.Names.{leg_eq, name_eq, EventKey, Issued, Refused, Entered, Passed, Copied, Headed, Landed, Begun, Ended, key_of, key_eq, happened}
 use Rattle.lapi_base.proofs.TestLaws.{eqb-refl}
 
 pub leg_eq-refl : (l : Leg) → leg_eq l l ≡ true
@@ -45,7 +45,7 @@ name_eq-false m n differ = by_test (name_eq m n) refl
     by_test true e = absurd (differ (name_eq-true m n e))
     by_test false e = refl
 
-pub deed_eq-refl : (d : Deed) → deed_eq d d ≡ true
+pub deed_eq-refl : (d : EventKey) → key_eq d d ≡ true
 deed_eq-refl (Issued a i) = and_from _ _ (eqb-refl a) (eqb-refl i)
 deed_eq-refl (Refused a i) = and_from _ _ (eqb-refl a) (eqb-refl i)
 deed_eq-refl (Entered a i) = and_from _ _ (eqb-refl a) (eqb-refl i)
@@ -56,10 +56,10 @@ deed_eq-refl (Landed m) = name_eq-refl m
 deed_eq-refl (Begun m) = name_eq-refl m
 deed_eq-refl (Ended m) = name_eq-refl m
 
-pair : (f : ℕ → ℕ → Deed) (a b i j : ℕ) → (a == b && i == j) ≡ true → f a i ≡ f b j
+pair : (f : ℕ → ℕ → EventKey) (a b i j : ℕ) → (a == b && i == j) ≡ true → f a i ≡ f b j
 pair f a b i j h = let hs = and_parts (a == b) (i == j) h in let p = eqb-true a b hs.0 in let q = eqb-true i j hs.1 in λ k. f (p k) (q k)
 
-pub deed_eq-true : (d e : Deed) → deed_eq d e ≡ true → d ≡ e
+pub deed_eq-true : (d e : EventKey) → key_eq d e ≡ true → d ≡ e
 deed_eq-true (Issued a i) (Issued b j) h = pair Issued a b i j h
 deed_eq-true (Refused a i) (Refused b j) h = pair Refused a b i j h
 deed_eq-true (Entered a i) (Entered b j) h = pair Entered a b i j h
@@ -71,36 +71,36 @@ deed_eq-true (Begun m) (Begun n) h = ap Begun (name_eq-true m n h)
 deed_eq-true (Ended m) (Ended n) h = ap Ended (name_eq-true m n h)
 deed_eq-true _ _ h = absurd (false≢true h)
 
-pub done-nil : (d : Deed) → done d [] ≡ false
-unfolding done
-done-nil d = refl
+pub happened-nil : (d : EventKey) → happened d [] ≡ false
+unfolding happened
+happened-nil d = refl
 
-pub done-cons : (d : Deed) (e : Event) (J : List Event) → done d (e ∷ J) ≡ (deed_eq d (deed e) || done d J)
-unfolding done
-done-cons d e J = refl
+pub happened-cons : (d : EventKey) (e : Event) (J : List Event) → happened d (e ∷ J) ≡ (key_eq d (key_of e) || happened d J)
+unfolding happened
+happened-cons d e J = refl
 
-pub done-head : (e : Event) (J : List Event) → done (deed e) (e ∷ J) ≡ true
-done-head e J = done-cons (deed e) e J ∙ or_left _ _ (deed_eq-refl (deed e))
+pub happened-head : (e : Event) (J : List Event) → happened (key_of e) (e ∷ J) ≡ true
+happened-head e J = happened-cons (key_of e) e J ∙ or_left _ _ (deed_eq-refl (key_of e))
 
-pub done-later : (d : Deed) (e : Event) (J : List Event) → done d J ≡ true → done d (e ∷ J) ≡ true
-done-later d e J h = done-cons d e J ∙ or_right _ _ h
+pub happened-later : (d : EventKey) (e : Event) (J : List Event) → happened d J ≡ true → happened d (e ∷ J) ≡ true
+happened-later d e J h = happened-cons d e J ∙ or_right _ _ h
 
 -- and after any more events
-pub done-grown : (later J : List Event) (d : Deed) → done d J ≡ true → done d (later ++ J) ≡ true
-done-grown [] J d h = h
-done-grown (e ∷ later) J d h = done-later d e (later ++ J) (done-grown later J d h)
+pub happened-grown : (later J : List Event) (d : EventKey) → happened d J ≡ true → happened d (later ++ J) ≡ true
+happened-grown [] J d h = h
+happened-grown (e ∷ later) J d h = happened-later d e (later ++ J) (happened-grown later J d h)
 
-pub done-cases : (d : Deed) (e : Event) (J : List Event) → done d (e ∷ J) ≡ true → (d ≡ deed e) ⊎ (done d J ≡ true)
-done-cases d e J h =
+pub happened-cases : (d : EventKey) (e : Event) (J : List Event) → happened d (e ∷ J) ≡ true → (d ≡ key_of e) ⊎ (happened d J ≡ true)
+happened-cases d e J h =
     ⊎_elim
-    (λ (x : deed_eq d (deed e) ≡ true). inl (deed_eq-true d (deed e) x))
-    (λ (x : done d J ≡ true). inr x)
-    (or_cases _ _ (sym (done-cons d e J) ∙ h))
+    (λ (x : key_eq d (key_of e) ≡ true). inl (deed_eq-true d (key_of e) x))
+    (λ (x : happened d J ≡ true). inr x)
+    (or_cases _ _ (sym (happened-cons d e J) ∙ h))
 
--- a deed of another kind or name than e's stands after e where it stood before
-pub done-other : (d : Deed) (e : Event) (J : List Event) → deed_eq d (deed e) ≡ false → done d (e ∷ J) ≡ done d J
-done-other d e J h = done-cons d e J ∙ ap (λ b. b || done d J) h
+-- a key_of of another kind or name than e's stands after e where it stood before
+pub happened-other : (d : EventKey) (e : Event) (J : List Event) → key_eq d (key_of e) ≡ false → happened d (e ∷ J) ≡ happened d J
+happened-other d e J h = happened-cons d e J ∙ ap (λ b. b || happened d J) h
 
-pub done-all-later : (ds : List Deed) (e : Event) (J : List Event) → AllByRecursion (λ d. done d J ≡ true) ds → AllByRecursion (λ d. done d (e ∷ J) ≡ true) ds
-done-all-later [] e J h = tt
-done-all-later (d ∷ ds) e J h = (done-later d e J h.0, done-all-later ds e J h.1)
+pub happened-all-later : (ds : List EventKey) (e : Event) (J : List Event) → AllByRecursion (λ d. happened d J ≡ true) ds → AllByRecursion (λ d. happened d (e ∷ J) ≡ true) ds
+happened-all-later [] e J h = tt
+happened-all-later (d ∷ ds) e J h = (happened-later d e J h.0, happened-all-later ds e J h.1)

@@ -6,9 +6,9 @@ use Rattle.std.proofs.lemmas.List.Folds.{list_any-append}
 use Rattle.std.specs.Prelude.{slice_get}
 use Rattle.lapi_base.specs.declared.packet.Packet.{Packet}
 use Rattle.lapi_base.specs.declared.packet.Packet.TheVariants.{Data, Ack}
-use Rattle.lapi_base.specs.Record.{is_number, has_number, base}
+use Rattle.lapi_base.specs.Record.Wires.{is_number, has_number, base}
 use Rattle.lapi_base.specs.declared.packet.DataPacket.{DataPacket}
-use Rattle.lapi_base.specs.Arrived.{has_some, is_part_of, number_bound, least_number}
+use Rattle.lapi_base.specs.Record.Arrived.{has_some, is_part_of, number_bound, least_number}
 use Rattle.lapi_base.proofs.ListLaws.{any-get}
 use Rattle.lapi_base.proofs.NameLaws.{name_eq-refl}
 use Rattle.lapi_base.proofs.BelowLaws.{least_missing-not, least_missing-least}

@@ -1,16 +1,16 @@
 -- What lines that are made of other forms say.
 use Rattle.std.proofs.Common.{◌≡◌, ℕ, List, Result, Ok, Err, refl, sym, ◌∙◌}
-use Rattle.lapi_base.specs.declared.input.Why.{Why}
+use Rattle.lapi_base.specs.declared.input.LineError.{LineError}
 use Rattle.lapi_base.specs.declared.schedule.Act.{Act}
 use Rattle.lapi_base.specs.declared.schedule.Line.{Line}
-use Rattle.lapi_base.specs.Tokens.{Number}
-use Rattle.lapi_base.specs.Forms.{Form, End, Wrong, Next, Take, run, and_then, word_at, value_at, end_at, ◌>>=◌, Does, statement_form, act_form, line_form}
+use Rattle.lapi_base.specs.Input.Tokens.{Number}
+use Rattle.lapi_base.specs.Input.Forms.{Form, End, Wrong, Next, Take, run, and_then, word_at, value_at, end_at, ◌>>=◌, Does, statement_form, act_form, line_form}
 
-then_ok : {A B C : Type 0} (r : Result A Why) (f : A → Result B Why) (g : B → C) → and_then (and_then r f) (λ b. Ok (g b)) ≡ and_then r (λ a. and_then (f a) (λ b. Ok (g b)))
+then_ok : {A B C : Type 0} (r : Result A LineError) (f : A → Result B LineError) (g : B → C) → and_then (and_then r f) (λ b. Ok (g b)) ≡ and_then r (λ a. and_then (f a) (λ b. Ok (g b)))
 then_ok (Ok x) f g = refl
 then_ok (Err e) f g = refl
 
-then_same : {A B : Type 0} (r : Result A Why) (f g : A → Result B Why) → ((a : A) → f a ≡ g a) → and_then r f ≡ and_then r g
+then_same : {A B : Type 0} (r : Result A LineError) (f g : A → Result B LineError) → ((a : A) → f a ≡ g a) → and_then r f ≡ and_then r g
 then_same (Ok x) f g same = same x
 then_same (Err e) f g same = refl
 

@@ -9,15 +9,15 @@ use Rattle.lapi_base.specs.declared.head.NoteOp.{NoteOp}
 use Rattle.lapi_base.specs.declared.packet.Packet.{Packet}
 use Rattle.lapi_base.specs.declared.message.Leg.{Leg}
 use Rattle.lapi_base.specs.declared.message.Leg.TheVariants.{Go, Back, Note, Echo, Join}
-use Rattle.lapi_base.specs.Form.{Form, Done, ◌>>=◌, bytes_form}
-use Rattle.lapi_base.specs.Fragments.{fragment_length}
-use Rattle.lapi_base.specs.Layout.{Layout, First, longest, unit}
-use Rattle.lapi_base.specs.Parts.{counter_form, range_form, word_form, count_form, span_form, within_span, covering_span, matching_span, left_behind, behind, within_form, covering_form, matching_form}
-use Rattle.lapi_base.specs.Heads.{put_form, get_go_form, get_back_form, putv_form, getv_go_form, getv_back_form, update_of, update_form, rmw_go_form, rmw_back_form, header_count_form, am_form, note_of, note_form, echo_form, round_form, gfence_form, addr_form, is_operation, operation_form, head_form}
-use Rattle.lapi_base.specs.Spelling.{task_form, kind_form, front_form, acknowledgement_form, is_leg, leg_of, leg_form, name_form, length_form, fragment_form, data_form, packet_form, Spells}
-use Rattle.lapi_base.specs.Written.{leg_number, head_number, note_number, update_number}
+use Rattle.lapi_base.specs.Packet.Format.{Format, Done, ◌>>=◌, bytes_form}
+use Rattle.lapi_base.specs.Record.Fragments.{fragment_length}
+use Rattle.lapi_base.specs.Packet.Layout.{Layout, First, longest, unit}
+use Rattle.lapi_base.specs.Packet.Fields.{counter_form, range_form, word_form, count_form, span_form, within_span, covering_span, matching_span, left_behind, behind, within_form, covering_form, matching_form}
+use Rattle.lapi_base.specs.Packet.Heads.{put_form, get_go_form, get_back_form, putv_form, getv_go_form, getv_back_form, update_of, update_form, rmw_go_form, rmw_back_form, header_count_form, am_form, note_op_of, note_form, echo_form, round_form, gfence_form, addr_form, is_operation, operation_form, head_form}
+use Rattle.lapi_base.specs.Packet.Spelling.{task_form, kind_form, front_form, acknowledgement_form, is_leg, leg_of, leg_form, name_form, length_form, fragment_form, data_form, packet_form, Spells}
+use Rattle.lapi_base.specs.Packet.PacketBytes.{leg_number, head_number, note_number, update_number}
 use Rattle.lapi_base.specs.declared.reply.Bad.{Bad}
-use Rattle.lapi_base.specs.Written as written
+use Rattle.lapi_base.specs.Packet.PacketBytes as written
 use Rattle.lapi_base.proofs.FormLaws.{answer_spelled, Written, written_bind, written_spelling, Always, always_bind, always_spelled}
 use Rattle.lapi_base.proofs.FormLists.{as_is, written_bytes, count_bytes, written_repeated, count_repeated}
 use Rattle.lapi_base.proofs.FormChoices.{written_if, always_if}
@@ -151,7 +151,7 @@ written_head layout Go op size =
     (λ _. written_if (op == 5) _ _ [] written.head (λ _. written_rmw_go) (λ _. written_am)))))
 written_head layout Back op size =
     written_if (op == 2) _ _ [] written.head (λ _. written_get_back size) (λ _. written_if (op == 4) _ _ [] written.head (λ _. written_getv_back size) (λ _. written_rmw_back))
-written_head layout Note op size = written_note (note_of op)
+written_head layout Note op size = written_note (note_op_of op)
 written_head layout Echo op size = written_echo
 written_head layout (Join _) op size = written_if (op == 7) _ _ [] written.head (λ _. written_gfence) (λ _. written_addr)
 
@@ -216,7 +216,7 @@ unfolding addr_form round_form
 addr_is = λ round _ _ address _ _. refl
 
 -- the same of a number that is equal
-same_is : (f : Form Head) (a b : ℕ) → a ≡ b → Always (IsOf a) f → Always (IsOf b) f
+same_is : (f : Format Head) (a b : ℕ) → a ≡ b → Always (IsOf a) f → Always (IsOf b) f
 same_is f a b e h = subst (λ (n : ℕ). Always (IsOf n) f) e h
 
 -- a test of a number that didn't hold
@@ -256,7 +256,7 @@ back_is layout op size e =
     (λ a. always_if (IsOf op) (op == 4) _ _ (λ b. same_is (getv_back_form size) 4 op (sym (eqb-true op 4 b)) (getv_back_is size))
     (λ b. same_is rmw_back_form 5 op (sym (one_of_three op 2 4 5 e (other op 2 a) (other op 4 b))) rmw_back_is))
 
-noted : (op : ℕ) → (op == 1 || op == 3 || op == 6) ≡ true → note_number (note_of op) ≡ op
+noted : (op : ℕ) → (op == 1 || op == 3 || op == 6) ≡ true → note_number (note_op_of op) ≡ op
 noted op e =
     elim (cases_Bool (op == 1)) [
       | inl a ↦ rw a (sym (eqb-true op 1 a))
@@ -270,7 +270,7 @@ head_is : (layout : Layout) (leg : Leg) (op size : ℕ) → is_operation leg op 
 unfolding head_form
 head_is layout Go op size e = go_is layout op size e
 head_is layout Back op size e = back_is layout op size e
-head_is layout Note op size e = same_is (note_form (note_of op)) (note_number (note_of op)) op (noted op e) (note_is (note_of op))
+head_is layout Note op size e = same_is (note_form (note_op_of op)) (note_number (note_op_of op)) op (noted op e) (note_is (note_op_of op))
 head_is layout Echo op size e = same_is echo_form 6 op (sym (eqb-true op 6 e)) echo_is
 head_is layout (Join _) op size e =
     always_if (IsOf op) (op == 7) _ _ (λ a. same_is gfence_form 7 op (sym (eqb-true op 7 a)) gfence_is)

@@ -33,7 +33,7 @@ pub enum Which {
 
 /// What is wrong with a line.
 #[derive(Clone, Copy, Debug, Eq, PartialEq)]
-pub enum Why {
+pub enum LineError {
     /// It isn't of a form that may stand there.
     Syntax,
     /// It has its form, and a quantity passes its limit there.

@@ -1,13 +1,13 @@
 //! What a script's layout of packets sets.
 
 ghost use Rattle.std.specs.Prelude.{◌≡◌, ◌⊎◌, ◌≤◌};
-ghost use Rattle.lapi_base.specs.Layout.{layout_of, most_lines, most_injected, unit_of, window_of, longest_of, longest_active_of, may_answer};
+ghost use Rattle.lapi_base.specs.Packet.Layout.{layout_of, most_lines, most_injected, unit_of, window_of, longest_of, longest_active_of, may_answer};
 
 use crate::script::Script;
 
 impl Script {
     /// The bytes of each fragment but the last.
-    #[tactic(auto, unfolding(crate::specs::Layout::unit_of), using(crate::proofs::LayoutLaws::unit_by))]
+    #[tactic(auto, unfolding(crate::specs::Packet::Layout::unit_of), using(crate::proofs::LayoutLaws::unit_by))]
     pub fn unit(&self) -> u32
         ensures unit { result ≡ unit_of self.now }
         ensures one { (result ≡ 256) ⊎ (result ≡ 1024) }
@@ -16,7 +16,7 @@ impl Script {
     }
 
     /// How many packets from the least that is not acknowledged on a link sends.
-    #[tactic(auto, unfolding(crate::specs::Layout::window_of), using(crate::proofs::LayoutLaws::window_by))]
+    #[tactic(auto, unfolding(crate::specs::Packet::Layout::window_of), using(crate::proofs::LayoutLaws::window_by))]
     pub fn window(&self) -> u32
         ensures window { result ≡ window_of self.now }
         ensures bounded { (1 ≤ result) × (result ≤ 64) }
@@ -25,7 +25,7 @@ impl Script {
     }
 
     /// The bytes of the longest message that isn't an active message.
-    #[tactic(auto, unfolding(crate::specs::Layout::longest_of), using(crate::proofs::LayoutLaws::longest_by))]
+    #[tactic(auto, unfolding(crate::specs::Packet::Layout::longest_of), using(crate::proofs::LayoutLaws::longest_by))]
     pub fn longest(&self) -> u32
         ensures { result ≡ longest_of self.now }
     {
@@ -33,7 +33,7 @@ impl Script {
     }
 
     /// The bytes of the longest active message.
-    #[tactic(auto, unfolding(crate::specs::Layout::longest_active_of), using(crate::proofs::LayoutLaws::longest_active_by))]
+    #[tactic(auto, unfolding(crate::specs::Packet::Layout::longest_active_of), using(crate::proofs::LayoutLaws::longest_active_by))]
     pub fn longest_active(&self) -> u32
         ensures { result ≡ longest_active_of self.now }
     {
@@ -41,7 +41,7 @@ impl Script {
     }
 
     /// Whether a completion handler may answer the origin.
-    #[tactic(auto, unfolding(crate::specs::Layout::may_answer), using(crate::proofs::LayoutLaws::has_echo_by))]
+    #[tactic(auto, unfolding(crate::specs::Packet::Layout::may_answer), using(crate::proofs::LayoutLaws::has_echo_by))]
     pub fn may_answer(&self) -> bool
         ensures { result ≡ may_answer self.now }
     {

@@ -35,7 +35,7 @@ pub use event::{Event, Events};
 pub use frame::{FRAME_ROOM, Frame};
 pub use handler::{Effect, HeaderIn, HeaderOut};
 pub use head::{Head, NoteOp};
-pub use input::{Input, LONGEST_INPUT, ReadFault, Which, Why};
+pub use input::{Input, LONGEST_INPUT, LineError, ReadFault, Which};
 pub use memory::Memory;
 pub use message::{Leg, MsgName};
 pub use numbers::Numbers;

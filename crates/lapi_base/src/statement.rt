@@ -22,7 +22,7 @@ pub enum RmwOp {
 
 impl RmwOp {
     ghost use Rattle.std.specs.Prelude.{◌≡◌, ◌≤◌, length};
-    ghost use Rattle.lapi_base.specs.Rows.{operation_word};
+    ghost use Rattle.lapi_base.specs.Input.Rows.{operation_word};
 
     /// Its word in a text.
     pub fn word(self) -> &'static str

@@ -6,11 +6,11 @@ use Rattle.std.proofs.lemmas.Bool.{false≢true, cond-true, cond_both, eqb-true,
 use Rattle.std.proofs.lemmas.List.{get_or-map, get_or_append_left, get_or-append_right, length-append, length-map, length_push}
 use Rattle.lapi_base.specs.declared.statement.Statement.{Statement}
 use Rattle.lapi_base.specs.declared.statement.Statement.TheVariants.{Store, Fence, Gfence}
-use Rattle.lapi_base.specs.Below.{below}
-use Rattle.lapi_base.specs.Operations.{upto, statements, statement, is_gfence}
+use Rattle.lapi_base.specs.Record.Below.{below}
+use Rattle.lapi_base.specs.Record.Operations.{numbers_below, statements, statement, is_gfence}
 use Rattle.lapi_base.proofs.BelowLaws.{below-all}
 use Rattle.lapi_base.proofs.TestLaws.{eqb-refl}
-use Rattle.lapi_base.proofs.UptoLaws.{upto-length}
+use Rattle.lapi_base.proofs.UptoLaws.{numbers_below-length}
 use Rattle.lapi_laws.proofs.Turns.{below-place}
 use Rattle.lapi_base.proofs.ListLaws.{get-some, some-same}
 use Rattle.lapi_blocks.specs.declared.plan.Op.{Op}
@@ -19,7 +19,7 @@ use Rattle.lapi_blocks.specs.declared.plan.Plan.{Plan}
 use Rattle.lapi_epochs.specs.Epochs.{epoch, Has}
 use Rattle.lapi_blocks.specs.Plans.{Patch, patch_of, tasks_of, part_of, is_nonempty, area, moves, owners, own_statements, op_statements, first_statements, compiled}
 use Rattle.lapi_epochs.proofs.EpochOrder.{epoch-fence, epoch-other}
-use Rattle.lapi_epochs.proofs.GatheredPieces.{upto-nth}
+use Rattle.lapi_epochs.proofs.GatheredPieces.{numbers_below-nth}
 
 -- ---- lists
 
@@ -139,8 +139,8 @@ module _ (plan : Plan) where
 
   pub statements-are : (a : ℕ) → a < tasks_of plan → statements (compiled plan) a ≡ first_statements plan count a
   statements-are a l =
-      get_or-map (first_statements plan count) (upto (tasks_of plan)) a 0 [] (let q : a < length (upto (tasks_of plan)) = omega (arith, upto-length (tasks_of plan)) in q)
-      ∙ ap (first_statements plan count) (upto-nth (tasks_of plan) a l)
+      get_or-map (first_statements plan count) (numbers_below (tasks_of plan)) a 0 [] (let q : a < length (numbers_below (tasks_of plan)) = omega (arith, numbers_below-length (tasks_of plan)) in q)
+      ∙ ap (first_statements plan count) (numbers_below-nth (tasks_of plan) a l)
 
   pub statement-is : (a i : ℕ) → a < tasks_of plan → statement (compiled plan) a i ≡ get_or (first_statements plan count a) i Fence
   unfolding statement

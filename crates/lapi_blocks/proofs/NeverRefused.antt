@@ -13,12 +13,12 @@ use Rattle.lapi_base.specs.declared.rule.Rules.{Rules}
 use Rattle.lapi_base.specs.declared.statement.Statement.TheVariants.{Store, Putv, Getv, Gfence}
 use Rattle.lapi_base.specs.declared.refusal.Refusal.{Refusal}
 use Rattle.lapi_base.specs.declared.event.Event.{Event}
-use Rattle.lapi_base.specs.Layout.{Layout, First, Second, layout_of, longest, longest_of}
-use Rattle.lapi_base.specs.Operations.{upto, address, pieces_of, total, statement, is_gfence}
-use Rattle.lapi_base.specs.Refusals.{first_reason, why_by, why}
+use Rattle.lapi_base.specs.Packet.Layout.{Layout, First, Second, layout_of, longest, longest_of}
+use Rattle.lapi_base.specs.Record.Operations.{numbers_below, address, pieces_of, total, statement, is_gfence}
+use Rattle.lapi_base.specs.Record.Refusals.{first_reason, refusal_by, refusal_of}
 use Rattle.std.proofs.lemmas.List.Sums.{sum_by-cons}
 use Rattle.lapi_base.proofs.BelowLaws.{below-all}
-use Rattle.lapi_base.proofs.UptoLaws.{upto-length}
+use Rattle.lapi_base.proofs.UptoLaws.{numbers_below-length}
 use Rattle.lapi_base.proofs.TestLaws.{eqb-refl}
 use Rattle.lapi_blocks.specs.declared.plan.Op.{Op}
 use Rattle.lapi_blocks.specs.declared.plan.Op.TheVariants.{Set, Get}
@@ -48,16 +48,16 @@ any-zip t f g [] h = refl
 any-zip t f g (x ∷ xs) h = ap (λ b. b || list_any t (zip (map f xs) (map g xs))) (h x) ∙ any-zip t f g xs h
 
 stride-none : (t : Piece → Bool) (base block stride n : ℕ) → ((k : ℕ) → k < n → t (record { at = Plain (base + k * stride); len = block }) ≡ false) → list_any t (pieces_of (Stride (Plain base) block stride n)) ≡ false
-unfolding pieces_of upto
-stride-none t base block stride n h = any-map t (λ (k : ℕ). let p : Piece = record { at = Plain (base + k * stride); len = block } in p) (λ k. (k < n) × (true ≡ true)) (upto n) (below-all n (λ _. true)) (λ k l. h k l.0)
+unfolding pieces_of numbers_below
+stride-none t base block stride n h = any-map t (λ (k : ℕ). let p : Piece = record { at = Plain (base + k * stride); len = block } in p) (λ k. (k < n) × (true ≡ true)) (numbers_below n) (below-all n (λ _. true)) (λ k l. h k l.0)
 
 stride-lens : (b c block s r n : ℕ) → list_any (λ (pq : Piece × Piece). not (pq.0.len == pq.1.len)) (zip (pieces_of (Stride (Plain b) block s n)) (pieces_of (Stride (Plain c) block r n))) ≡ false
 unfolding pieces_of
-stride-lens b c block s r n = any-zip (λ (pq : Piece × Piece). not (pq.0.len == pq.1.len)) (λ (k : ℕ). let p : Piece = record { at = Plain (b + k * s); len = block } in p) (λ (k : ℕ). let p : Piece = record { at = Plain (c + k * r); len = block } in p) (upto n) (λ k. ap not (eqb-refl block))
+stride-lens b c block s r n = any-zip (λ (pq : Piece × Piece). not (pq.0.len == pq.1.len)) (λ (k : ℕ). let p : Piece = record { at = Plain (b + k * s); len = block } in p) (λ (k : ℕ). let p : Piece = record { at = Plain (c + k * r); len = block } in p) (numbers_below n) (λ k. ap not (eqb-refl block))
 
-stride-count : (b block s n : ℕ) → length (pieces_of (Stride (Plain b) block s n)) ≡ length (upto n)
+stride-count : (b block s n : ℕ) → length (pieces_of (Stride (Plain b) block s n)) ≡ length (numbers_below n)
 unfolding pieces_of
-stride-count b block s n = length-map (upto n) (λ (k : ℕ). let p : Piece = record { at = Plain (b + k * s); len = block } in p)
+stride-count b block s n = length-map (numbers_below n) (λ (k : ℕ). let p : Piece = record { at = Plain (b + k * s); len = block } in p)
 
 total-of : (f : ℕ → Piece) (block : ℕ) (xs : List ℕ) → ((x : ℕ) → (f x).len ≡ block) → total (map f xs) ≡ length xs * block
 total-of f block [] h = let z : 0 ≡ 0 * block = omega arith in z
@@ -72,7 +72,7 @@ total-of f block (x ∷ xs) h =
 
 pub stride-total : (b block s n : ℕ) → total (pieces_of (Stride (Plain b) block s n)) ≡ n * block
 unfolding pieces_of
-stride-total b block s n = total-of (λ (k : ℕ). let p : Piece = record { at = Plain (b + k * s); len = block } in p) block (upto n) (λ _. refl) ∙ ap (λ m. m * block) (upto-length n)
+stride-total b block s n = total-of (λ (k : ℕ). let p : Piece = record { at = Plain (b + k * s); len = block } in p) block (numbers_below n) (λ _. refl) ∙ ap (λ m. m * block) (numbers_below-length n)
 
 -- ---- statements that the table passes
 
@@ -103,8 +103,8 @@ unfolding longest_of
 long-none script n l = long-by (layout_of script.layout) n l
 
 putv-kept : (script : Script) (rules : Rules) (J : List Event) (a i w b1 s1 b2 s2 block n : ℕ) → Good script w b1 s1 b2 s2 block n →
-    statement script a i ≡ Putv w (Stride (Plain b1) block s1 n) (Stride (Plain b2) block s2 n) None None None → why script rules J a i ≡ None
-unfolding why why_by address
+    statement script a i ≡ Putv w (Stride (Plain b1) block s1 n) (Stride (Plain b2) block s2 n) None None None → refusal_of script rules J a i ≡ None
+unfolding refusal_of refusal_by address
 putv-kept script rules J a i w b1 s1 b2 s2 block n g e =
     let long1 = long-none script _ (subst (λ m. m ≤ 16384) (sym (stride-total b1 block s1 n)) g.short) in
     let long2 = long-none script _ (subst (λ m. m ≤ 16384) (sym (stride-total b2 block s2 n)) g.short) in
@@ -136,8 +136,8 @@ putv-kept script rules J a i w b1 s1 b2 s2 block n g e =
     ))
 
 getv-kept : (script : Script) (rules : Rules) (J : List Event) (a i w b1 s1 b2 s2 block n : ℕ) → Good script w b1 s1 b2 s2 block n →
-    statement script a i ≡ Getv w (Stride (Plain b1) block s1 n) (Stride (Plain b2) block s2 n) None None → why script rules J a i ≡ None
-unfolding why why_by address
+    statement script a i ≡ Getv w (Stride (Plain b1) block s1 n) (Stride (Plain b2) block s2 n) None None → refusal_of script rules J a i ≡ None
+unfolding refusal_of refusal_by address
 getv-kept script rules J a i w b1 s1 b2 s2 block n g e =
     let long1 = long-none script _ (subst (λ m. m ≤ 16384) (sym (stride-total b1 block s1 n)) g.short) in
     let long2 = long-none script _ (subst (λ m. m ≤ 16384) (sym (stride-total b2 block s2 n)) g.short) in
@@ -168,8 +168,8 @@ getv-kept script rules J a i w b1 s1 b2 s2 block n g e =
       ),
     ))
 
-store-kept : (script : Script) (rules : Rules) (J : List Event) (a i at : ℕ) (bytes : List ℕ) → at + length bytes ≤ script.memory → statement script a i ≡ Store at bytes → why script rules J a i ≡ None
-unfolding why why_by address
+store-kept : (script : Script) (rules : Rules) (J : List Event) (a i at : ℕ) (bytes : List ℕ) → at + length bytes ≤ script.memory → statement script a i ≡ Store at bytes → refusal_of script rules J a i ≡ None
+unfolding refusal_of refusal_by address
 store-kept script rules J a i at bytes l e =
     rw e
     (none-of _
@@ -237,11 +237,11 @@ module _ (plan : Plan) (valid : ValidPlan plan) where
       fewer : (r c n : ℕ) → r * c ≤ n → n ≤ 256 → r * (4 * c) ≤ 16384
       fewer r c n h m = let e : r * (4 * c) ≡ 4 * (r * c) = grind arith in omega arith
 
-  move-kept : (rules : Rules) (J : List Event) (a i k : ℕ) (op : Op) (w : ℕ) → slice_get plan.ops k ≡ Some op → w < tasks_of plan → is_nonempty (part_of plan (patch_of op) w) ≡ true → statement (compiled plan) a i ≡ moves plan k op (part_of plan (patch_of op) w) → why (compiled plan) rules J a i ≡ None
+  move-kept : (rules : Rules) (J : List Event) (a i k : ℕ) (op : Op) (w : ℕ) → slice_get plan.ops k ≡ Some op → w < tasks_of plan → is_nonempty (part_of plan (patch_of op) w) ≡ true → statement (compiled plan) a i ≡ moves plan k op (part_of plan (patch_of op) w) → refusal_of (compiled plan) rules J a i ≡ None
   move-kept rules J a i k (Set task row col rows cols values) w e l full s = putv-kept (compiled plan) rules J a i w _ _ _ _ _ _ (good k (Set task row col rows cols values) w e l full) s
   move-kept rules J a i k (Get task row col rows cols) w e l full s = getv-kept (compiled plan) rules J a i w _ _ _ _ _ _ (good k (Get task row col rows cols) w e l full) s
 
-  set-kept : (rules : Rules) (J : List Event) (a i k : ℕ) (op : Op) → slice_get plan.ops k ≡ Some op → is_set op ≡ true → statement (compiled plan) a i ≡ Store (area k) (values_of op) → why (compiled plan) rules J a i ≡ None
+  set-kept : (rules : Rules) (J : List Event) (a i k : ℕ) (op : Op) → slice_get plan.ops k ≡ Some op → is_set op ≡ true → statement (compiled plan) a i ≡ Store (area k) (values_of op) → refusal_of (compiled plan) rules J a i ≡ None
   set-kept rules J a i k op e set s =
       let len = set-length plan valid op (has-values plan valid k op e) set in
       let room = (nth-of_get plan.ops k op op e).1 in
@@ -250,7 +250,7 @@ module _ (plan : Plan) (valid : ValidPlan plan) where
       fits : (k n m q : ℕ) → n ≡ 4 * m → m ≤ 256 → k < q → q ≤ 48 → 16384 + 1024 * k + n ≤ 65536
       fits k n m q e l a b = omega arith
 
-  pub never-refused : (rules : Rules) (J : List Event) (a i : ℕ) → Has (compiled plan) a i → why (compiled plan) rules J a i ≡ None
+  pub never-refused : (rules : Rules) (J : List Event) (a i : ℕ) → Has (compiled plan) a i → refusal_of (compiled plan) rules J a i ≡ None
   never-refused rules J a i has =
       let s = stand plan a i has in
       ⊎_elim

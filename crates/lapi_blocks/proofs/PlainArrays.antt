@@ -1,15 +1,14 @@
 -- In the end the blocks of a compiled plan hold the plain array, and the areas of gets the patches that they got.
-use Rattle.std.proofs.Common.{◌≡◌, ◌⊎◌, ℕ, ◌+◌, ◌-◌, ◌<◌, ◌≤◌, true, false, ◌||◌, List, length, refl, ap, ◌∙◌, ⊎_elim, arith}
-use Rattle.std.proofs.Common.{◌*◌, ◌/◌, ◌%◌}
+use Rattle.std.proofs.Common.{◌≡◌, ◌⊎◌, ℕ, ◌+◌, ◌-◌, ◌<◌, ◌≤◌, true, false, ◌||◌, List, length, refl, ap, ◌∙◌, ⊎_elim, arith, ◌*◌, ◌/◌, ◌%◌}
 use Rattle.std.proofs.lemmas.List.{append-nil}
-use Rattle.lapi_base.specs.Values.{gathered}
+use Rattle.lapi_base.specs.Record.Values.{gathered}
 use Rattle.lapi_epochs.proofs.GatheredPieces.{line-same}
 use Rattle.lapi_base.specs.declared.rule.Rules.{Rules}
 use Rattle.lapi_base.specs.declared.event.Event.{Event}
 use Rattle.lapi_base.specs.declared.statement.Statement.TheVariants.{Gfence}
-use Rattle.lapi_base.specs.Operations.{statements, statement, is_am, is_rmw}
-use Rattle.lapi_base.specs.Atomic.{Atomic}
-use Rattle.lapi_base.specs.Landing.{memory_at}
+use Rattle.lapi_base.specs.Record.Operations.{statements, statement, is_am, is_rmw}
+use Rattle.lapi_base.specs.Record.Atomic.{Atomic}
+use Rattle.lapi_base.specs.Laws.Landing.{memory_at}
 use Rattle.lapi_laws.proofs.Runs.{run-sound}
 use Rattle.lapi_blocks.specs.declared.plan.Op.{Op}
 use Rattle.lapi_blocks.specs.declared.plan.Op.TheVariants.{Set, Get}

@@ -1,30 +1,30 @@
 -- A plan's script runs to its end.
-use Rattle.std.proofs.Common.{◌≡◌, ◌⊎◌, ℕ, zero, suc, ◌+◌, ◌-◌, ◌*◌, ◌/◌, ◌<◌, ◌≤◌, ◌==◌, Bool, true, false, cond, ◌&&◌, ◌||◌, not, List, [], ◌∷◌, length, get_or, Option, Some, None, refl, sym, ap, ◌∙◌, subst, ⊎_elim, inl, inr, arith}
+use Rattle.std.proofs.Common.{◌≡◌, ◌⊎◌, ℕ, zero, suc, ◌+◌, ◌-◌, ◌*◌, ◌/◌, ◌<◌, ◌≤◌, ◌==◌, Bool, true, false, cond, ◌&&◌, ◌||◌, not, List, [], ◌∷◌, length, get_or, Option, Some, None, refl, sym, ap, ◌∙◌, subst, ⊎_elim, inl, inr, arith, ◌++◌, ◌^◌}
 use Rattle.std.specs.Prelude.{nat_lt, slice_get, is_some, unwrap_or, filter, max, min}
 use Rattle.std.specs.List.{AllByRecursion}
 use Rattle.std.proofs.lemmas.Bool.{or_parts, false≢true, and_parts, both_ways, cond_both, cond-true, cond-false, ne_eqb, cases_eq, eqb-true, eq-eqb, cases_lt, le-ltb, lt-ltb}
 use Rattle.std.proofs.lemmas.Nat.{mul-le}
 use Rattle.std.proofs.lemmas.List.{length-append, get_or-map, length-map, get_or_past}
-use Rattle.std.proofs.Common.{◌++◌}
 use Rattle.lapi_base.specs.declared.rule.Rules.{Rules}
 use Rattle.lapi_base.specs.declared.statement.Statement.{Statement}
 use Rattle.lapi_base.specs.declared.statement.Statement.TheVariants.{Store, Fence, Gfence}
 use Rattle.lapi_base.specs.declared.message.Leg.{Leg}
 use Rattle.lapi_base.specs.declared.message.Leg.TheVariants.{Go, Back, Note, Echo, Join}
 use Rattle.lapi_base.specs.declared.message.MsgName.{MsgName}
-use Rattle.lapi_base.specs.Layout.{unit_of, window_of, holds_back, may_answer}
-use Rattle.lapi_base.specs.Handlers.{answers}
-use Rattle.lapi_base.specs.Names.{message, Issued, Entered, Copied, Landed, Ended, done}
-use Rattle.lapi_base.specs.Spelling.{refusal}
-use Rattle.lapi_base.specs.Written.{packet_size}
-use Rattle.lapi_base.specs.Refusals.{next}
-use Rattle.lapi_base.specs.Record.{Run, start, out, has_number, joins, to_copy_of, ready, after, run_of}
-use Rattle.lapi_base.proofs.NameLaws.{done-nil}
+use Rattle.lapi_base.specs.Packet.Layout.{unit_of, window_of, holds_back, may_answer}
+use Rattle.lapi_base.specs.Record.Handlers.{answers}
+use Rattle.lapi_base.specs.Record.Names.{message, Issued, Entered, Copied, Landed, Ended, happened}
+use Rattle.lapi_base.specs.Packet.Spelling.{refusal}
+use Rattle.lapi_base.specs.Packet.PacketBytes.{packet_size}
+use Rattle.lapi_base.specs.Record.Refusals.{next}
+use Rattle.lapi_base.specs.Record.Wires.{Run, start, numbered, has_number}
+use Rattle.lapi_base.specs.Record.Acts.{joins, to_copy_of, ready, after, run_of}
+use Rattle.lapi_base.proofs.NameLaws.{happened-nil}
 use Rattle.lapi_laws.proofs.Lines.{SoundRun}
 use Rattle.lapi_base.proofs.ListLaws.{all-flat_map, all-any, get-some}
 use Rattle.lapi_laws.proofs.Runs.{start-sound}
 use Rattle.lapi_laws.proofs.Follows.{Owes, after-owes}
-use Rattle.lapi_base.specs.Operations.{upto, statements, statement, is_am, target_of, sender, receiver, is_data, has_join, has_leg, cmpl_counter, length_by, message_length, fragment_count}
+use Rattle.lapi_base.specs.Record.Operations.{numbers_below, statements, statement, is_am, target_of, sender, receiver, is_data, has_join, has_leg, cmpl_counter, length_by, message_length, fragment_count}
 use Rattle.lapi_laws.proofs.Places.{place-below}
 use Rattle.lapi_laws.proofs.Still.{back-data}
 use Rattle.lapi_blocks.specs.declared.plan.Op.{Op}
@@ -45,7 +45,6 @@ use Rattle.lapi_blocks.specs.PlanRuns.{op_begin, op_fence, plan_acts, PlansRun, 
 use Rattle.lapi_blocks.proofs.CompiledStatements.{own-few, is_set, all-nth, nth-of_get, all-map, body, begin, round, count, begin-more, begin-zero, round-length, at-place, in-body, at-fence, epoch-is, statements-are, stand, IsStored, IsMoved}
 use Rattle.lapi_blocks.proofs.ArrayStages.{back, within}
 use Rattle.lapi_blocks.proofs.PlainArrays.{all-plain}
-use Rattle.std.proofs.Common.{◌^◌}
 use Rattle.lapi_flush.proofs.ValidLines.{all-exceeds, named-valid}
 use Rattle.lapi_flush.proofs.QuietRecords.{settled-quiet}
 use Rattle.lapi_blocks.proofs.NeverRefused.{never-refused, stride-total}
@@ -396,30 +395,30 @@ module _ (plan : Plan) (valid : ValidPlan plan) (rules : Rules) where
 
   -- ---- round after round
 
-  none-ready : (a : ℕ) → AllByRecursion (λ m. done (Copied m) [] ≡ true) (ready (compiled plan) [] a)
+  none-ready : (a : ℕ) → AllByRecursion (λ m. happened (Copied m) [] ≡ true) (ready (compiled plan) [] a)
   unfolding ready
   none-ready a =
-      all-flat_map (λ _. Unit {0}) (λ m. done (Copied m) [] ≡ true) (to_copy_of (compiled plan) [] a) (upto (length (statements (compiled plan) a))) (all-any _) (λ i _.
-      cond_both (is_data (statement (compiled plan) a i) && done (Issued a i) []) (message a i Go ∷ []) (cond (has_join (statement (compiled plan) a i) && done (Entered a i) []) (joins (compiled plan) a i) []) (AllByRecursion (λ m. done (Copied m) [] ≡ true))
-      (λ h. absurd (both_ways _ (done-nil (Issued a i)) (and_parts (is_data (statement (compiled plan) a i)) (done (Issued a i) []) h).1))
-      (λ _. cond_both (has_join (statement (compiled plan) a i) && done (Entered a i) []) (joins (compiled plan) a i) [] (AllByRecursion (λ m. done (Copied m) [] ≡ true))
-      (λ h. absurd (both_ways _ (done-nil (Entered a i)) (and_parts (has_join (statement (compiled plan) a i)) (done (Entered a i) []) h).1))
+      all-flat_map (λ _. Unit {0}) (λ m. happened (Copied m) [] ≡ true) (to_copy_of (compiled plan) [] a) (numbers_below (length (statements (compiled plan) a))) (all-any _) (λ i _.
+      cond_both (is_data (statement (compiled plan) a i) && happened (Issued a i) []) (message a i Go ∷ []) (cond (has_join (statement (compiled plan) a i) && happened (Entered a i) []) (joins (compiled plan) a i) []) (AllByRecursion (λ m. happened (Copied m) [] ≡ true))
+      (λ h. absurd (both_ways _ (happened-nil (Issued a i)) (and_parts (is_data (statement (compiled plan) a i)) (happened (Issued a i) []) h).1))
+      (λ _. cond_both (has_join (statement (compiled plan) a i) && happened (Entered a i) []) (joins (compiled plan) a i) [] (AllByRecursion (λ m. happened (Copied m) [] ≡ true))
+      (λ h. absurd (both_ways _ (happened-nil (Entered a i)) (and_parts (has_join (statement (compiled plan) a i)) (happened (Entered a i) []) h).1))
       (λ _. tt)))
 
   at-start : IsAtRound (compiled plan) rules (op_begin plan) 0 start
-  unfolding next out has_number data_count
+  unfolding next numbered has_number data_count
   at-start = record {
     settled = record {
       copied = λ a la. none-ready a;
-      landed = λ m h. absurd (both_ways _ (done-nil (Copied m)) h);
+      landed = λ m h. absurd (both_ways _ (happened-nil (Copied m)) h);
       calm = λ a b la lb. record { sent = λ m. sym (le-ltb m 0 (let q : 0 ≤ m = omega arith in q)); acked = λ m l. absurd (omega arith); once = let q : 0 ≤ 0 = omega arith in q };
     };
     place = λ a la. sym (begin-zero plan a);
-    passed = λ a i h. absurd (both_ways _ (done-nil (Entered a i)) h);
+    passed = λ a i h. absurd (both_ways _ (happened-nil (Entered a i)) h);
   }
 
   start-owes : Owes (compiled plan) rules start.journal
-  start-owes = record { lands = λ m h. absurd (both_ways _ (done-nil (Landed m)) h); ends = λ m h. absurd (both_ways _ (done-nil (Ended m)) h) }
+  start-owes = record { lands = λ m h. absurd (both_ways _ (happened-nil (Landed m)) h); ends = λ m h. absurd (both_ways _ (happened-nil (Ended m)) h) }
 
   -- a plan's script is of the first layout
   start-paid : IsPaid (compiled plan) rules start
@@ -429,7 +428,7 @@ module _ (plan : Plan) (valid : ValidPlan plan) (rules : Rules) where
   -- ---- how many lines there are
 
   links_of : Run → ℕ
-  links_of r = sum_to (tasks_of plan) (λ a. sum_to (tasks_of plan) (λ b. length (out (compiled plan) r.journal a b)))
+  links_of r = sum_to (tasks_of plan) (λ a. sum_to (tasks_of plan) (λ b. length (numbered (compiled plan) r.journal a b)))
 
   calls-few : (k : ℕ) → k < count plan → sum_to (tasks_of plan) (λ a. op_fence plan k a - op_begin plan k a) ≤ 9
   calls-few k lk =
@@ -474,12 +473,12 @@ module _ (plan : Plan) (valid : ValidPlan plan) (rules : Rules) where
       square : (T s : ℕ) → T ≤ 8 → s ≤ T * (T + 4) + 4 * T → s ≤ 128
       square T s l h = let q = mul-le T (T + 4) 8 12 l (let z : T + 4 ≤ 12 = omega arith in z) in omega arith
 
-  data-links : (r : Run) → ((a b : ℕ) → a < tasks_of plan → b < tasks_of plan → IsCalm r a b (length (out (compiled plan) r.journal a b))) → all_data (tasks_of plan) r ≤ links_of r
+  data-links : (r : Run) → ((a b : ℕ) → a < tasks_of plan → b < tasks_of plan → IsCalm r a b (length (numbered (compiled plan) r.journal a b))) → all_data (tasks_of plan) r ≤ links_of r
   unfolding links_of
   data-links r calm = sum-le (tasks_of plan) _ _ (λ a la. sum-le (tasks_of plan) _ _ (λ b lb. (calm a b la lb).once))
 
   start-links : links_of start ≤ 0
-  unfolding links_of out
+  unfolding links_of numbered
   start-links =
       let T = tasks_of plan in
       let rows = λ (a : ℕ). spike-sum T 0 0 0 (λ b. 0) (λ b lb. omega arith) in
@@ -490,12 +489,12 @@ module _ (plan : Plan) (valid : ValidPlan plan) (rules : Rules) where
       times-none : (n : ℕ) → n * 0 ≡ 0
       times-none n = grind arith
 
-  links-grow : (r s : Run) (k : ℕ) (lk : k < count plan) → links_of r ≤ 128 * k → ((a b : ℕ) → (la : a < tasks_of plan) → (lb : b < tasks_of plan) → length (out (compiled plan) s.journal a b) ≤ length (out (compiled plan) r.journal a b) + weigh (compiled plan) (plan-fenced.few k a b lk la lb).0) → links_of s ≤ 128 * suc k
+  links-grow : (r s : Run) (k : ℕ) (lk : k < count plan) → links_of r ≤ 128 * k → ((a b : ℕ) → (la : a < tasks_of plan) → (lb : b < tasks_of plan) → length (numbered (compiled plan) s.journal a b) ≤ length (numbered (compiled plan) r.journal a b) + weigh (compiled plan) (plan-fenced.few k a b lk la lb).0) → links_of s ≤ 128 * suc k
   unfolding links_of
   links-grow r s k lk old h =
       let T = tasks_of plan in
-      let f = λ (a b : ℕ). length (out (compiled plan) r.journal a b) in
-      let g = λ (a b : ℕ). length (out (compiled plan) s.journal a b) in
+      let f = λ (a b : ℕ). length (numbered (compiled plan) r.journal a b) in
+      let g = λ (a b : ℕ). length (numbered (compiled plan) s.journal a b) in
       let w = λ (a b : ℕ). g a b - f a b in
       let most = round-weight k lk w (λ a b la lb. less (g a b) (f a b) (weigh (compiled plan) (plan-fenced.few k a b lk la lb).0) (h a b la lb)) in
       let rows = λ (a : ℕ). sum-grow T (f a) (g a) (w a) (λ b lb. over (g a b) (f a b)) in
@@ -574,11 +573,11 @@ term-below (suc n) f k l =
     (λ (ge : n ≤ k). let e : k ≡ n = omega arith in let h = ap f e in omega arith)
     (cases_lt k n)
 
-link-below : (plan : Plan) (valid : ValidPlan plan) (rules : Rules) (r : Run) (a b : ℕ) → a < tasks_of plan → b < tasks_of plan → length (out (compiled plan) r.journal a b) ≤ links_of plan valid rules r
+link-below : (plan : Plan) (valid : ValidPlan plan) (rules : Rules) (r : Run) (a b : ℕ) → a < tasks_of plan → b < tasks_of plan → length (numbered (compiled plan) r.journal a b) ≤ links_of plan valid rules r
 unfolding links_of
 link-below plan valid rules r a b la lb =
-    let row = term-below (tasks_of plan) (λ y. length (out (compiled plan) r.journal a y)) b lb in
-    let whole = term-below (tasks_of plan) (λ x. sum_to (tasks_of plan) (λ y. length (out (compiled plan) r.journal x y))) a la in
+    let row = term-below (tasks_of plan) (λ y. length (numbered (compiled plan) r.journal a y)) b lb in
+    let whole = term-below (tasks_of plan) (λ x. sum_to (tasks_of plan) (λ y. length (numbered (compiled plan) r.journal x y))) a la in
     omega arith
 
 empty-wire : (a b : ℕ) → length (start.wire a b) ≤ data_count (start.wire a b) + 0
@@ -599,7 +598,7 @@ plans-valid plan valid rules spells =
     let link = link-below plan valid rules r a b la lb in
     let links = z.links in
     let lines = plans-short plan valid rules in
-    short (length (r.wire a b)) (data_count (r.wire a b)) (length acts) (length (out (compiled plan) r.journal a b)) (links_of plan valid rules r) (count plan) long once link links lines valid.count)
+    short (length (r.wire a b)) (data_count (r.wire a b)) (length acts) (length (numbered (compiled plan) r.journal a b)) (links_of plan valid rules r) (count plan) long once link links lines valid.count)
   where
     short : (w d l o s n : ℕ) → w ≤ d + (0 + l) → d ≤ o → o ≤ s → s ≤ 128 * n → l ≤ 313 * n → n ≤ 48 → w < 2 ^ 32
     short w d l o s n a b c e f g = let q : w ≤ 100000 = omega arith in big w q

@@ -8,10 +8,10 @@ use Rattle.lapi_base.specs.declared.address.Addr.TheVariants.{Plain}
 use Rattle.lapi_base.specs.declared.vector.Vector.TheVariants.{Stride}
 use Rattle.lapi_base.specs.declared.statement.Statement.{Statement}
 use Rattle.lapi_base.specs.declared.statement.Statement.TheVariants.{Gfence}
-use Rattle.lapi_base.specs.Operations.{upto, statements, statement}
-use Rattle.lapi_base.specs.Valid.{IsU32, IsByte, ValidVector, ValidStatement, ValidScript}
+use Rattle.lapi_base.specs.Record.Operations.{numbers_below, statements, statement}
+use Rattle.lapi_base.specs.Record.Valid.{IsU32, IsByte, ValidVector, ValidStatement, ValidScript}
 use Rattle.lapi_base.proofs.BelowLaws.{below-all}
-use Rattle.lapi_base.proofs.UptoLaws.{upto-length}
+use Rattle.lapi_base.proofs.UptoLaws.{numbers_below-length}
 use Rattle.lapi_blocks.specs.declared.plan.Op.{Op}
 use Rattle.lapi_blocks.specs.declared.plan.Op.TheVariants.{Set, Get}
 use Rattle.lapi_blocks.specs.declared.plan.Plan.{Plan}
@@ -149,15 +149,15 @@ module _ (plan : Plan) (valid : ValidPlan plan) where
   lists-valid (t ∷ ts) h = (list-valid t h.0.0, lists-valid ts h.1)
 
   script-valid : ValidScript (compiled plan)
-  unfolding upto
+  unfolding numbers_below
   script-valid = record {
     layout = refl;
     tasks = valid.tasks;
     memory = (omega arith, omega arith, refl);
     counters = omega arith;
     workers = (omega arith, omega arith);
-    one_list_each = length-map (upto (tasks_of plan)) (first_statements plan (length plan.ops)) ∙ upto-length (tasks_of plan);
-    lists = lists-valid (upto (tasks_of plan)) (below-all (tasks_of plan) (λ _. true));
+    one_list_each = length-map (numbers_below (tasks_of plan)) (first_statements plan (length plan.ops)) ∙ numbers_below-length (tasks_of plan);
+    lists = lists-valid (numbers_below (tasks_of plan)) (below-all (tasks_of plan) (λ _. true));
   }
 
 -- the laws

@@ -3,12 +3,12 @@ use Rattle.std.proofs.Common.{◌≡◌, true, [], ◌∷◌, map, take, refl, N
 use Rattle.lapi_base.specs.declared.address.Addr.TheVariants.{Plain}
 use Rattle.lapi_base.specs.declared.vector.Vector.TheVariants.{Stride}
 use Rattle.lapi_base.specs.declared.statement.Statement.TheVariants.{Store, Putv, Getv, Gfence}
-use Rattle.lapi_base.specs.Below.{below}
-use Rattle.lapi_base.specs.Operations.{upto}
+use Rattle.lapi_base.specs.Record.Below.{below}
+use Rattle.lapi_base.specs.Record.Operations.{numbers_below}
 use Rattle.lapi_base.specs.declared.schedule.Act.TheVariants.{Step, Poll, Deliver}
-use Rattle.lapi_base.specs.Refusals.{next}
-use Rattle.lapi_base.specs.Final.{is_settled, is_idle, is_quiet}
-use Rattle.lapi_laws.proofs.Rows.{Row, builtin, run, bytes_of}
+use Rattle.lapi_base.specs.Record.Refusals.{next}
+use Rattle.lapi_base.specs.Record.Final.{is_settled, is_idle, is_quiet}
+use Rattle.lapi_laws.proofs.WorkedRuns.{Row, builtin, run, bytes_of}
 use Rattle.lapi_blocks.specs.declared.plan.Op.TheVariants.{Set, Get}
 use Rattle.lapi_blocks.specs.declared.plan.Plan.{Plan}
 use Rattle.lapi_flush.specs.Served.{delivers}
@@ -35,7 +35,7 @@ small-compiled : (compiled small).lists
     ∷ Gfence
     ∷ [])
     ∷ []
-unfolding small owners first_statements below upto
+unfolding small owners first_statements below numbers_below
 small-compiled = refl
 
 -- who owns what in a grid of two by three blocks of two by four words
@@ -72,7 +72,7 @@ small-row = record {
 
 -- every task is past its last statement,
 small-past : map (next (run small-row).journal) (0 ∷ 1 ∷ []) ≡ 5 ∷ 4 ∷ []
-unfolding run next small owners first_statements below upto
+unfolding run next small owners first_statements below numbers_below
 small-past = refl
 
 -- nothing is under way,

@@ -7,10 +7,10 @@ use Rattle.std.proofs.lemmas.Nat.{div_below, mod_below}
 use Rattle.std.proofs.lemmas.List.{map-append, append-nil, take_more}
 use Rattle.lapi_base.specs.declared.statement.Statement.{Statement}
 use Rattle.lapi_base.specs.declared.statement.Statement.TheVariants.{Store, Gfence}
-use Rattle.lapi_base.specs.Below.{below}
-use Rattle.lapi_base.specs.Operations.{upto, statement, is_data}
-use Rattle.lapi_base.specs.Values.{gathered}
-use Rattle.lapi_base.specs.Landing.{one_span}
+use Rattle.lapi_base.specs.Record.Below.{below}
+use Rattle.lapi_base.specs.Record.Operations.{numbers_below, statement, is_data}
+use Rattle.lapi_base.specs.Record.Values.{gathered}
+use Rattle.lapi_base.specs.Laws.Landing.{one_span}
 use Rattle.lapi_base.proofs.ListLaws.{some-same}
 use Rattle.lapi_blocks.specs.declared.plan.Op.{Op}
 use Rattle.lapi_blocks.specs.declared.plan.Op.TheVariants.{Set, Get}
@@ -23,12 +23,12 @@ use Rattle.lapi_blocks.proofs.StridedPieces.{place-split}
 use Rattle.lapi_blocks.proofs.CompiledStatements.{is_set, values_of, begin, stand, IsStored, IsMoved}
 use Rattle.lapi_blocks.proofs.ArrayStages.{back, area_byte, stage, stage-block, stage-area, within, has-values, at-area, sides-agree, area-high, block-low, Sides, sides, fence-writes, moves-no_store, plain-set, in_patch-at, byte-lies}
 
-list-again : (xs : List ℕ) (n : ℕ) → n ≤ length xs → map (λ z. slice_index xs z) (upto n) ≡ take n xs
-unfolding upto below
+list-again : (xs : List ℕ) (n : ℕ) → n ≤ length xs → map (λ z. slice_index xs z) (numbers_below n) ≡ take n xs
+unfolding numbers_below below
 list-again xs zero l = refl
 list-again xs (suc n) l =
     let e : n + 1 ≡ suc n = omega arith in
-    map-append (λ z. slice_index xs z) (upto n) (n ∷ [])
+    map-append (λ z. slice_index xs z) (numbers_below n) (n ∷ [])
     ∙ ap (λ ys. ys ++ slice_index xs n ∷ []) (list-again xs n (omega arith))
     ∙ sym (take_more xs n 0 (omega arith))
     ∙ ap (λ k. take k xs) e

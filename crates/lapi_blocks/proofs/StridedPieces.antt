@@ -9,9 +9,9 @@ use Rattle.lapi_base.specs.declared.address.Addr.TheVariants.{Plain}
 use Rattle.lapi_base.specs.declared.span.Span.{Span}
 use Rattle.lapi_base.specs.declared.vector.Vector.TheVariants.{Stride}
 use Rattle.lapi_base.specs.declared.script.Script.{Script}
-use Rattle.lapi_base.specs.Below.{below}
-use Rattle.lapi_base.specs.Operations.{upto, address, shifted, pieces_of, spans}
-use Rattle.lapi_base.specs.Values.{Memories, gathered}
+use Rattle.lapi_base.specs.Record.Below.{below}
+use Rattle.lapi_base.specs.Record.Operations.{numbers_below, address, shifted, pieces_of, spans}
+use Rattle.lapi_base.specs.Record.Values.{Memories, gathered}
 use Rattle.std.specs.List.{AllByRecursion}
 use Rattle.lapi_base.proofs.BelowLaws.{below-all}
 use Rattle.lapi_epochs.specs.Stages.{covers}
@@ -19,11 +19,11 @@ use Rattle.lapi_blocks.specs.Plans.{byte_at}
 use Rattle.lapi_epochs.proofs.GatheredPieces.{in_piece, in_piece-at, covers-cons, line-same}
 
 abbrev pub strided : (base block stride count : ℕ) → List Span
-strided base block stride count = map (λ k. record { at = base + k * stride; len = block }) (upto count)
+strided base block stride count = map (λ k. record { at = base + k * stride; len = block }) (numbers_below count)
 
 pub stride-spans : (script : Script) (d base block stride count : ℕ) → spans script d (pieces_of (Stride (Plain base) block stride count)) ≡ strided base block stride count
 unfolding pieces_of address
-stride-spans script d base block stride count = go (upto count)
+stride-spans script d base block stride count = go (numbers_below count)
   where
     go : (ks : List ℕ) → spans script d (map (λ k. record { at = shifted (Plain base) (k * stride); len = block }) ks) ≡ map (λ k. record { at = base + k * stride; len = block }) ks
     go [] = refl
@@ -34,13 +34,13 @@ unfolding covers
 covers-append ps qs x = list_any-append (λ (p : Span). nat_le p.at x && nat_lt x (p.at + p.len)) ps qs
 
 strided-more : (base block stride n x : ℕ) → covers (strided base block stride (suc n)) x ≡ (covers (strided base block stride n) x || covers (record { at = base + n * stride; len = block } ∷ []) x)
-unfolding upto below
+unfolding numbers_below below
 strided-more base block stride n x =
     let f = λ (k : ℕ). let s : Span = record { at = base + k * stride; len = block } in s in
-    ap (λ ps. covers ps x) (map-append f (upto n) (n ∷ [])) ∙ covers-append (map f (upto n)) (f n ∷ []) x
+    ap (λ ps. covers ps x) (map-append f (numbers_below n) (n ∷ [])) ∙ covers-append (map f (numbers_below n)) (f n ∷ []) x
 
 strided-none : (base block stride x : ℕ) → covers (strided base block stride 0) x ≡ false
-unfolding upto below covers
+unfolding numbers_below below covers
 strided-none base block stride x = refl
 
 one-piece : (p : Span) (x : ℕ) → covers (p ∷ []) x ≡ true → (p.at ≤ x) × (x < p.at + p.len)
@@ -80,14 +80,14 @@ covers-strided base block stride (suc n) k z l m =
 -- the same bytes at two strides
 pub strided-same : (old new : Memories) (t u base base' block s s' count : ℕ) → ((k z : ℕ) → k < count → z < block → old t (base + k * s + z) ≡ new u (base' + k * s' + z)) →
     gathered old t (strided base block s count) ≡ gathered new u (strided base' block s' count)
-unfolding gathered upto
-strided-same old new t u base base' block s s' count h = go (upto count) (below-all count (λ _. true))
+unfolding gathered numbers_below
+strided-same old new t u base base' block s s' count h = go (numbers_below count) (below-all count (λ _. true))
   where
     go : (ks : List ℕ) → AllByRecursion (λ k. (k < count) × (true ≡ true)) ks → gathered old t (map (λ k. record { at = base + k * s; len = block }) ks) ≡ gathered new u (map (λ k. record { at = base' + k * s'; len = block }) ks)
     go [] a = refl
     go (k ∷ ks) a =
         ap (λ xs. xs ++ gathered old t (map (λ k. record { at = base + k * s; len = block }) ks)) (line-same (λ z. old t (base + k * s + z)) (λ z. new u (base' + k * s' + z)) block (λ z l. h k z a.0.0 l))
-        ∙ ap (λ xs. map (λ z. new u (base' + k * s' + z)) (upto block) ++ xs) (go ks a.1)
+        ∙ ap (λ xs. map (λ z. new u (base' + k * s' + z)) (numbers_below block) ++ xs) (go ks a.1)
 
 -- ---- rows of words
 

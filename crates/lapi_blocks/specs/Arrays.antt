@@ -8,13 +8,13 @@ use Rattle.lapi_base.specs.declared.event.Event.{Event}
 use Rattle.lapi_base.specs.declared.schedule.Act.{Act}
 use Rattle.lapi_base.specs.declared.reply.Bad.{Bad}
 use Rattle.lapi_base.specs.declared.packet.Packet.{Packet}
-use Rattle.lapi_base.specs.Operations.{upto, statements}
-use Rattle.lapi_base.specs.Values.{gathered, values}
-use Rattle.lapi_base.specs.Refusals.{next}
-use Rattle.lapi_base.specs.Landing.{one_span, memory_at}
-use Rattle.lapi_base.specs.Record.{run_of}
-use Rattle.lapi_base.specs.Atomic.{Atomic}
-use Rattle.lapi_base.specs.Valid.{ValidAct}
+use Rattle.lapi_base.specs.Record.Operations.{numbers_below, statements}
+use Rattle.lapi_base.specs.Record.Values.{gathered, values}
+use Rattle.lapi_base.specs.Record.Refusals.{next}
+use Rattle.lapi_base.specs.Laws.Landing.{one_span, memory_at}
+use Rattle.lapi_base.specs.Record.Acts.{run_of}
+use Rattle.lapi_base.specs.Record.Atomic.{Atomic}
+use Rattle.lapi_base.specs.Record.Valid.{ValidAct}
 use Rattle.lapi_blocks.specs.declared.plan.Op.TheVariants.{Get}
 use Rattle.lapi_blocks.specs.declared.plan.Plan.{Plan}
 use Rattle.lapi_blocks.specs.Plans.{Patch, patch_of, Table, ValidPlan, byte_at, plain, block_row, block_col, owner, area, compiled}
@@ -22,7 +22,7 @@ use Rattle.lapi_blocks.specs.Plans.{Patch, patch_of, Table, ValidPlan, byte_at, 
 -- the bytes of a patch of an array, row after row
 abbrev pub patch_bytes : Table → Patch → List ℕ
 patch_bytes table p =
-    map (λ z. table (p.row + z / 4 / p.cols) (p.col + (z / 4) % p.cols) (z % 4)) (upto (4 * (p.rows * p.cols)))
+    map (λ z. table (p.row + z / 4 / p.cols) (p.col + (z / 4) % p.cols) (z % 4)) (numbers_below (4 * (p.rows * p.cols)))
 
 -- every task is past its last statement
 abbrev pub IsPast : Script → List Event → Type 0

@@ -1,13 +1,14 @@
 -- The lines by which a plan's script is run to its end. This is the project's own.
 use Rattle.std.specs.Prelude.{ℕ, zero, suc, ◌+◌, ◌*◌, ◌≤◌, Bool, List, [], ◌++◌, length, slice_get}
 use Rattle.std.specs.List.{AllByRecursion}
-use Rattle.lapi_base.specs.Valid.{ValidAct}
+use Rattle.lapi_base.specs.Record.Valid.{ValidAct}
 use Rattle.lapi_base.specs.declared.rule.Rules.{Rules}
 use Rattle.lapi_base.specs.declared.schedule.Act.{Act}
-use Rattle.lapi_base.specs.Spelling.{refusal}
-use Rattle.lapi_base.specs.Written.{packet_size}
-use Rattle.lapi_base.specs.Record.{Run, start, after, run_of}
-use Rattle.lapi_base.specs.Final.{Quiet}
+use Rattle.lapi_base.specs.Packet.Spelling.{refusal}
+use Rattle.lapi_base.specs.Packet.PacketBytes.{packet_size}
+use Rattle.lapi_base.specs.Record.Wires.{Run, start}
+use Rattle.lapi_base.specs.Record.Acts.{after, run_of}
+use Rattle.lapi_base.specs.Record.Final.{Quiet}
 use Rattle.lapi_flush.specs.Rounds.{round_acts}
 use Rattle.lapi_blocks.specs.declared.plan.Plan.{Plan}
 use Rattle.lapi_blocks.specs.Plans.{ValidPlan, op_statements, first_statements, compiled}

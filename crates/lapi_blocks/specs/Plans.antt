@@ -8,9 +8,9 @@ use Rattle.lapi_base.specs.declared.vector.Vector.TheVariants.{Stride}
 use Rattle.lapi_base.specs.declared.statement.Statement.{Statement}
 use Rattle.lapi_base.specs.declared.statement.Statement.TheVariants.{Store, Putv, Getv, Gfence}
 use Rattle.lapi_base.specs.declared.script.Script.{Script}
-use Rattle.lapi_base.specs.Below.{below}
-use Rattle.lapi_base.specs.Operations.{upto, statements}
-use Rattle.lapi_base.specs.Valid.{IsByte, ValidScript}
+use Rattle.lapi_base.specs.Record.Below.{below}
+use Rattle.lapi_base.specs.Record.Operations.{numbers_below, statements}
+use Rattle.lapi_base.specs.Record.Valid.{IsByte, ValidScript}
 use Rattle.lapi_blocks.specs.declared.plan.Op.{Op}
 use Rattle.lapi_blocks.specs.declared.plan.Op.TheVariants.{Set, Get}
 use Rattle.lapi_blocks.specs.declared.plan.Plan.{Plan}
@@ -178,7 +178,7 @@ compiled plan = record {
   memory = 65536;
   counters = 0;
   workers = 1;
-  lists = map (first_statements plan (length plan.ops)) (upto (tasks_of plan));
+  lists = map (first_statements plan (length plan.ops)) (numbers_below (tasks_of plan));
 }
 
 -- the script of a valid plan is valid,

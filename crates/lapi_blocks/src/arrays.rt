@@ -1,6 +1,5 @@
 //! What the tasks of a compiled plan hold in the end.
-ghost use Rattle.lapi_blocks.specs.Arrays.{BlocksArePlain, GotArePlain, GotBytesArePlain};
-ghost use Rattle.lapi_blocks.specs.Arrays.{HoldsOfPlans, HoldsOfPlanRuns};
+ghost use Rattle.lapi_blocks.specs.Arrays.{BlocksArePlain, GotArePlain, GotBytesArePlain, HoldsOfPlans, HoldsOfPlanRuns};
 
 /// Once every task is past its last statement, the blocks hold the plain array as all operations leave it, and the
 /// area of each get holds its patch as the operations before it left that.

@@ -14,9 +14,9 @@ use Rattle.lapi_base.specs.declared.rule.Rules.{Rules}
 use Rattle.lapi_base.specs.declared.script.Script.{Script}
 use Rattle.lapi_base.specs.declared.statement.Statement.{Statement}
 use Rattle.lapi_base.specs.declared.statement.Statement.TheVariants.{Putv, Getv}
-use Rattle.lapi_base.specs.Operations.{upto, entry, shifted, pieces_of, target_pieces, origin_pieces, target_of}
-use Rattle.lapi_base.specs.Refusals.{option_any, counters_of, first_reason}
-use Rattle.lapi_base.specs.Valid.{IsPlain, AtPlain, ValidStatement}
+use Rattle.lapi_base.specs.Record.Operations.{numbers_below, entry, shifted, pieces_of, target_pieces, origin_pieces, target_of}
+use Rattle.lapi_base.specs.Record.Refusals.{option_any, counters_of, first_reason}
+use Rattle.lapi_base.specs.Record.Valid.{IsPlain, AtPlain, ValidStatement}
 use Rattle.lapi_calls.specs.declared.reach.Reach.{Reach}
 use Rattle.lapi_calls.specs.Entries.{is_told, address_by, AreGiven}
 use Rattle.lapi_calls.specs.Reaches.{reach_of}
@@ -71,7 +71,7 @@ module _ (script : Script) (known : ℕ → Bool) (given : ℕ → ℕ → ℕ) 
   vector-same : (v : vectors.Vector) → AtPlain v → map here (pieces_of v) ≡ map true_one (pieces_of v)
   unfolding pieces_of
   vector-same (vectors.Vector.List ps) h = plain-same ps h
-  vector-same (Stride base block stride count) h = plain-same (map (λ k. record { at = shifted base (k * stride); len = block }) (upto count)) (stride-plain base block stride (upto count) h)
+  vector-same (Stride base block stride count) h = plain-same (map (λ k. record { at = shifted base (k * stride); len = block }) (numbers_below count)) (stride-plain base block stride (numbers_below count) h)
 
   origins-same : (s : Statement) → ValidStatement s → map here (origin_pieces s) ≡ map true_one (origin_pieces s)
   origins-same (Putv target to from tgt org cmpl) h = vector-same from h.3

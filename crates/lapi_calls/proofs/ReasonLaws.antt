@@ -13,10 +13,10 @@ use Rattle.lapi_base.specs.declared.script.Script.{Script}
 use Rattle.lapi_base.specs.declared.statement.Statement.{Statement}
 use Rattle.lapi_base.specs.declared.statement.Statement.TheVariants.{Putv, Getv}
 use Rattle.lapi_base.specs.declared.vector.Vector.TheVariants.{Stride}
-use Rattle.lapi_base.specs.Below.{below}
-use Rattle.lapi_base.specs.Layout.{longest_of}
-use Rattle.lapi_base.specs.Operations.{upto, address, entry, shifted, pieces_of, statement, target, target_pieces, origin_pieces, total, is_rmw, own_counter, tgt_counter, org_counter, cmpl_counter, target_of}
-use Rattle.lapi_base.specs.Refusals.{first_reason, why_by, option_any, counters_of, too_long, is_vector, stride_below_block}
+use Rattle.lapi_base.specs.Record.Below.{below}
+use Rattle.lapi_base.specs.Packet.Layout.{longest_of}
+use Rattle.lapi_base.specs.Record.Operations.{numbers_below, address, entry, shifted, pieces_of, statement, target, target_pieces, origin_pieces, total, is_rmw, own_counter, tgt_counter, org_counter, cmpl_counter, target_of}
+use Rattle.lapi_base.specs.Record.Refusals.{first_reason, refusal_by, option_any, counters_of, too_long, is_vector, stride_below_block}
 use Rattle.lapi_calls.specs.declared.reach.Reach.{Reach}
 use Rattle.lapi_calls.specs.Entries.{is_told, address_by}
 use Rattle.lapi_calls.specs.Reaches.{total_of, reach_of, stride_reaches}
@@ -24,13 +24,13 @@ use Rattle.lapi_calls.specs.Reasons.{reason_tests, long_by, handler_missing, hea
 
 -- one piece more of a stride
 pub stride-more : (known : Bool) (at block stride k : ℕ) → stride_reaches known at block stride (k + 1) ≡ stride_reaches known at block stride k ++ record { known = known; at = at + k * stride; len = block } ∷ []
-unfolding upto below
+unfolding numbers_below below
 stride-more known at block stride k =
     let e : k + 1 ≡ suc k = omega arith in
-    ap (stride_reaches known at block stride) e ∙ map-append (λ k. record { known = known; at = at + k * stride; len = block }) (upto k) (k ∷ [])
+    ap (stride_reaches known at block stride) e ∙ map-append (λ k. record { known = known; at = at + k * stride; len = block }) (numbers_below k) (k ∷ [])
 
 pub stride-none : (known : Bool) (at block stride : ℕ) → stride_reaches known at block stride 0 ≡ []
-unfolding upto below
+unfolding numbers_below below
 stride-none known at block stride = refl
 
 pub any-mapped : {X Y : Type 0} (f : Y → Bool) (h : X → Y) (xs : List X) → list_any f (map h xs) ≡ list_any (λ x. f (h x)) xs
@@ -74,7 +74,7 @@ module _ (known : ℕ → Bool) (given : ℕ → ℕ → ℕ) (d : ℕ) where
 
   pub strides-are : (at : Addr) (block stride count : ℕ) → stride_reaches (is_told known at) (address_by given d at) block stride count ≡ map (reach_of known given d) (pieces_of (Stride at block stride count))
   unfolding pieces_of
-  strides-are at block stride count = blocks at block stride (upto count)
+  strides-are at block stride count = blocks at block stride (numbers_below count)
 
   pub long-is : (script : Script) (s : Statement) → long_by script (map (reach_of known given d) (target_pieces s)) (map (reach_of known given d) (origin_pieces s)) s ≡ too_long script s
   long-is script (Putv t to from tgt org cmpl) = λ k. nat_lt (longest_of script) (total-mapped known given d (pieces_of to) k) || nat_lt (longest_of script) (total-mapped known given d (pieces_of from) k)
@@ -116,6 +116,6 @@ module _ (script : Script) (rules : Rules) (known : ℕ → Bool) (d : ℕ) wher
       ∷ (is_rmw s && (odd-to k || odd-from k), Misaligned)
       ∷ []
 
-pub reason-is : (script : Script) (rules : Rules) (known : Addr → Bool) (a i : ℕ) → why_by script rules known a i ≡ first_reason (reason_tests script rules known (target script a i) (statement script a i))
-unfolding why_by
+pub reason-is : (script : Script) (rules : Rules) (known : Addr → Bool) (a i : ℕ) → refusal_by script rules known a i ≡ first_reason (reason_tests script rules known (target script a i) (statement script a i))
+unfolding refusal_by
 reason-is script rules known a i = refl

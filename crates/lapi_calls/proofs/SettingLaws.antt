@@ -12,11 +12,11 @@ use Rattle.lapi_base.specs.declared.script.Script.{Script}
 use Rattle.lapi_base.specs.declared.rule.Rules.{Rules}
 use Rattle.lapi_base.specs.declared.event.Event.{Event}
 use Rattle.lapi_base.specs.declared.event.Event.TheVariants.{Issue, Refuse, Enter, Pass, Copy, Head, Land, Begin, End}
-use Rattle.lapi_base.specs.Names.{deed, leg_eq}
-use Rattle.lapi_base.specs.Operations.{statements, statement, has_leg, is_am, receiver}
-use Rattle.lapi_base.specs.Layout.{may_answer}
-use Rattle.lapi_base.specs.Handlers.{has_completion, completion, rule_named, user, user_by, completion_rule, is_answer, answers, handler_of, user_header}
-use Rattle.lapi_base.specs.Atomic.{is_there, has_statement, has_job}
+use Rattle.lapi_base.specs.Record.Names.{key_of, leg_eq}
+use Rattle.lapi_base.specs.Record.Operations.{statements, statement, has_leg, is_am, receiver}
+use Rattle.lapi_base.specs.Packet.Layout.{may_answer}
+use Rattle.lapi_base.specs.Record.Handlers.{has_completion, completion, rule_named, user, user_by, completion_rule, is_answer, answers, handler_of, user_header}
+use Rattle.lapi_base.specs.Record.Atomic.{is_there, has_statement, has_job}
 use Rattle.lapi_calls.specs.Setting.{kept, completes, has_place, answers_by, has_leg_by, has_event, has_job_at}
 use Rattle.lapi_calls.specs.Places.{task_of, statement_of}
 
@@ -62,7 +62,7 @@ module _ (script : Script) (rules : Rules) where
       (receiver script m == t && (nat_lt t script.tasks && nat_lt w script.workers))
       ∙ ap (λ x. has_statement script rules m.origin m.statement && ((x && (leg_eq m.leg Go && is_am (statement script m.origin m.statement))) && (receiver script m == t && (nat_lt t script.tasks && nat_lt w script.workers)))) (leg m)
 
-  pub there_by : (e : Event) → is_there script rules e ≡ (has_statement script rules (task_of (deed e)) (statement_of (deed e)) && has_event script rules e (statement script (task_of (deed e)) (statement_of (deed e))))
+  pub there_by : (e : Event) → is_there script rules e ≡ (has_statement script rules (task_of (key_of e)) (statement_of (key_of e)) && has_event script rules e (statement script (task_of (key_of e)) (statement_of (key_of e))))
   there_by (Issue a i) = refl
   there_by (Refuse a i y) = alone (has_statement script rules a i)
   there_by (Enter a i) = refl

@@ -4,8 +4,8 @@ use Rattle.std.specs.List.{AllByRecursion}
 use Rattle.lapi_base.specs.declared.script.Script.{Script}
 use Rattle.lapi_base.specs.declared.statement.Statement.{Statement}
 use Rattle.lapi_base.specs.declared.statement.Statement.TheVariants.{Fence}
-use Rattle.lapi_base.specs.Operations.{statement, statements}
-use Rattle.lapi_base.specs.Valid.{ValidScript, ValidStatement}
+use Rattle.lapi_base.specs.Record.Operations.{statement, statements}
+use Rattle.lapi_base.specs.Record.Valid.{ValidScript, ValidStatement}
 
 all-or : {X : Type 0} (P : X → Type 0) (xs : List X) (i : ℕ) (d : X) → AllByRecursion P xs → P d → P (get_or xs i d)
 all-or P [] i d h p = p

@@ -3,7 +3,7 @@ use Rattle.std.specs.Prelude.{◌≡◌, ℕ, ◌+◌, Bool, true}
 use Rattle.lapi_base.specs.declared.address.Addr.{Addr}
 use Rattle.lapi_base.specs.declared.address.Addr.TheVariants.{Plain, Table}
 use Rattle.lapi_base.specs.declared.script.Script.{Script}
-use Rattle.lapi_base.specs.Operations.{entry}
+use Rattle.lapi_base.specs.Record.Operations.{entry}
 
 -- whether an address can be told, by the rounds that are known
 abbrev pub is_told : (known : ℕ → Bool) → Addr → Bool

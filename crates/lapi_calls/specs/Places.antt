@@ -1,8 +1,8 @@
 -- The operation at which an event lies, by its task and its statement.
 use Rattle.std.specs.Prelude.{ℕ}
-use Rattle.lapi_base.specs.Names.{Deed, Issued, Refused, Entered, Passed, Copied, Headed, Landed, Begun, Ended}
+use Rattle.lapi_base.specs.Record.Names.{EventKey, Issued, Refused, Entered, Passed, Copied, Headed, Landed, Begun, Ended}
 
-abbrev pub task_of : Deed → ℕ
+abbrev pub task_of : EventKey → ℕ
 task_of (Issued a i) = a
 task_of (Refused a i) = a
 task_of (Entered a i) = a
@@ -13,7 +13,7 @@ task_of (Landed m) = m.origin
 task_of (Begun m) = m.origin
 task_of (Ended m) = m.origin
 
-abbrev pub statement_of : Deed → ℕ
+abbrev pub statement_of : EventKey → ℕ
 statement_of (Issued a i) = i
 statement_of (Refused a i) = i
 statement_of (Entered a i) = i

@@ -2,7 +2,7 @@
 use Rattle.std.specs.Prelude.{ℕ, ◌+◌, ◌*◌, Bool, List, map}
 use Rattle.std.specs.List.{sum}
 use Rattle.lapi_base.specs.declared.piece.Piece.{Piece}
-use Rattle.lapi_base.specs.Operations.{upto}
+use Rattle.lapi_base.specs.Record.Operations.{numbers_below}
 use Rattle.lapi_calls.specs.Entries.{is_told, address_by}
 use Rattle.lapi_calls.specs.declared.reach.Reach.{Reach}
 
@@ -15,4 +15,4 @@ reach_of known given d p = record { known = is_told known p.at; at = address_by 
 
 -- where the pieces of a stride lie
 abbrev pub stride_reaches : (known : Bool) → (at block stride count : ℕ) → List Reach
-stride_reaches known at block stride count = map (λ k. record { known = known; at = at + k * stride; len = block }) (upto count)
+stride_reaches known at block stride count = map (λ k. record { known = known; at = at + k * stride; len = block }) (numbers_below count)

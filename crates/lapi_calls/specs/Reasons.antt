@@ -8,11 +8,11 @@ use Rattle.lapi_base.specs.declared.script.Script.{Script}
 use Rattle.lapi_base.specs.declared.rule.Rules.{Rules}
 use Rattle.lapi_base.specs.declared.refusal.Refusal.{Refusal}
 use Rattle.lapi_base.specs.declared.refusal.Refusal.TheVariants.{BadTask, BadTargetRange, BadOriginRange, BadCounter, TooLong, NoTable, BadHandler, BadUserHeader, VecCount, VecLength, StrideBelowBlock, Misaligned}
-use Rattle.lapi_base.specs.Operations.{target_pieces, origin_pieces, is_rmw, target_of, is_am}
-use Rattle.lapi_base.specs.Refusals.{option_any, lies_within, counters_of, too_long, is_vector, stride_below_block, is_misaligned, why_by}
-use Rattle.lapi_base.specs.Handlers.{handler_of, user_header}
+use Rattle.lapi_base.specs.Record.Operations.{target_pieces, origin_pieces, is_rmw, target_of, is_am}
+use Rattle.lapi_base.specs.Record.Refusals.{option_any, lies_within, counters_of, too_long, is_vector, stride_below_block, is_misaligned, refusal_by}
+use Rattle.lapi_base.specs.Record.Handlers.{handler_of, user_header}
 use Rattle.lapi_base.specs.declared.statement.Statement.TheVariants.{Put, Get, Am}
-use Rattle.lapi_base.specs.Layout.{longest_of, longest_active_of}
+use Rattle.lapi_base.specs.Packet.Layout.{longest_of, longest_active_of}
 use Rattle.lapi_calls.specs.declared.setting.Setting.{Setting}
 use Rattle.lapi_calls.specs.Entries.{is_told}
 use Rattle.lapi_calls.specs.Setting.{rules_of}
@@ -92,4 +92,4 @@ reach_tests script rules to from s =
 
 -- why a statement is refused, if it is, where these rounds are known
 abbrev pub why_told : Setting → (known : ℕ → Bool) → (task i : ℕ) → Option Refusal
-why_told setting known a i = why_by setting.script.now (rules_of setting) (is_told known) a i
+why_told setting known a i = refusal_by setting.script.now (rules_of setting) (is_told known) a i

@@ -8,11 +8,11 @@ use Rattle.lapi_base.specs.declared.message.Leg.TheVariants.{Go}
 use Rattle.lapi_base.specs.declared.message.MsgName.{MsgName}
 use Rattle.lapi_base.specs.declared.event.Event.{Event}
 use Rattle.lapi_base.specs.declared.event.Event.TheVariants.{Issue, Refuse, Enter, Pass, Copy, Head, Land, Begin, End}
-use Rattle.lapi_base.specs.Names.{leg_eq, deed}
-use Rattle.lapi_base.specs.Operations.{statement, has_leg, is_am, target_of, to_by, has_join}
-use Rattle.lapi_base.specs.Layout.{may_answer}
-use Rattle.lapi_base.specs.Handlers.{header_rule, choice_by, user_by, kept_choice, completion_rule, is_answer, handler_of, user_header}
-use Rattle.lapi_base.specs.Atomic.{has_statement, is_there, is_issued, is_passed}
+use Rattle.lapi_base.specs.Record.Names.{leg_eq, key_of}
+use Rattle.lapi_base.specs.Record.Operations.{statement, has_leg, is_am, target_of, to_by, has_join}
+use Rattle.lapi_base.specs.Packet.Layout.{may_answer}
+use Rattle.lapi_base.specs.Record.Handlers.{header_rule, choice_by, user_by, kept_choice, completion_rule, is_answer, handler_of, user_header}
+use Rattle.lapi_base.specs.Record.Atomic.{has_statement, is_there, is_issued, is_passed}
 use Rattle.lapi_calls.specs.Places.{task_of, statement_of}
 use Rattle.lapi_calls.specs.declared.setting.Setting.{Setting}
 
@@ -34,7 +34,7 @@ abbrev pub IsThere : Setting → Event → Type 0
 IsThere setting e = is_there setting.script.now (rules_of setting) e ≡ true
 
 abbrev pub lies_at : Script → Event → Statement
-lies_at script e = statement script (task_of (deed e)) (statement_of (deed e))
+lies_at script e = statement script (task_of (key_of e)) (statement_of (key_of e))
 
 abbrev pub named_choice : Rules → ℕ → List ℕ → Option ℕ
 named_choice rules handler header = choice_by (header_rule rules handler).choice header

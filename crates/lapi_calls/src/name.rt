@@ -1,6 +1,6 @@
 //! Names of messages, and where events lie.
 ghost use Rattle.std.specs.Prelude.{◌≡◌};
-ghost use Rattle.lapi_base.specs.Names.{leg_eq, deed};
+ghost use Rattle.lapi_base.specs.Record.Names.{leg_eq, key_of};
 ghost use Rattle.lapi_base.specs.declared.message.Leg.TheVariants.{Go};
 ghost use Rattle.lapi_calls.specs.Places.{task_of, statement_of};
 ghost use Rattle.lapi_calls.specs.Setting.{target_by, receiver_by};
@@ -35,8 +35,8 @@ pub fn target(name: MsgName, statement: &Statement) -> u32
 
 /// The task and the number of the statement at which an event lies.
 pub fn place_of(event: &Event) -> (u32, u32)
-    ensures task { result.0 ≡ task_of (deed event.now) }
-    ensures statement { result.1 ≡ statement_of (deed event.now) }
+    ensures task { result.0 ≡ task_of (key_of event.now) }
+    ensures statement { result.1 ≡ statement_of (key_of event.now) }
 {
     match event {
         Event::Issue { task, statement }

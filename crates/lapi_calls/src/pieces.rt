@@ -1,8 +1,8 @@
 //! Where the pieces of a statement lie.
 ghost use Rattle.std.specs.Prelude.{◌≡◌, ◌^◌, ◌<◌, ◌≤◌, length, map};
 ghost use Rattle.lapi_base.specs.declared.piece.Piece.{Piece};
-ghost use Rattle.lapi_base.specs.Operations.{pieces_of, target_pieces, origin_pieces};
-ghost use Rattle.lapi_base.specs.Valid.{ValidStatement, ValidVector};
+ghost use Rattle.lapi_base.specs.Record.Operations.{pieces_of, target_pieces, origin_pieces};
+ghost use Rattle.lapi_base.specs.Record.Valid.{ValidStatement, ValidVector};
 ghost use Rattle.lapi_calls.specs.Reaches.{reach_of, stride_reaches};
 
 use crate::entries::Entries;
@@ -80,7 +80,7 @@ fn reach<E: Entries>(entries: &E, d: u32, at: Addr, len: u32) -> Reach
 }
 
 /// Where the pieces of a vector lie.
-#[tactic(auto, unfolding(lapi_base::specs::Operations::pieces_of))]
+#[tactic(auto, unfolding(lapi_base::specs::Record::Operations::pieces_of))]
 fn vector<E: Entries>(entries: &E, d: u32, vector: &Vector) -> Reaches
     requires asked { E.valid entries.now }
     requires vector { ValidVector vector.now }

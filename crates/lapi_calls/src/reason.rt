@@ -1,12 +1,12 @@
 //! Why a statement is refused.
 ghost use Rattle.std.specs.Prelude.{◌≡◌, ◌%◌, ◌==◌, ◌||◌, ◌&&◌, not, nat_lt, true, length, option_to_list, unwrap_or};
 ghost use Rattle.std.specs.List.{list_any, zip};
-ghost use Rattle.lapi_base.specs.Atomic.{has_statement};
-ghost use Rattle.lapi_base.specs.Handlers.{handler_of};
-ghost use Rattle.lapi_base.specs.Operations as operations;
-ghost use Rattle.lapi_base.specs.Refusals as refusals;
-ghost use Rattle.lapi_base.specs.Refusals.{option_any, counters_of};
-ghost use Rattle.lapi_base.specs.Valid.{ValidScript};
+ghost use Rattle.lapi_base.specs.Record.Atomic.{has_statement};
+ghost use Rattle.lapi_base.specs.Record.Handlers.{handler_of};
+ghost use Rattle.lapi_base.specs.Record.Operations as operations;
+ghost use Rattle.lapi_base.specs.Record.Refusals as refusals;
+ghost use Rattle.lapi_base.specs.Record.Refusals.{option_any, counters_of};
+ghost use Rattle.lapi_base.specs.Record.Valid.{ValidScript};
 ghost use Rattle.lapi_calls.specs.Entries.{AreGiven};
 ghost use Rattle.lapi_calls.specs.Reasons as reasons;
 ghost use Rattle.lapi_calls.specs.Reasons.{why_told};
@@ -219,7 +219,7 @@ fn is_misaligned(statement: &Statement, to: &Reaches, from: &Reaches) -> bool
 }
 
 /// The first reason whose test holds.
-#[tactic(auto, unfolding(lapi_base::specs::Refusals::first_reason))]
+#[tactic(auto, unfolding(lapi_base::specs::Record::Refusals::first_reason))]
 fn first_reason(tests: &[(bool, Refusal)]) -> Option<Refusal>
     ensures { result ≡ refusals.first_reason tests.now }
 {

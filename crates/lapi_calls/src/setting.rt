@@ -1,10 +1,10 @@
 //! What a script and its handlers' rules say of one statement.
 ghost use Rattle.std.specs.Prelude.{◌≡◌, ◌<◌, ◌≤◌, ℕ, true, false, length, take, slice_get, option_map, MatchOption};
-ghost use Rattle.lapi_base.specs.Atomic.{is_there, has_statement};
-ghost use Rattle.lapi_base.specs.Handlers.{number_of, header_word, user_by, completion_rule, is_answer};
-ghost use Rattle.lapi_base.specs.Names.{deed};
-ghost use Rattle.lapi_base.specs.Operations.{statements, statement, receiver, has_leg};
-ghost use Rattle.lapi_base.specs.Valid.{ValidScript};
+ghost use Rattle.lapi_base.specs.Record.Atomic.{is_there, has_statement};
+ghost use Rattle.lapi_base.specs.Record.Handlers.{number_of, header_word, user_by, completion_rule, is_answer};
+ghost use Rattle.lapi_base.specs.Record.Names.{key_of};
+ghost use Rattle.lapi_base.specs.Record.Operations.{statements, statement, receiver, has_leg};
+ghost use Rattle.lapi_base.specs.Record.Valid.{ValidScript};
 ghost use Rattle.lapi_calls.specs.Setting.{rules_of, named_choice, kept, completes, has_place, is_answered, answers_by, has_head, has_event, HasStatement, LacksStatement, IsStatement, IsThere, lies_at, leg_is_there};
 ghost use Rattle.lapi_calls.specs.Places.{task_of, statement_of};
 
@@ -199,7 +199,7 @@ fn user(header: &Bytes) -> u32
 
 /// Word `index` of a user header, which is absent where the header is shorter. It stands a second time in
 /// `lapi_handlers`, which has the same rules as functions.
-#[tactic(auto, unfolding(lapi_base::specs::Handlers::header_word))]
+#[tactic(auto, unfolding(lapi_base::specs::Record::Handlers::header_word))]
 fn header_word(header: &Bytes, index: usize) -> Option<u32>
     requires { index < 3 }
     ensures { result ≡ header_word header.now index }

@@ -1,7 +1,7 @@
 //! Kinds of statements, and what a statement names.
 ghost use Rattle.std.specs.Prelude.{◌≡◌};
-ghost use Rattle.lapi_base.specs.Atomic as atomic;
-ghost use Rattle.lapi_base.specs.Operations as kinds;
+ghost use Rattle.lapi_base.specs.Record.Atomic as atomic;
+ghost use Rattle.lapi_base.specs.Record.Operations as kinds;
 
 use lapi_base::Statement;
 

@@ -1,7 +1,7 @@
 //! The statements of one task, by a caller that knows no addresses.
 ghost use Rattle.std.specs.Prelude.{◌≤◌, length, false};
 ghost use Rattle.std.specs.List.{AllByRecursion};
-ghost use Rattle.lapi_base.specs.Valid.{AtPlain, IsAddress, IsByte, ValidStatement, ValidVector};
+ghost use Rattle.lapi_base.specs.Record.Valid.{AtPlain, IsAddress, IsByte, ValidStatement, ValidVector};
 
 use super::*;
 use lapi_base::{

@@ -4,7 +4,7 @@ use Rattle.std.specs.Int.{w64, bit_not, trailing_zeros}
 use Rattle.std.proofs.lemmas.Nat.Bits.{bit_at-trailing_zeros}
 use Rattle.std.proofs.lemmas.List.{get_or-set_same, get_or-set_other}
 use Rattle.std.proofs.lemmas.Bool.{eq-eqb, ne_eqb, cases_eq, cases_lt}
-use Rattle.lapi_base.specs.Below.{has_bit}
+use Rattle.lapi_base.specs.Record.Below.{has_bit}
 use Rattle.lapi_base.proofs.BitLaws.{has_bit-clear, has_bit-false, has_bit-set, has_bit-true, has_bit-zero}
 use Rattle.lapi_collect.specs.FlagWords.{is_in, IsLeastBetween}
 

@@ -8,8 +8,8 @@ use Rattle.std.proofs.lemmas.Nat.{or_lt, pow_pos}
 use Rattle.std.proofs.lemmas.Bool.{cases_lt, cases_eq, eq-eqb, ne_eqb, and_left, and_right}
 use Rattle.std.proofs.lemmas.List.{length-map, length-set, get_or-map, get_or_past, get_or-set_same, get_or-set_other, get_or-replicate, length-replicate}
 use Rattle.std.proofs.lemmas.List.Elements.{All-set, All-replicate}
-use Rattle.lapi_base.specs.Below.{has_bit}
-use Rattle.lapi_base.specs.Operations.{upto}
+use Rattle.lapi_base.specs.Record.Below.{has_bit}
+use Rattle.lapi_base.specs.Record.Operations.{numbers_below}
 use Rattle.lapi_base.proofs.BelowLaws.{every_below-at, every_below-same}
 use Rattle.lapi_base.proofs.BitLaws.{all_bits, has_bit-set, has_bit-zero}
 use Rattle.lapi_base.proofs.UptoLaws.{length-over, over-at}
@@ -18,11 +18,11 @@ use Rattle.lapi_collect.specs.Rounds.{Joins, joined, is_complete, joined_in, joi
 
 pub length-joins : (tasks : ℕ) (rows : List Round) → length (joins_of tasks rows).rounds ≡ length rows
 unfolding joins_of
-length-joins tasks rows = length-map rows (λ r. map (joined_in r) (upto tasks))
+length-joins tasks rows = length-map rows (λ r. map (joined_in r) (numbers_below tasks))
 
-row_at : (tasks : ℕ) (rows : List Round) (r : ℕ) (row : Round) → r < length rows → get_or (joins_of tasks rows).rounds r [] ≡ map (joined_in (get_or rows r row)) (upto tasks)
+row_at : (tasks : ℕ) (rows : List Round) (r : ℕ) (row : Round) → r < length rows → get_or (joins_of tasks rows).rounds r [] ≡ map (joined_in (get_or rows r row)) (numbers_below tasks)
 unfolding joins_of
-row_at tasks rows r row lt = get_or-map (λ x. map (joined_in x) (upto tasks)) rows r row [] lt
+row_at tasks rows r row lt = get_or-map (λ x. map (joined_in x) (numbers_below tasks)) rows r row [] lt
 
 pub joined_at : (tasks : ℕ) (rows : List Round) (t r : ℕ) (row : Round) → t < tasks → r < length rows → joined (joins_of tasks rows) t r ≡ joined_in (get_or rows r row) t
 joined_at tasks rows t r row known lt =
@@ -37,7 +37,7 @@ joined_unknown tasks rows t r row ge =
     ⊎_elim
     (λ (lt : r < length rows).
     ap (λ xs. get_or xs t None) (row_at tasks rows r row lt)
-    ∙ get_or_past (map (joined_in (get_or rows r row)) (upto tasks)) t None (let e = length-over (joined_in (get_or rows r row)) tasks in omega arith))
+    ∙ get_or_past (map (joined_in (get_or rows r row)) (numbers_below tasks)) t None (let e = length-over (joined_in (get_or rows r row)) tasks in omega arith))
     (λ (past : length rows ≤ r). joined_past tasks rows t r past)
     (cases_lt r (length rows))
 

@@ -4,7 +4,7 @@ use Rattle.std.specs.Int.{w64, bit_not}
 use lib.Dec.{leb}
 use Rattle.std.proofs.lemmas.Bool.{cases_lt, cases_eq, eq-eqb, ne_eqb, le-leb, leb-true, both_ways}
 use Rattle.std.proofs.lemmas.List.{length-set, get_or-set_same, get_or-set_other, get_or_past, ext_get_or, length-replicate, get_or-replicate}
-use Rattle.lapi_base.specs.Below.{has_bit}
+use Rattle.lapi_base.specs.Record.Below.{has_bit}
 use Rattle.lapi_base.proofs.BitLaws.{has_bit-zero}
 use Rattle.lapi_base.proofs.UptoLaws.{length-over, over-at}
 use Rattle.lapi_collect.specs.FlagWords.{is_in, IsLeastBetween}

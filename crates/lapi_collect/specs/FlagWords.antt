@@ -1,6 +1,6 @@
 -- A set of numbers as one bit each, 64 to a word.
 use Rattle.std.specs.Prelude.{◌≡◌, ℕ, ◌*◌, ◌/◌, ◌%◌, ◌<◌, ◌≤◌, Bool, true, false, List, slice_index, Option, Some, None}
-use Rattle.lapi_base.specs.Below.{has_bit}
+use Rattle.lapi_base.specs.Record.Below.{has_bit}
 
 -- past the last word there is no number
 unfoldable pub is_in : (words : List ℕ) → ℕ → Bool

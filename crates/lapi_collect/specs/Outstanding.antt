@@ -1,6 +1,6 @@
 -- What an Outstanding stands for: for each statement whether it was begun and is not done.
 use Rattle.std.specs.Prelude.{◌≡◌, ℕ, ◌*◌, ◌<◌, ◌≤◌, Bool, true, false, List, length, map, slice_index_or, Option, Some, None}
-use Rattle.lapi_base.specs.Operations.{upto}
+use Rattle.lapi_base.specs.Record.Operations.{numbers_below}
 use Rattle.lapi_collect.specs.FlagWords.{is_in}
 
 -- past the last statement there is none
@@ -8,7 +8,7 @@ abbrev pub is_open : List Bool → ℕ → Bool
 is_open flags statement = slice_index_or flags statement false
 
 unfoldable pub flags_of : (statements : ℕ) (words : List ℕ) → List Bool
-flags_of statements words = map (is_in words) (upto statements)
+flags_of statements words = map (is_in words) (numbers_below statements)
 
 -- the least number that passes, if one does
 abbrev pub IsLeast : (ℕ → Bool) → Option ℕ → Type 0

@@ -1,8 +1,8 @@
 -- What Rounds stand for: which task joined which round, and with which value.
 use Rattle.std.specs.Prelude.{◌≡◌, ℕ, ◌^◌, ◌<◌, ◌≤◌, Bool, cond, List, [], length, map, Option, Some, None, is_some, slice_index, slice_index_or}
 use Rattle.std.specs.List.{All}
-use Rattle.lapi_base.specs.Below.{has_bit, every_below}
-use Rattle.lapi_base.specs.Operations.{upto}
+use Rattle.lapi_base.specs.Record.Below.{has_bit, every_below}
+use Rattle.lapi_base.specs.Record.Operations.{numbers_below}
 use Rattle.lapi_collect.specs.declared.rounds.Round.{Round}
 
 -- for each round, the value of each task that joined it
@@ -22,7 +22,7 @@ abbrev pub joined_in : Round → (task : ℕ) → Option ℕ
 joined_in round task = cond (has_bit round.joined task) (Some (slice_index round.values task)) None
 
 unfoldable pub joins_of : (tasks : ℕ) → List Round → Joins
-joins_of tasks rounds = record { tasks = tasks; rounds = map (λ r. map (joined_in r) (upto tasks)) rounds }
+joins_of tasks rounds = record { tasks = tasks; rounds = map (λ r. map (joined_in r) (numbers_below tasks)) rounds }
 
 -- only tasks joined, and there is room for the value of each
 abbrev pub IsRound : (tasks : ℕ) → Round → Type 0

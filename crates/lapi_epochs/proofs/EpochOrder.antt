@@ -10,15 +10,15 @@ use Rattle.lapi_base.specs.declared.rule.Rules.{Rules}
 use Rattle.lapi_base.specs.declared.refusal.Refusal.{Refusal}
 use Rattle.lapi_base.specs.declared.event.Event.{Event}
 use Rattle.lapi_base.specs.declared.event.Event.TheVariants.{Issue, Refuse, Enter, Pass, Copy, Head, Land, Begin, End}
-use Rattle.lapi_base.specs.Below.{below}
-use Rattle.lapi_base.specs.Names.{Deed, Issued, Refused, Entered, Passed, deed, done}
-use Rattle.lapi_base.specs.Operations.{statements, statement, is_data, is_gfence}
-use Rattle.lapi_base.specs.Refusals.{next, gfence_rounds, round_of, first_reason, why_by, why}
-use Rattle.lapi_base.specs.Atomic.{Atomic, Keeps, has_statement, is_issued, is_passed, data_landed}
-use Rattle.lapi_base.specs.Headline.{StandsAfter, HoldsOfAtomic}
+use Rattle.lapi_base.specs.Record.Below.{below}
+use Rattle.lapi_base.specs.Record.Names.{EventKey, Issued, Refused, Entered, Passed, key_of, happened}
+use Rattle.lapi_base.specs.Record.Operations.{statements, statement, is_data, is_gfence}
+use Rattle.lapi_base.specs.Record.Refusals.{next, gfence_rounds, round_of, first_reason, refusal_by, refusal_of}
+use Rattle.lapi_base.specs.Record.Atomic.{Atomic, Keeps, has_statement, is_issued, is_passed, data_landed}
+use Rattle.lapi_base.specs.Laws.Headline.{StandsAfter, HoldsOfAtomic}
 use Rattle.lapi_base.proofs.ListLaws.{filter-push, filter-all, all-weaker}
 use Rattle.lapi_base.proofs.BelowLaws.{below-all}
-use Rattle.lapi_base.proofs.NameLaws.{done-nil, done-cases, done-later, done-head, done-grown}
+use Rattle.lapi_base.proofs.NameLaws.{happened-nil, happened-cases, happened-later, happened-head, happened-grown}
 use Rattle.lapi_laws.proofs.Backward.{Atomic-head, Atomic-tail, shown, there, behind, next-later}
 use Rattle.lapi_laws.proofs.Once.{atomic-end}
 use Rattle.lapi_laws.proofs.Fences.{gfence-is, global-fences-wait}
@@ -97,7 +97,7 @@ epoch-below script a (suc i) =
 pub round-epoch : (script : Script) (a g : ℕ) → g < length (statements script a) → is_gfence (statement script a g) ≡ true → round_of script a g ≡ epoch script a g
 unfolding round_of gfence_rounds
 round-epoch script a g l h =
-    ap (λ b. length (filter (λ j. nat_lt j g) (cond b (gfence_rounds script a) (Rattle.lapi_base.specs.Operations.table_rounds script a)))) h
+    ap (λ b. length (filter (λ j. nat_lt j g) (cond b (gfence_rounds script a) (Rattle.lapi_base.specs.Record.Operations.table_rounds script a)))) h
     ∙ ap length (below-front (length (statements script a)) (λ j. is_gfence (statement script a j)) g (let q : g ≤ length (statements script a) = omega arith in q))
     ∙ epoch-below script a g
 
@@ -113,16 +113,16 @@ fence-not_data _ h = absurd (false≢true h)
 
 module _ (script : Script) (rules : Rules) where
   abbrev pub Taken : List Event → (a i : ℕ) → Type 0
-  Taken J a i = (done (Issued a i) J ≡ true) ⊎ (done (Refused a i) J ≡ true) ⊎ (done (Passed a i) J ≡ true)
+  Taken J a i = (happened (Issued a i) J ≡ true) ⊎ (happened (Refused a i) J ≡ true) ⊎ (happened (Passed a i) J ≡ true)
 
   taken-later : (e : Event) (J : List Event) (a i : ℕ) → Taken J a i → Taken (e ∷ J) a i
   taken-later e J a i t =
       ⊎_elim
-      (λ (x : done (Issued a i) J ≡ true). inl (done-later (Issued a i) e J x))
-      (λ (y : (done (Refused a i) J ≡ true) ⊎ (done (Passed a i) J ≡ true)).
+      (λ (x : happened (Issued a i) J ≡ true). inl (happened-later (Issued a i) e J x))
+      (λ (y : (happened (Refused a i) J ≡ true) ⊎ (happened (Passed a i) J ≡ true)).
       ⊎_elim
-      (λ (x : done (Refused a i) J ≡ true). inr (inl (done-later (Refused a i) e J x)))
-      (λ (x : done (Passed a i) J ≡ true). inr (inr (done-later (Passed a i) e J x)))
+      (λ (x : happened (Refused a i) J ≡ true). inr (inl (happened-later (Refused a i) e J x)))
+      (λ (x : happened (Passed a i) J ≡ true). inr (inr (happened-later (Passed a i) e J x)))
       y)
       t
 
@@ -146,9 +146,9 @@ module _ (script : Script) (rules : Rules) where
   pub taken : (J : List Event) → Atomic script rules J → (a i : ℕ) → i < next J a → Taken J a i
   unfolding next
   taken [] h a i l = absurd (omega arith)
-  taken (Issue b k ∷ J) h a i l = one-taken (Issue b k) J b k a i (Atomic-head script rules (Issue b k) J h).order.0 (taken J (Atomic-tail script rules (Issue b k) J h) a) l (inl (done-head (Issue b k) J))
-  taken (Refuse b k why ∷ J) h a i l = one-taken (Refuse b k why) J b k a i (Atomic-head script rules (Refuse b k why) J h).order.0 (taken J (Atomic-tail script rules (Refuse b k why) J h) a) l (inr (inl (done-head (Refuse b k why) J)))
-  taken (Pass b k ∷ J) h a i l = one-taken (Pass b k) J b k a i (Atomic-head script rules (Pass b k) J h).order.0 (taken J (Atomic-tail script rules (Pass b k) J h) a) l (inr (inr (done-head (Pass b k) J)))
+  taken (Issue b k ∷ J) h a i l = one-taken (Issue b k) J b k a i (Atomic-head script rules (Issue b k) J h).order.0 (taken J (Atomic-tail script rules (Issue b k) J h) a) l (inl (happened-head (Issue b k) J))
+  taken (Refuse b k refusal_of ∷ J) h a i l = one-taken (Refuse b k refusal_of) J b k a i (Atomic-head script rules (Refuse b k refusal_of) J h).order.0 (taken J (Atomic-tail script rules (Refuse b k refusal_of) J h) a) l (inr (inl (happened-head (Refuse b k refusal_of) J)))
+  taken (Pass b k ∷ J) h a i l = one-taken (Pass b k) J b k a i (Atomic-head script rules (Pass b k) J h).order.0 (taken J (Atomic-tail script rules (Pass b k) J h) a) l (inr (inr (happened-head (Pass b k) J)))
   taken (Enter b k ∷ J) h a i l = taken-later (Enter b k) J a i (taken J (Atomic-tail script rules (Enter b k) J h) a i l)
   taken (Copy m ∷ J) h a i l = taken-later (Copy m) J a i (taken J (Atomic-tail script rules (Copy m) J h) a i l)
   taken (Head m ∷ J) h a i l = taken-later (Head m) J a i (taken J (Atomic-tail script rules (Head m) J h) a i l)
@@ -156,14 +156,14 @@ module _ (script : Script) (rules : Rules) where
   taken (Begin m t w ∷ J) h a i l = taken-later (Begin m t w) J a i (taken J (Atomic-tail script rules (Begin m t w) J h) a i l)
   taken (End m t w ∷ J) h a i l = taken-later (End m t w) J a i (taken J (Atomic-tail script rules (End m t w) J h) a i l)
 
-  -- what each deed of a statement shows of its kind; a refusal is one that the table gives after some journal
-  abbrev pub OfKind : Deed → Type 0
+  -- what each key_of of a statement shows of its kind; a refusal is one that the table gives after some journal
+  abbrev pub OfKind : EventKey → Type 0
   OfKind (Issued a i) = is_issued (statement script a i) ≡ true
-  OfKind (Refused a i) = (K : List Event) × (reason : Refusal) × (why script rules K a i ≡ Some reason)
+  OfKind (Refused a i) = (K : List Event) × (reason : Refusal) × (refusal_of script rules K a i ≡ Some reason)
   OfKind (Passed a i) = is_passed (statement script a i) ≡ true
   OfKind _ = Unit {0}
 
-  kind-now : (e : Event) (J : List Event) → Keeps script rules J e → OfKind (deed e)
+  kind-now : (e : Event) (J : List Event) → Keeps script rules J e → OfKind (key_of e)
   kind-now (Issue a i) J k = (and_parts _ _ k.there).1
   kind-now (Refuse a i reason) J k = (J, reason, k.order.1)
   kind-now (Enter a i) J k = tt
@@ -174,45 +174,45 @@ module _ (script : Script) (rules : Rules) where
   kind-now (Begin m t w) J k = tt
   kind-now (End m t w) J k = tt
 
-  pub kind : (d : Deed) (J : List Event) → Atomic script rules J → done d J ≡ true → OfKind d
+  pub kind : (d : EventKey) (J : List Event) → Atomic script rules J → happened d J ≡ true → OfKind d
   kind = shown script rules OfKind kind-now
 
   -- no global fence is refused
-  pub fence-kept : (J : List Event) (a g : ℕ) → is_gfence (statement script a g) ≡ true → why script rules J a g ≡ None
-  unfolding why why_by first_reason
+  pub fence-kept : (J : List Event) (a g : ℕ) → is_gfence (statement script a g) ≡ true → refusal_of script rules J a g ≡ None
+  unfolding refusal_of refusal_by first_reason
   fence-kept J a g h = rw (gfence-is (statement script a g) h) refl
 
   -- one that was taken was passed
-  pub fence-passed : (J : List Event) (a g : ℕ) → Atomic script rules J → is_gfence (statement script a g) ≡ true → g < next J a → done (Passed a g) J ≡ true
+  pub fence-passed : (J : List Event) (a g : ℕ) → Atomic script rules J → is_gfence (statement script a g) ≡ true → g < next J a → happened (Passed a g) J ≡ true
   fence-passed J a g h is l =
       ⊎_elim
-      (λ (x : done (Issued a g) J ≡ true). absurd (fence-not_issued (statement script a g) is (kind (Issued a g) J h x)))
-      (λ (y : (done (Refused a g) J ≡ true) ⊎ (done (Passed a g) J ≡ true)).
+      (λ (x : happened (Issued a g) J ≡ true). absurd (fence-not_issued (statement script a g) is (kind (Issued a g) J h x)))
+      (λ (y : (happened (Refused a g) J ≡ true) ⊎ (happened (Passed a g) J ≡ true)).
       ⊎_elim
-      (λ (x : done (Refused a g) J ≡ true). let k = kind (Refused a g) J h x in absurd (let e : None ≡ Some k.1 = sym (fence-kept k.0 a g is) ∙ k.2 in cc))
-      (λ (x : done (Passed a g) J ≡ true). x)
+      (λ (x : happened (Refused a g) J ≡ true). let k = kind (Refused a g) J h x in absurd (let e : None ≡ Some k.1 = sym (fence-kept k.0 a g is) ∙ k.2 in cc))
+      (λ (x : happened (Passed a g) J ≡ true). x)
       y)
       (taken J h a g l)
 
   -- ---- what a passed fence shows
 
   -- where an event stands
-  pub stood : (d : Deed) (J : List Event) → done d J ≡ true → (e : Event) × (before : List Event) × (deed e ≡ d) × StandsAfter before e J
-  stood d [] h = absurd (both_ways _ (done-nil d) h)
+  pub stood : (d : EventKey) (J : List Event) → happened d J ≡ true → (e : Event) × (before : List Event) × (key_of e ≡ d) × StandsAfter before e J
+  stood d [] h = absurd (both_ways _ (happened-nil d) h)
   stood d (e ∷ J) h =
       ⊎_elim
-      (λ (x : d ≡ deed e). (e, J, sym x, ([], refl)))
-      (λ (x : done d J ≡ true). let r = stood d J x in (r.0, r.1, r.2, (e ∷ r.3.0, ap (λ K. e ∷ K) r.3.1)))
-      (done-cases d e J h)
+      (λ (x : d ≡ key_of e). (e, J, sym x, ([], refl)))
+      (λ (x : happened d J ≡ true). let r = stood d J x in (r.0, r.1, r.2, (e ∷ r.3.0, ap (λ K. e ∷ K) r.3.1)))
+      (happened-cases d e J h)
 
   pub grown-next : (later J : List Event) (a : ℕ) → next J a ≤ next (later ++ J) a
   grown-next [] J a = omega arith
   grown-next (e ∷ later) J a = let h = grown-next later J a in let q = next-later e (later ++ J) a in omega arith
 
-  pass-is : (e : Event) (a i : ℕ) → deed e ≡ Passed a i → e ≡ Pass a i
+  pass-is : (e : Event) (a i : ℕ) → key_of e ≡ Passed a i → e ≡ Pass a i
   pass-is (Pass b k) a i h = let x : b ≡ a = cc in let y : k ≡ i = cc in λ j. Pass (x j) (y j)
   pass-is (Issue b k) a i h = absurd (cc)
-  pass-is (Refuse b k why) a i h = absurd (cc)
+  pass-is (Refuse b k refusal_of) a i h = absurd (cc)
   pass-is (Enter b k) a i h = absurd (cc)
   pass-is (Copy m) a i h = absurd (cc)
   pass-is (Head m) a i h = absurd (cc)
@@ -221,9 +221,9 @@ module _ (script : Script) (rules : Rules) where
   pass-is (End m t w) a i h = absurd (cc)
 
   -- an issue comes at its own turn
-  pub issue-turn : (e : Event) (J : List Event) (a i : ℕ) → Keeps script rules J e → Issued a i ≡ deed e → i ≡ next J a
+  pub issue-turn : (e : Event) (J : List Event) (a i : ℕ) → Keeps script rules J e → Issued a i ≡ key_of e → i ≡ next J a
   issue-turn (Issue b k) J a i h same = let x : b ≡ a = cc in let y : k ≡ i = cc in let q = h.order.0 in let r = ap (next J) x in omega arith
-  issue-turn (Refuse b k why) J a i h same = absurd (cc)
+  issue-turn (Refuse b k refusal_of) J a i h same = absurd (cc)
   issue-turn (Enter b k) J a i h same = absurd (cc)
   issue-turn (Pass b k) J a i h same = absurd (cc)
   issue-turn (Copy m) J a i h same = absurd (cc)
@@ -233,23 +233,23 @@ module _ (script : Script) (rules : Rules) where
   issue-turn (End m t w) J a i h same = absurd (cc)
 
   -- so what is issued was issued before its task went on
-  issued-early : (later J : List Event) (a i : ℕ) → Atomic script rules (later ++ J) → i < next J a → done (Issued a i) (later ++ J) ≡ true → done (Issued a i) J ≡ true
+  issued-early : (later J : List Event) (a i : ℕ) → Atomic script rules (later ++ J) → i < next J a → happened (Issued a i) (later ++ J) ≡ true → happened (Issued a i) J ≡ true
   issued-early [] J a i h l d = d
   issued-early (e ∷ later) J a i h l d =
       ⊎_elim
-      (λ (x : Issued a i ≡ deed e). let turn = issue-turn e (later ++ J) a i (Atomic-head script rules e (later ++ J) h) x in let g = grown-next later J a in absurd (omega arith))
-      (λ (x : done (Issued a i) (later ++ J) ≡ true). issued-early later J a i (Atomic-tail script rules e (later ++ J) h) l x)
-      (done-cases (Issued a i) e (later ++ J) d)
+      (λ (x : Issued a i ≡ key_of e). let turn = issue-turn e (later ++ J) a i (Atomic-head script rules e (later ++ J) h) x in let g = grown-next later J a in absurd (omega arith))
+      (λ (x : happened (Issued a i) (later ++ J) ≡ true). issued-early later J a i (Atomic-tail script rules e (later ++ J) h) l x)
+      (happened-cases (Issued a i) e (later ++ J) d)
 
   pub has-of : (a i : ℕ) → has_statement script rules a i ≡ true → Has script a i
   has-of a i h = let hs = and_parts _ _ h in (ltb-true a script.tasks hs.0, ltb-true i (length (statements script a)) hs.1)
 
   -- an earlier statement than a fence that was entered is over
-  over-before : (later before : List Event) (a i k : ℕ) → Atomic script rules (later ++ before) → Atomic script rules before → i < k → done (Entered a k) before ≡ true → ((j : ℕ) → j < k → is_data (statement script a j) ≡ true → done (Issued a j) before ≡ true → data_landed script rules before a j ≡ true) → IsOver script rules (later ++ before) a i
+  over-before : (later before : List Event) (a i k : ℕ) → Atomic script rules (later ++ before) → Atomic script rules before → i < k → happened (Entered a k) before ≡ true → ((j : ℕ) → j < k → is_data (statement script a j) ≡ true → happened (Issued a j) before ≡ true → data_landed script rules before a j ≡ true) → IsOver script rules (later ++ before) a i
   over-before later before a i k h hb l entered earlier =
       let come : k ≤ next before a = behind script rules (Entered a k) before hb entered in
       let grown = grown-next later before a in
-      (omega arith, λ moved issued. done-grown later before _ (earlier i l moved (issued-early later before a i h (omega arith) issued)))
+      (omega arith, λ moved issued. happened-grown later before _ (earlier i l moved (issued-early later before a i h (omega arith) issued)))
 
   -- a statement of a fence's epoch stands before it
   in-epoch : (a i k : ℕ) → is_gfence (statement script a k) ≡ true → is_gfence (statement script a i) ≡ false → epoch script a i ≤ epoch script a k → i < k
@@ -267,7 +267,7 @@ module _ (script : Script) (rules : Rules) where
   fence-true a k e = ap is_gfence e
 
   -- where a fence was passed, every statement of its epoch is over, at all tasks
-  pub passed-over : (J : List Event) (b g a i : ℕ) → Atomic script rules J → is_gfence (statement script b g) ≡ true → done (Passed b g) J ≡ true → Has script a i → is_gfence (statement script a i) ≡ false → epoch script a i ≤ epoch script b g → IsOver script rules J a i
+  pub passed-over : (J : List Event) (b g a i : ℕ) → Atomic script rules J → is_gfence (statement script b g) ≡ true → happened (Passed b g) J ≡ true → Has script a i → is_gfence (statement script a i) ≡ false → epoch script a i ≤ epoch script b g → IsOver script rules J a i
   passed-over J b g a i h fence passed has other l =
       let at = stood (Passed b g) J passed in
       let before = at.1 in

@@ -4,38 +4,38 @@ use Rattle.std.specs.Prelude.{nat_le, nat_lt, slice_index}
 use Rattle.std.proofs.lemmas.Bool.{and_parts, and_from, or_left, or_right, cases_lt, leb-true, ltb-true, le-leb, lt-ltb}
 use Rattle.std.proofs.lemmas.List.{map-append, length-map, get_or-map, get_or_append_left, get_or-append_right, take_at, drop_at}
 use Rattle.lapi_base.specs.declared.span.Span.{Span}
-use Rattle.lapi_base.specs.Below.{below}
-use Rattle.lapi_base.specs.Operations.{upto}
-use Rattle.lapi_base.specs.Values.{Memories, gathered, scattered, byte_after}
-use Rattle.lapi_base.proofs.UptoLaws.{upto-length}
+use Rattle.lapi_base.specs.Record.Below.{below}
+use Rattle.lapi_base.specs.Record.Operations.{numbers_below}
+use Rattle.lapi_base.specs.Record.Values.{Memories, gathered, scattered, byte_after}
+use Rattle.lapi_base.proofs.UptoLaws.{numbers_below-length}
 use Rattle.lapi_epochs.specs.Stages.{covers}
 
-pub upto-nth : (n k : ℕ) → k < n → get_or (upto n) k 0 ≡ k
-unfolding upto below
-upto-nth zero k l = absurd (omega arith)
-upto-nth (suc n) k l =
+pub numbers_below-nth : (n k : ℕ) → k < n → get_or (numbers_below n) k 0 ≡ k
+unfolding numbers_below below
+numbers_below-nth zero k l = absurd (omega arith)
+numbers_below-nth (suc n) k l =
     ⊎_elim
-    (λ (lt : k < n). get_or_append_left (upto n) (n ∷ []) 0 k (let q : k < length (upto n) = omega (arith, upto-length n) in q) ∙ upto-nth n k lt)
+    (λ (lt : k < n). get_or_append_left (numbers_below n) (n ∷ []) 0 k (let q : k < length (numbers_below n) = omega (arith, numbers_below-length n) in q) ∙ numbers_below-nth n k lt)
     (λ (ge : n ≤ k).
     let e : k ≡ n = omega arith in
     let z : k - n ≡ 0 = omega arith in
-    get_or-append_right (upto n) (n ∷ []) n k 0 (upto-length n) ge ∙ ap (λ j. get_or (n ∷ []) j 0) z ∙ sym e)
+    get_or-append_right (numbers_below n) (n ∷ []) n k 0 (numbers_below-length n) ge ∙ ap (λ j. get_or (n ∷ []) j 0) z ∙ sym e)
     (cases_lt k n)
 
-pub line-nth : (f : ℕ → ℕ) (n k : ℕ) → k < n → slice_index (map f (upto n)) k ≡ f k
-line-nth f n k l = get_or-map f (upto n) k 0 0 (let q : k < length (upto n) = omega (arith, upto-length n) in q) ∙ ap f (upto-nth n k l)
+pub line-nth : (f : ℕ → ℕ) (n k : ℕ) → k < n → slice_index (map f (numbers_below n)) k ≡ f k
+line-nth f n k l = get_or-map f (numbers_below n) k 0 0 (let q : k < length (numbers_below n) = omega (arith, numbers_below-length n) in q) ∙ ap f (numbers_below-nth n k l)
 
-pub line-length : (f : ℕ → ℕ) (n : ℕ) → length (map f (upto n)) ≡ n
-line-length f n = length-map (upto n) f ∙ upto-length n
+pub line-length : (f : ℕ → ℕ) (n : ℕ) → length (map f (numbers_below n)) ≡ n
+line-length f n = length-map (numbers_below n) f ∙ numbers_below-length n
 
-pub line-same : (f g : ℕ → ℕ) (n : ℕ) → ((k : ℕ) → k < n → f k ≡ g k) → map f (upto n) ≡ map g (upto n)
-unfolding upto below
+pub line-same : (f g : ℕ → ℕ) (n : ℕ) → ((k : ℕ) → k < n → f k ≡ g k) → map f (numbers_below n) ≡ map g (numbers_below n)
+unfolding numbers_below below
 line-same f g zero h = refl
 line-same f g (suc n) h =
-    map-append f (upto n) (n ∷ [])
+    map-append f (numbers_below n) (n ∷ [])
     ∙ ap (λ xs. xs ++ f n ∷ []) (line-same f g n (λ k l. h k (omega arith)))
-    ∙ ap (λ y. map g (upto n) ++ y ∷ []) (h n (omega arith))
-    ∙ sym (map-append g (upto n) (n ∷ []))
+    ∙ ap (λ y. map g (numbers_below n) ++ y ∷ []) (h n (omega arith))
+    ∙ sym (map-append g (numbers_below n) (n ∷ []))
 
 -- ---- pieces
 
@@ -54,7 +54,7 @@ pub in_piece-at : (p : Span) (k : ℕ) → k < p.len → in_piece p (p.at + k) �
 in_piece-at p k l = and_from _ _ (le-leb p.at (p.at + k) (omega arith)) (lt-ltb (p.at + k) (p.at + p.len) (omega arith))
 
 abbrev pub piece_bytes : Memories → ℕ → Span → List ℕ
-piece_bytes memory t p = map (λ k. memory t (p.at + k)) (upto p.len)
+piece_bytes memory t p = map (λ k. memory t (p.at + k)) (numbers_below p.len)
 
 pub gathered-cons : (memory : Memories) (t : ℕ) (p : Span) (ps : List Span) → gathered memory t (p ∷ ps) ≡ piece_bytes memory t p ++ gathered memory t ps
 unfolding gathered

@@ -4,8 +4,8 @@ use Rattle.lapi_base.specs.declared.address.Addr.TheVariants.{Plain}
 use Rattle.lapi_base.specs.declared.script.Script.{Script}
 use Rattle.lapi_base.specs.declared.statement.Statement.TheVariants.{Store, Put, Get, Gfence}
 use Rattle.lapi_base.specs.declared.message.Leg.TheVariants.{Go, Back}
-use Rattle.lapi_base.specs.Names.{message, Issued, Landed}
-use Rattle.lapi_laws.proofs.Rows.{run, two_tasks}
+use Rattle.lapi_base.specs.Record.Names.{message, Issued, Landed}
+use Rattle.lapi_laws.proofs.WorkedRuns.{run, two_tasks}
 use Rattle.lapi_epochs.specs.Epochs.{epoch}
 use Rattle.lapi_epochs.specs.Stages.{covers, reads_from, writes_to, reads_at, is_written, write_deed}
 

@@ -12,18 +12,18 @@ use Rattle.lapi_base.specs.declared.message.Leg.TheVariants.{Go, Back, Note, Ech
 use Rattle.lapi_base.specs.declared.message.MsgName.{MsgName}
 use Rattle.lapi_base.specs.declared.event.Event.{Event}
 use Rattle.lapi_base.specs.declared.event.Event.TheVariants.{Issue, Refuse, Enter, Pass, Copy, Head, Land, Begin, End}
-use Rattle.lapi_base.specs.Names.{message, name_eq, leg_eq, Deed, Issued, Refused, Entered, Passed, Copied, Headed, Landed, Begun, Ended, deed, done}
-use Rattle.lapi_base.specs.Operations.{statements, statement, address, spans, target_pieces, origin_pieces, target, is_data, is_am, is_rmw, has_back, is_gfence}
-use Rattle.lapi_base.specs.Handlers.{has_completion, answers, number_of}
-use Rattle.lapi_base.specs.Values.{Memories, values, gathered, scattered, byte_after, at_target, at_origin, store_writes, writes, writer, source_by}
-use Rattle.lapi_base.specs.Refusals.{next, why}
-use Rattle.lapi_base.specs.Atomic.{Atomic, Keeps, needs, to_land, only_if, has_statement, has_message, is_passed, data_landed}
-use Rattle.lapi_base.specs.Landing.{one_span}
-use Rattle.lapi_base.specs.Entries.{carried}
-use Rattle.lapi_base.specs.Headline.{HoldsOfAtomic}
+use Rattle.lapi_base.specs.Record.Names.{message, name_eq, leg_eq, EventKey, Issued, Refused, Entered, Passed, Copied, Headed, Landed, Begun, Ended, key_of, happened}
+use Rattle.lapi_base.specs.Record.Operations.{statements, statement, address, spans, target_pieces, origin_pieces, target, is_data, is_am, is_rmw, has_back, is_gfence}
+use Rattle.lapi_base.specs.Record.Handlers.{has_completion, answers, number_of}
+use Rattle.lapi_base.specs.Record.Values.{Memories, values, gathered, scattered, byte_after, at_target, at_origin, store_writes, writes, writer, source_by}
+use Rattle.lapi_base.specs.Record.Refusals.{next, refusal_of}
+use Rattle.lapi_base.specs.Record.Atomic.{Atomic, Keeps, needs, to_land, only_if, has_statement, has_message, is_passed, data_landed}
+use Rattle.lapi_base.specs.Laws.Landing.{one_span}
+use Rattle.lapi_base.specs.Laws.Entries.{carried}
+use Rattle.lapi_base.specs.Laws.Headline.{HoldsOfAtomic}
 use Rattle.lapi_laws.proofs.Lines.{answer-completion}
 use Rattle.lapi_base.proofs.ListLaws.{list_all-each}
-use Rattle.lapi_base.proofs.NameLaws.{name_eq-refl, done-nil, done-cases, done-later, done-head}
+use Rattle.lapi_base.proofs.NameLaws.{name_eq-refl, happened-nil, happened-cases, happened-later, happened-head}
 use Rattle.lapi_laws.proofs.Backward.{Atomic-head, Atomic-tail, closed, behind}
 use Rattle.lapi_laws.proofs.Shorts.{last-of}
 use Rattle.lapi_laws.proofs.Sound.{landed-copied}
@@ -84,8 +84,8 @@ not-store script rules _ h = refl
 silent-pieces : (s : Statement) → goes s ≡ false → comes s ≡ false → is_store s ≡ false → written_pieces s ≡ []
 silent-pieces s g c k = cond-false (goes s) (target_pieces s) _ g ∙ cond-false (comes s || is_store s) (origin_pieces s) [] (or_from (comes s) (is_store s) c k)
 
--- the statement that a deed is of
-deed_place : Deed → ℕ × ℕ
+-- the statement that a key_of is of
+deed_place : EventKey → ℕ × ℕ
 deed_place (Issued a i) = (a, i)
 deed_place (Refused a i) = (a, i)
 deed_place (Entered a i) = (a, i)
@@ -134,7 +134,7 @@ module _ (script : Script) (rules : Rules) where
       (cases_Bool (comes s)))
       (cases_Bool (goes s))
 
-  -- the deed tells the statement
+  -- the key_of tells the statement
   written-place : (a i : ℕ) → deed_place (write_deed script a i) ≡ (a, i)
   unfolding deed_place
   written-place a i =
@@ -147,17 +147,17 @@ module _ (script : Script) (rules : Rules) where
       (ap (λ (q : ℕ × ℕ). q.0) p, ap (λ (q : ℕ × ℕ). q.1) p)
 
   -- what was written was issued
-  written-issued : (J : List Event) (a i t x : ℕ) → Atomic script rules J → is_written script a i t x ≡ true → done (write_deed script a i) J ≡ true → done (Issued a i) J ≡ true
+  written-issued : (J : List Event) (a i t x : ℕ) → Atomic script rules J → is_written script a i t x ≡ true → happened (write_deed script a i) J ≡ true → happened (Issued a i) J ≡ true
   unfolding needs
   written-issued J a i t x h w d =
       ⊎_elim
-      (λ (g : (goes (statement script a i) ≡ true) × (write_deed script a i ≡ Landed (message a i Go))). (closed script rules (Landed (message a i Go)) J h (subst (λ y. done y J ≡ true) g.1 d)).0)
+      (λ (g : (goes (statement script a i) ≡ true) × (write_deed script a i ≡ Landed (message a i Go))). (closed script rules (Landed (message a i Go)) J h (subst (λ y. happened y J ≡ true) g.1 d)).0)
       (λ (r : ((comes (statement script a i) ≡ true) × (write_deed script a i ≡ Landed (message a i Back))) ⊎ ((is_store (statement script a i) ≡ true) × (write_deed script a i ≡ Issued a i))).
       ⊎_elim
       (λ (c : (comes (statement script a i) ≡ true) × (write_deed script a i ≡ Landed (message a i Back))).
-      let all = closed script rules (Landed (message a i Back)) J h (subst (λ y. done y J ≡ true) c.1 d) in
-      (last-of script rules (λ y. done y J ≡ true) (only_if (has_completion script rules a i) (Begun (message a i Go) ∷ Ended (message a i Go) ∷ [])) (Landed (message a i Go) ∷ to_land script rules a i) all.1).1.0)
-      (λ (k : (is_store (statement script a i) ≡ true) × (write_deed script a i ≡ Issued a i)). subst (λ y. done y J ≡ true) k.1 d)
+      let all = closed script rules (Landed (message a i Back)) J h (subst (λ y. happened y J ≡ true) c.1 d) in
+      (last-of script rules (λ y. happened y J ≡ true) (only_if (has_completion script rules a i) (Begun (message a i Go) ∷ Ended (message a i Go) ∷ [])) (Landed (message a i Go) ∷ to_land script rules a i) all.1).1.0)
+      (λ (k : (is_store (statement script a i) ≡ true) × (write_deed script a i ≡ Issued a i)). subst (λ y. happened y J ≡ true) k.1 d)
       r)
       (written-by a i t x w)
 
@@ -174,29 +174,29 @@ module _ (script : Script) (rules : Rules) where
       r)
       (written-by a i t x w)
 
-  -- the data of an operation land by its deed
-  landed-go : (J : List Event) (a i : ℕ) → goes (statement script a i) ≡ true → data_landed script rules J a i ≡ true → done (Landed (message a i Go)) J ≡ true
-  landed-go J a i g d = subst (λ b. done (Landed (message a i (cond b Back Go))) J ≡ true) (goes-facts (statement script a i) g).2 d
+  -- the data of an operation land by its key_of
+  landed-go : (J : List Event) (a i : ℕ) → goes (statement script a i) ≡ true → data_landed script rules J a i ≡ true → happened (Landed (message a i Go)) J ≡ true
+  landed-go J a i g d = subst (λ b. happened (Landed (message a i (cond b Back Go))) J ≡ true) (goes-facts (statement script a i) g).2 d
 
-  landed-back : (J : List Event) (a i : ℕ) → comes (statement script a i) ≡ true → data_landed script rules J a i ≡ true → done (Landed (message a i Back)) J ≡ true
-  landed-back J a i c d = subst (λ b. done (Landed (message a i (cond b Back Go))) J ≡ true) (comes-facts (statement script a i) c).2 d
+  landed-back : (J : List Event) (a i : ℕ) → comes (statement script a i) ≡ true → data_landed script rules J a i ≡ true → happened (Landed (message a i Back)) J ≡ true
+  landed-back J a i c d = subst (λ b. happened (Landed (message a i (cond b Back Go))) J ≡ true) (comes-facts (statement script a i) c).2 d
 
   -- what is over isn't written now
-  over-new : (J : List Event) (e : Event) (a i t x : ℕ) → Keeps script rules J e → is_written script a i t x ≡ true → write_deed script a i ≡ deed e → IsOver script rules J a i → ⊥
+  over-new : (J : List Event) (e : Event) (a i t x : ℕ) → Keeps script rules J e → is_written script a i t x ≡ true → write_deed script a i ≡ key_of e → IsOver script rules J a i → ⊥
   unfolding needs
   over-new J e a i t x k w is over =
       let s = statement script a i in
-      let once : done (write_deed script a i) J ≡ false = subst (λ d. done d J ≡ false) (sym is) k.once in
-      let after = λ (d : Deed) (at : write_deed script a i ≡ d). subst (λ d. AllByRecursion (λ y. done y J ≡ true) (needs script rules d)) (sym is ∙ at) (list_all-each (λ y. done y J) (needs script rules (deed e)) k.after) in
+      let once : happened (write_deed script a i) J ≡ false = subst (λ d. happened d J ≡ false) (sym is) k.once in
+      let after = λ (d : EventKey) (at : write_deed script a i ≡ d). subst (λ d. AllByRecursion (λ y. happened y J ≡ true) (needs script rules d)) (sym is ∙ at) (list_all-each (λ y. happened y J) (needs script rules (key_of e)) k.after) in
       ⊎_elim
       (λ (g : (goes s ≡ true) × (write_deed script a i ≡ Landed (message a i Go))).
-      both_ways _ (subst (λ d. done d J ≡ false) g.1 once) (landed-go J a i g.0 (over.1 (goes-facts s g.0).3 (after (Landed (message a i Go)) g.1).0)))
+      both_ways _ (subst (λ d. happened d J ≡ false) g.1 once) (landed-go J a i g.0 (over.1 (goes-facts s g.0).3 (after (Landed (message a i Go)) g.1).0)))
       (λ (r : ((comes s ≡ true) × (write_deed script a i ≡ Landed (message a i Back))) ⊎ ((is_store s ≡ true) × (write_deed script a i ≡ Issued a i))).
       ⊎_elim
       (λ (c : (comes s ≡ true) × (write_deed script a i ≡ Landed (message a i Back))).
       let all = after (Landed (message a i Back)) c.1 in
-      let issued = (last-of script rules (λ y. done y J ≡ true) (only_if (has_completion script rules a i) (Begun (message a i Go) ∷ Ended (message a i Go) ∷ [])) (Landed (message a i Go) ∷ to_land script rules a i) all.1).1.0 in
-      both_ways _ (subst (λ d. done d J ≡ false) c.1 once) (landed-back J a i c.0 (over.1 (comes-facts s c.0).3 issued)))
+      let issued = (last-of script rules (λ y. happened y J ≡ true) (only_if (has_completion script rules a i) (Begun (message a i Go) ∷ Ended (message a i Go) ∷ [])) (Landed (message a i Go) ∷ to_land script rules a i) all.1).1.0 in
+      both_ways _ (subst (λ d. happened d J ≡ false) c.1 once) (landed-back J a i c.0 (over.1 (comes-facts s c.0).3 issued)))
       (λ (q : (is_store s ≡ true) × (write_deed script a i ≡ Issued a i)).
       let turn = issue-turn script rules e J a i k (sym q.1 ∙ is) in
       let l = over.0 in
@@ -206,23 +206,23 @@ module _ (script : Script) (rules : Rules) where
 
   module _ (M : ℕ → Memories) (st : AreStages script rules M) where
     -- what is over was written
-    pub over-written : (J : List Event) (b j t x : ℕ) → Atomic script rules J → Has script b j → is_written script b j t x ≡ true → IsOver script rules J b j → done (write_deed script b j) J ≡ true
+    pub over-written : (J : List Event) (b j t x : ℕ) → Atomic script rules J → Has script b j → is_written script b j t x ≡ true → IsOver script rules J b j → happened (write_deed script b j) J ≡ true
     over-written J b j t x h has w over =
         let s = statement script b j in
         ⊎_elim
-        (λ (issued : done (Issued b j) J ≡ true).
+        (λ (issued : happened (Issued b j) J ≡ true).
         ⊎_elim
-        (λ (g : (goes s ≡ true) × (write_deed script b j ≡ Landed (message b j Go))). subst (λ d. done d J ≡ true) (sym g.1) (landed-go J b j g.0 (over.1 (goes-facts s g.0).3 issued)))
+        (λ (g : (goes s ≡ true) × (write_deed script b j ≡ Landed (message b j Go))). subst (λ d. happened d J ≡ true) (sym g.1) (landed-go J b j g.0 (over.1 (goes-facts s g.0).3 issued)))
         (λ (r : ((comes s ≡ true) × (write_deed script b j ≡ Landed (message b j Back))) ⊎ ((is_store s ≡ true) × (write_deed script b j ≡ Issued b j))).
         ⊎_elim
-        (λ (c : (comes s ≡ true) × (write_deed script b j ≡ Landed (message b j Back))). subst (λ d. done d J ≡ true) (sym c.1) (landed-back J b j c.0 (over.1 (comes-facts s c.0).3 issued)))
-        (λ (q : (is_store s ≡ true) × (write_deed script b j ≡ Issued b j)). subst (λ d. done d J ≡ true) (sym q.1) issued)
+        (λ (c : (comes s ≡ true) × (write_deed script b j ≡ Landed (message b j Back))). subst (λ d. happened d J ≡ true) (sym c.1) (landed-back J b j c.0 (over.1 (comes-facts s c.0).3 issued)))
+        (λ (q : (is_store s ≡ true) × (write_deed script b j ≡ Issued b j)). subst (λ d. happened d J ≡ true) (sym q.1) issued)
         r)
         (written-by b j t x w))
-        (λ (y : (done (Refused b j) J ≡ true) ⊎ (done (Passed b j) J ≡ true)).
+        (λ (y : (happened (Refused b j) J ≡ true) ⊎ (happened (Passed b j) J ≡ true)).
         ⊎_elim
-        (λ (refused : done (Refused b j) J ≡ true). let k = kind script rules (Refused b j) J h refused in absurd (let e : None ≡ Some k.1 = sym (st.none_refused k.0 b j has) ∙ k.2 in cc))
-        (λ (passed : done (Passed b j) J ≡ true). absurd (both_ways _ (writes-no_pass b j t x w).0 (kind script rules (Passed b j) J h passed)))
+        (λ (refused : happened (Refused b j) J ≡ true). let k = kind script rules (Refused b j) J h refused in absurd (let e : None ≡ Some k.1 = sym (st.none_refused k.0 b j has) ∙ k.2 in cc))
+        (λ (passed : happened (Passed b j) J ≡ true). absurd (both_ways _ (writes-no_pass b j t x w).0 (kind script rules (Passed b j) J h passed)))
         y)
         (taken script rules J h b j over.0)
 
@@ -245,7 +245,7 @@ module _ (script : Script) (rules : Rules) where
     -- a byte that no statement has written
     record Untouched (J : List Event) (t x : ℕ) : Type 0 where
       is_zero : memory_of J t x ≡ 0
-      none : (b j : ℕ) → Has script b j → is_written script b j t x ≡ true → done (write_deed script b j) J ≡ false
+      none : (b j : ℕ) → Has script b j → is_written script b j t x ≡ true → happened (write_deed script b j) J ≡ false
 
     -- and one that some have, of which a.i is of the last epoch
     record Touched (J : List Event) (t x : ℕ) : Type 0 where
@@ -253,8 +253,8 @@ module _ (script : Script) (rules : Rules) where
       i : ℕ
       has : Has script a i
       writes : is_written script a i t x ≡ true
-      was : done (write_deed script a i) J ≡ true
-      last : (b j : ℕ) → Has script b j → is_written script b j t x ≡ true → done (write_deed script b j) J ≡ true → epoch script b j ≤ epoch script a i
+      was : happened (write_deed script a i) J ≡ true
+      last : (b j : ℕ) → Has script b j → is_written script b j t x ≡ true → happened (write_deed script b j) J ≡ true → epoch script b j ≤ epoch script a i
       byte : memory_of J t x ≡ M (suc (epoch script a i)) t x
 
     Known : List Event → ℕ → ℕ → Type 0
@@ -278,7 +278,7 @@ module _ (script : Script) (rules : Rules) where
     -- it leaves a byte, and no statement that writes the byte is written by it
     record Same (e : Event) (J : List Event) (t x : ℕ) : Type 0 where
       same : memory_of (e ∷ J) t x ≡ memory_of J t x
-      other : (b j : ℕ) → Has script b j → is_written script b j t x ≡ true → write_deed script b j ≡ deed e → ⊥
+      other : (b j : ℕ) → Has script b j → is_written script b j t x ≡ true → write_deed script b j ≡ key_of e → ⊥
 
     -- or it writes the byte as a statement's epoch leaves it
     record New (e : Event) (J : List Event) (t x : ℕ) : Type 0 where
@@ -286,11 +286,11 @@ module _ (script : Script) (rules : Rules) where
       i : ℕ
       has : Has script a i
       writes : is_written script a i t x ≡ true
-      is : write_deed script a i ≡ deed e
+      is : write_deed script a i ≡ key_of e
       byte : memory_of (e ∷ J) t x ≡ M (suc (epoch script a i)) t x
 
     -- what is written now is of no earlier epoch than what was written
-    in-order : (J : List Event) (e : Event) (a i b j t x : ℕ) → Atomic script rules (e ∷ J) → Has script a i → is_written script a i t x ≡ true → write_deed script a i ≡ deed e → is_written script b j t x ≡ true → done (write_deed script b j) J ≡ true → epoch script b j ≤ epoch script a i
+    in-order : (J : List Event) (e : Event) (a i b j t x : ℕ) → Atomic script rules (e ∷ J) → Has script a i → is_written script a i t x ≡ true → write_deed script a i ≡ key_of e → is_written script b j t x ≡ true → happened (write_deed script b j) J ≡ true → epoch script b j ≤ epoch script a i
     in-order J e a i b j t x h has w is w' d =
         ⊎_elim
         (λ (lt : epoch script a i < epoch script b j).
@@ -309,7 +309,7 @@ module _ (script : Script) (rules : Rules) where
         (λ (u : Untouched J t x).
         inl (record {
           is_zero = s.same ∙ u.is_zero;
-          none = λ b j has w. false_from_ne_true _ (λ d. ⊎_elim (λ (x : write_deed script b j ≡ deed e). s.other b j has w x) (λ (x : done (write_deed script b j) J ≡ true). both_ways _ (u.none b j has w) x) (done-cases (write_deed script b j) e J d));
+          none = λ b j has w. false_from_ne_true _ (λ d. ⊎_elim (λ (x : write_deed script b j ≡ key_of e). s.other b j has w x) (λ (x : happened (write_deed script b j) J ≡ true). both_ways _ (u.none b j has w) x) (happened-cases (write_deed script b j) e J d));
         }))
         (λ (q : Touched J t x).
         inr (record {
@@ -317,8 +317,8 @@ module _ (script : Script) (rules : Rules) where
           i = q.i;
           has = q.has;
           writes = q.writes;
-          was = done-later (write_deed script q.a q.i) e J q.was;
-          last = λ b j has w d. ⊎_elim (λ (x : write_deed script b j ≡ deed e). absurd (s.other b j has w x)) (λ (x : done (write_deed script b j) J ≡ true). q.last b j has w x) (done-cases (write_deed script b j) e J d);
+          was = happened-later (write_deed script q.a q.i) e J q.was;
+          last = λ b j has w d. ⊎_elim (λ (x : write_deed script b j ≡ key_of e). absurd (s.other b j has w x)) (λ (x : happened (write_deed script b j) J ≡ true). q.last b j has w x) (happened-cases (write_deed script b j) e J d);
           byte = s.same ∙ q.byte;
         }))
         known)
@@ -328,12 +328,12 @@ module _ (script : Script) (rules : Rules) where
           i = n.i;
           has = n.has;
           writes = n.writes;
-          was = subst (λ d. done d (e ∷ J) ≡ true) (sym n.is) (done-head e J);
+          was = subst (λ d. happened d (e ∷ J) ≡ true) (sym n.is) (happened-head e J);
           last = λ b j has w d.
               ⊎_elim
-              (λ (x : write_deed script b j ≡ deed e). let p = same-statement n.a n.i b j (x ∙ sym n.is) in let q : epoch script b j ≡ epoch script n.a n.i = λ k. epoch script (p.0 k) (p.1 k) in let r : epoch script b j ≤ epoch script n.a n.i = omega arith in r)
-              (λ (y : done (write_deed script b j) J ≡ true). in-order J e n.a n.i b j t x h n.has n.writes n.is w y)
-              (done-cases (write_deed script b j) e J d);
+              (λ (x : write_deed script b j ≡ key_of e). let p = same-statement n.a n.i b j (x ∙ sym n.is) in let q : epoch script b j ≡ epoch script n.a n.i = λ k. epoch script (p.0 k) (p.1 k) in let r : epoch script b j ≤ epoch script n.a n.i = omega arith in r)
+              (λ (y : happened (write_deed script b j) J ≡ true). in-order J e n.a n.i b j t x h n.has n.writes n.is w y)
+              (happened-cases (write_deed script b j) e J d);
           byte = n.byte;
         }))
         out
@@ -356,7 +356,7 @@ module _ (script : Script) (rules : Rules) where
     leg-data s Echo h = absurd h
     leg-data s (Join d) h = absurd h
 
-    leg-landed : (J : List Event) (a i : ℕ) (leg : Leg) → IsDataLeg (statement script a i) leg → data_landed script rules J a i ≡ true → done (Landed (message a i leg)) J ≡ true
+    leg-landed : (J : List Event) (a i : ℕ) (leg : Leg) → IsDataLeg (statement script a i) leg → data_landed script rules J a i ≡ true → happened (Landed (message a i leg)) J ≡ true
     unfolding IsDataLeg
     leg-landed J a i Go h d = landed-go J a i h d
     leg-landed J a i Back h d = landed-back J a i h d
@@ -366,10 +366,10 @@ module _ (script : Script) (rules : Rules) where
 
     -- a message that was copied carries what its statement's epoch leaves at both of its sides
     Carries : List Event → Type 0
-    Carries J = (a i : ℕ) (leg : Leg) → IsDataLeg (statement script a i) leg → done (Copied (message a i leg)) J ≡ true → carried script rules J (message a i leg) ≡ gathered (M (suc (epoch script a i))) (writes_to script a i) (writes_at script a i)
+    Carries J = (a i : ℕ) (leg : Leg) → IsDataLeg (statement script a i) leg → happened (Copied (message a i leg)) J ≡ true → carried script rules J (message a i leg) ≡ gathered (M (suc (epoch script a i))) (writes_to script a i) (writes_at script a i)
 
     -- where a message is copied, the bytes that it reads are at the stage after its epoch
-    copy-staged : (J : List Event) (a i : ℕ) (leg : Leg) (y : ℕ) → Atomic script rules J → Has script a i → IsDataLeg (statement script a i) leg → covers (reads_at script a i) y ≡ true → done (Issued a i) J ≡ true → done (Copied (message a i leg)) J ≡ false → IsAtStage script rules J (suc (epoch script a i)) (reads_from script a i) y
+    copy-staged : (J : List Event) (a i : ℕ) (leg : Leg) (y : ℕ) → Atomic script rules J → Has script a i → IsDataLeg (statement script a i) leg → covers (reads_at script a i) y ≡ true → happened (Issued a i) J ≡ true → happened (Copied (message a i leg)) J ≡ false → IsAtStage script rules J (suc (epoch script a i)) (reads_from script a i) y
     copy-staged J a i leg y h has data_leg covered issued new = λ b j hasb w.
         let t = reads_from script a i in
         let come : i < next J a = behind script rules (Issued a i) J h issued in
@@ -398,7 +398,7 @@ module _ (script : Script) (rules : Rules) where
         (cases_order (epoch script b j) (epoch script a i))
 
     -- so what it reads is as its epoch leaves it
-    read-now : (J : List Event) (a i : ℕ) (leg : Leg) → Atomic script rules J → ((t x : ℕ) → Known J t x) → Has script a i → IsDataLeg (statement script a i) leg → done (Issued a i) J ≡ true → done (Copied (message a i leg)) J ≡ false →
+    read-now : (J : List Event) (a i : ℕ) (leg : Leg) → Atomic script rules J → ((t x : ℕ) → Known J t x) → Has script a i → IsDataLeg (statement script a i) leg → happened (Issued a i) J ≡ true → happened (Copied (message a i leg)) J ≡ false →
         gathered (memory_of J) (reads_from script a i) (reads_at script a i) ≡ gathered (M (suc (epoch script a i))) (writes_to script a i) (writes_at script a i)
     read-now J a i leg h known has data_leg issued new =
         gathered-agree (memory_of J) (M (suc (epoch script a i))) (reads_from script a i) (reads_from script a i) (reads_at script a i)
@@ -424,10 +424,10 @@ module _ (script : Script) (rules : Rules) where
     source-is J a i Echo h = absurd h
     source-is J a i (Join d) h = absurd h
 
-    copy-is : (e : Event) (m : MsgName) → Copied m ≡ deed e → e ≡ Copy m
+    copy-is : (e : Event) (m : MsgName) → Copied m ≡ key_of e → e ≡ Copy m
     copy-is (Copy n) m h = let x : n ≡ m = cc in ap Copy x
     copy-is (Issue b k) m h = absurd (cc)
-    copy-is (Refuse b k why) m h = absurd (cc)
+    copy-is (Refuse b k refusal_of) m h = absurd (cc)
     copy-is (Enter b k) m h = absurd (cc)
     copy-is (Pass b k) m h = absurd (cc)
     copy-is (Head n) m h = absurd (cc)
@@ -440,12 +440,12 @@ module _ (script : Script) (rules : Rules) where
     copied-now J m = cond-true (name_eq m m) _ ((values script rules J).bytes m) (name_eq-refl m)
 
     -- a Copy comes after the Issue
-    copy-issued : (J : List Event) (a i : ℕ) (leg : Leg) → IsDataLeg (statement script a i) leg → Keeps script rules J (Copy (message a i leg)) → done (Issued a i) J ≡ true
+    copy-issued : (J : List Event) (a i : ℕ) (leg : Leg) → IsDataLeg (statement script a i) leg → Keeps script rules J (Copy (message a i leg)) → happened (Issued a i) J ≡ true
     unfolding IsDataLeg needs
-    copy-issued J a i Go g k = (list_all-each (λ y. done y J) (needs script rules (Copied (message a i Go))) k.after).0
+    copy-issued J a i Go g k = (list_all-each (λ y. happened y J) (needs script rules (Copied (message a i Go))) k.after).0
     copy-issued J a i Back c k =
-        let all = list_all-each (λ y. done y J) (needs script rules (Copied (message a i Back))) k.after in
-        (last-of script rules (λ y. done y J ≡ true) (only_if (has_completion script rules a i) (Begun (message a i Go) ∷ Ended (message a i Go) ∷ [])) (Landed (message a i Go) ∷ to_land script rules a i) all).1.0
+        let all = list_all-each (λ y. happened y J) (needs script rules (Copied (message a i Back))) k.after in
+        (last-of script rules (λ y. happened y J ≡ true) (only_if (has_completion script rules a i) (Begun (message a i Go) ∷ Ended (message a i Go) ∷ [])) (Landed (message a i Go) ∷ to_land script rules a i) all).1.0
     copy-issued J a i Note h k = absurd h
     copy-issued J a i Echo h k = absurd h
     copy-issued J a i (Join d) h k = absurd h
@@ -455,7 +455,7 @@ module _ (script : Script) (rules : Rules) where
     carries-step e J h known old = λ a i leg data_leg d.
         let m = message a i leg in
         ⊎_elim
-        (λ (now : Copied m ≡ deed e).
+        (λ (now : Copied m ≡ key_of e).
         let same = copy-is e m now in
         let h' = subst (λ f. Atomic script rules (f ∷ J)) same h in
         let k = Atomic-head script rules (Copy m) J h' in
@@ -464,8 +464,8 @@ module _ (script : Script) (rules : Rules) where
         ∙ copied-now J m
         ∙ source-is J a i leg data_leg
         ∙ read-now J a i leg (Atomic-tail script rules (Copy m) J h') known has data_leg (copy-issued J a i leg data_leg k) k.once)
-        (λ (before : done (Copied m) J ≡ true). stays script rules e J m h before ∙ old a i leg data_leg before)
-        (done-cases (Copied m) e J d)
+        (λ (before : happened (Copied m) J ≡ true). stays script rules e J m h before ∙ old a i leg data_leg before)
+        (happened-cases (Copied m) e J d)
 
     -- ---- what each event writes
 
@@ -473,7 +473,7 @@ module _ (script : Script) (rules : Rules) where
     unfolding values memory_of
     memory-step e J t x = refl
 
-    silent : (e : Event) (J : List Event) (t x : ℕ) → writes script rules (values script rules J) e ≡ [] → ((b j : ℕ) → Has script b j → is_written script b j t x ≡ true → write_deed script b j ≡ deed e → ⊥) → Same e J t x ⊎ New e J t x
+    silent : (e : Event) (J : List Event) (t x : ℕ) → writes script rules (values script rules J) e ≡ [] → ((b j : ℕ) → Has script b j → is_written script b j t x ≡ true → write_deed script b j ≡ key_of e → ⊥) → Same e J t x ⊎ New e J t x
     unfolding byte_after
     silent e J t x none other =
         inl (record {
@@ -481,7 +481,7 @@ module _ (script : Script) (rules : Rules) where
           other = other;
         })
 
-    loud : (e : Event) (J : List Event) (t x a i : ℕ) → Has script a i → write_deed script a i ≡ deed e → writer script rules e ≡ writes_to script a i → writes script rules (values script rules J) e ≡ scattered (writes_at script a i) (gathered (M (suc (epoch script a i))) (writes_to script a i) (writes_at script a i)) → Same e J t x ⊎ New e J t x
+    loud : (e : Event) (J : List Event) (t x a i : ℕ) → Has script a i → write_deed script a i ≡ key_of e → writer script rules e ≡ writes_to script a i → writes script rules (values script rules J) e ≡ scattered (writes_at script a i) (gathered (M (suc (epoch script a i))) (writes_to script a i) (writes_at script a i)) → Same e J t x ⊎ New e J t x
     loud e J t x a i has is at what =
         let u = writes_to script a i in
         let new = M (suc (epoch script a i)) in
@@ -515,7 +515,7 @@ module _ (script : Script) (rules : Rules) where
         not-both false q y old f = refl
 
     -- only a Land or an Issue can be what a statement writes by
-    no-deed : (d : Deed) → ((m : MsgName) → Landed m ≡ d → ⊥) → ((a i : ℕ) → Issued a i ≡ d → ⊥) → (t x b j : ℕ) → Has script b j → is_written script b j t x ≡ true → write_deed script b j ≡ d → ⊥
+    no-deed : (d : EventKey) → ((m : MsgName) → Landed m ≡ d → ⊥) → ((a i : ℕ) → Issued a i ≡ d → ⊥) → (t x b j : ℕ) → Has script b j → is_written script b j t x ≡ true → write_deed script b j ≡ d → ⊥
     no-deed d land issue t x b j has w is =
         ⊎_elim
         (λ (g : (goes (statement script b j) ≡ true) × (write_deed script b j ≡ Landed (message b j Go))). land (message b j Go) (sym g.1 ∙ is))
@@ -610,7 +610,7 @@ module _ (script : Script) (rules : Rules) where
         let m = message a i Go in
         let both = and_parts _ _ k.there in
         let has = has-of script rules a i both.0 in
-        let copied = (list_all-each (λ y. done y J) (needs script rules (Landed m)) k.after).1.0 in
+        let copied = (list_all-each (λ y. happened y J) (needs script rules (Landed m)) k.after).1.0 in
         let word = number_of (gathered v.memory (target script a i) (at_target script rules a i)) in
         let at = at_target script rules a i in
         ⊎_elim
@@ -633,7 +633,7 @@ module _ (script : Script) (rules : Rules) where
         let m = message a i Back in
         let both = and_parts _ _ k.there in
         let has = has-of script rules a i both.0 in
-        let copied = (list_all-each (λ y. done y J) (needs script rules (Landed m)) k.after).0 in
+        let copied = (list_all-each (λ y. happened y J) (needs script rules (Landed m)) k.after).0 in
         let c = back-comes s both.1 (st.only_moves a i has) in
         let f = comes-facts s c in
         let to : a ≡ writes_to script a i = sym (cond-false (goes s) (target script a i) a f.0) in
@@ -653,7 +653,7 @@ module _ (script : Script) (rules : Rules) where
     outcome : (e : Event) (J : List Event) (t x : ℕ) → Atomic script rules (e ∷ J) → Carries J → Same e J t x ⊎ New e J t x
     outcome (Issue a i) J t x h carries = issued J t x a i (has-of script rules a i (and_parts _ _ (Atomic-head script rules (Issue a i) J h).there).0)
     outcome (Land m) J t x h carries = landed J t x m.origin m.statement m.leg (Atomic-head script rules (Land m) J h) (Atomic-tail script rules (Land m) J h) carries
-    outcome (Refuse a i why) J t x h carries = silent (Refuse a i why) J t x refl (no-deed (Refused a i) (λ m q. absurd (cc)) (λ b j q. absurd (cc)) t x)
+    outcome (Refuse a i refusal_of) J t x h carries = silent (Refuse a i refusal_of) J t x refl (no-deed (Refused a i) (λ m q. absurd (cc)) (λ b j q. absurd (cc)) t x)
     outcome (Enter a i) J t x h carries = silent (Enter a i) J t x refl (no-deed (Entered a i) (λ m q. absurd (cc)) (λ b j q. absurd (cc)) t x)
     outcome (Pass a i) J t x h carries = silent (Pass a i) J t x refl (no-deed (Passed a i) (λ m q. absurd (cc)) (λ b j q. absurd (cc)) t x)
     outcome (Copy n) J t x h carries = silent (Copy n) J t x refl (no-deed (Copied n) (λ m q. absurd (cc)) (λ b j q. absurd (cc)) t x)
@@ -669,7 +669,7 @@ module _ (script : Script) (rules : Rules) where
 
     all-known : (J : List Event) → Atomic script rules J → ((t x : ℕ) → Known J t x) × Carries J
     unfolding Known Carries values memory_of
-    all-known [] h = (λ t x. inl (record { is_zero = refl; none = λ b j has w. done-nil (write_deed script b j) }), λ a i leg data_leg d. absurd (both_ways _ (done-nil (Copied (message a i leg))) d))
+    all-known [] h = (λ t x. inl (record { is_zero = refl; none = λ b j has w. happened-nil (write_deed script b j) }), λ a i leg data_leg d. absurd (both_ways _ (happened-nil (Copied (message a i leg))) d))
     all-known (e ∷ J) h =
         let old = all-known J (Atomic-tail script rules e J h) in
         (λ t x. known-step e J t x h (old.0 t x) (outcome e J t x h old.1), carries-step e J h old.0 old.1)

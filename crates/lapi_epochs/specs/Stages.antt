@@ -12,11 +12,11 @@ use Rattle.lapi_base.specs.declared.script.Script.{Script}
 use Rattle.lapi_base.specs.declared.rule.Rules.{Rules}
 use Rattle.lapi_base.specs.declared.message.Leg.TheVariants.{Go, Back}
 use Rattle.lapi_base.specs.declared.event.Event.{Event}
-use Rattle.lapi_base.specs.Names.{message, Deed, Issued, Landed, done}
-use Rattle.lapi_base.specs.Operations.{statements, statement, spans, target_pieces, origin_pieces, target, is_data, is_am, is_rmw}
-use Rattle.lapi_base.specs.Values.{Memories, gathered, values}
-use Rattle.lapi_base.specs.Refusals.{next, why}
-use Rattle.lapi_base.specs.Landing.{one_span}
+use Rattle.lapi_base.specs.Record.Names.{message, EventKey, Issued, Landed, happened}
+use Rattle.lapi_base.specs.Record.Operations.{statements, statement, spans, target_pieces, origin_pieces, target, is_data, is_am, is_rmw}
+use Rattle.lapi_base.specs.Record.Values.{Memories, gathered, values}
+use Rattle.lapi_base.specs.Record.Refusals.{next, refusal_of}
+use Rattle.lapi_base.specs.Laws.Landing.{one_span}
 use Rattle.lapi_epochs.specs.Epochs.{epoch, Has}
 
 -- it writes bytes of its own into its task's memory
@@ -70,7 +70,7 @@ module _ (script : Script) where
   is_written a i t x = (t == writes_to a i) && covers (writes_at a i) x
 
   -- the deed by which it writes: the landing of its data, or the issue of a store
-  abbrev pub write_deed : (a i : ℕ) → Deed
+  abbrev pub write_deed : (a i : ℕ) → EventKey
   write_deed a i =
       cond (goes (statement script a i)) (Landed (message a i Go))
       (cond (comes (statement script a i)) (Landed (message a i Back)) (Issued a i))
@@ -81,7 +81,7 @@ module _ (script : Script) (rules : Rules) where
     -- no statement is an active message or a read-modify-write, and none is refused
     pub only_moves : (a i : ℕ) → Has script a i
         → (is_am (statement script a i) || is_rmw (statement script a i)) ≡ false
-    pub none_refused : (J : List Event) (a i : ℕ) → Has script a i → why script rules J a i ≡ None
+    pub none_refused : (J : List Event) (a i : ℕ) → Has script a i → refusal_of script rules J a i ≡ None
     -- zeros at first; and what an epoch writes nowhere stays
     pub start : (t x : ℕ) → M 0 t x ≡ 0
     pub stays : (k t x : ℕ)
@@ -99,11 +99,11 @@ module _ (script : Script) (rules : Rules) where
         → epoch script b j ≡ epoch script a i →
         (is_store (statement script b j) ≡ true) × (b ≡ a) × (j < i)
 
-  -- byte x of task t is at stage k: of the statements that write it, exactly those of the first k epochs have done so
+  -- byte x of task t is at stage k: of the statements that write it, exactly those of the first k epochs have happened so
   abbrev pub IsAtStage : List Event → (k t x : ℕ) → Type 0
   IsAtStage J k t x =
       (a i : ℕ) → Has script a i → is_written script a i t x ≡ true
-      → done (write_deed script a i) J ≡ nat_lt (epoch script a i) k
+      → happened (write_deed script a i) J ≡ nat_lt (epoch script a i) k
 
   -- a byte that is at a stage is what its memories hold
   abbrev pub BytesAreStages : List Event → Type 0

@@ -1,5 +1,5 @@
 //! Stages: what the memories of a script hold after each epoch.
-ghost use Rattle.lapi_base.specs.Headline.{HoldsOfAtomic, HoldsOfJournals};
+ghost use Rattle.lapi_base.specs.Laws.Headline.{HoldsOfAtomic, HoldsOfJournals};
 ghost use Rattle.lapi_epochs.specs.Stages.{BytesAreStages, EndsAreStages};
 
 /// Where operations read nothing that another of their epoch writes, a byte is that of a stage once it has the writes

@@ -15,28 +15,29 @@ use Rattle.lapi_base.specs.declared.event.Event.{Event}
 use Rattle.lapi_base.specs.declared.event.Event.TheVariants.{Issue, Refuse, Enter, Pass, Copy, Head, Land, Begin, End}
 use Rattle.lapi_base.specs.declared.schedule.Act.{Act}
 use Rattle.lapi_base.specs.declared.schedule.Act.TheVariants.{Step}
-use Rattle.lapi_base.specs.Handlers.{has_completion, answers}
-use Rattle.lapi_base.specs.Atomic.{Atomic, Keeps, needs, has_statement, is_issued}
+use Rattle.lapi_base.specs.Record.Handlers.{has_completion, answers}
+use Rattle.lapi_base.specs.Record.Atomic.{Atomic, Keeps, needs, has_statement, is_issued}
 use Rattle.lapi_base.specs.declared.reply.Reply.TheVariants.{Did, Idle}
-use Rattle.lapi_base.specs.Names.{message, Deed, Issued, Refused, Entered, Passed, Copied, Landed, deed, done}
-use Rattle.lapi_base.specs.Operations.{statements, statement, receiver, is_data, is_gfence, table_rounds, has_back, has_join, has_leg, cmpl_counter}
-use Rattle.lapi_base.specs.Spelling.{refusal}
-use Rattle.lapi_base.specs.Written.{packet_size}
-use Rattle.lapi_base.specs.Refusals.{next, gfence_rounds, round_of, partner, join_landed, joined, why}
-use Rattle.lapi_base.specs.Below.{below}
-use Rattle.lapi_base.specs.Record.{Run, ready, is_acked, all_numbers, data_done, data_clear, event_if, note_of, out, has_number, has_ack, followed, proposed, unless_refused, add_event, reply_with, with_events, step, perform, after}
+use Rattle.lapi_base.specs.Record.Names.{message, EventKey, Issued, Refused, Entered, Passed, Copied, Landed, key_of, happened}
+use Rattle.lapi_base.specs.Record.Operations.{statements, statement, receiver, is_data, is_gfence, table_rounds, has_back, has_join, has_leg, cmpl_counter}
+use Rattle.lapi_base.specs.Packet.Spelling.{refusal}
+use Rattle.lapi_base.specs.Packet.PacketBytes.{packet_size}
+use Rattle.lapi_base.specs.Record.Refusals.{next, gfence_rounds, round_of, partner, join_landed, joined, refusal_of}
+use Rattle.lapi_base.specs.Record.Below.{below}
+use Rattle.lapi_base.specs.Record.Wires.{Run, is_acked, all_numbers, data_done, data_clear, numbered, has_number, has_ack}
+use Rattle.lapi_base.specs.Record.Acts.{ready, event_if, note_of, followed, proposed, unless_refused, add_event, reply_with, with_events, step, perform, after}
 use Rattle.lapi_base.proofs.ListLaws.{all-append, all-weaker, list_all-at}
 use Rattle.lapi_base.proofs.BelowLaws.{every_below-from}
 use Rattle.lapi_laws.proofs.Sound.{implied-from}
 use Rattle.lapi_laws.proofs.Arrival.{all_numbers-from}
 use Rattle.lapi_base.proofs.TestLaws.{eqb-refl}
-use Rattle.lapi_base.proofs.NameLaws.{done-nil, done-cases, done-later, done-head, done-grown}
+use Rattle.lapi_base.proofs.NameLaws.{happened-nil, happened-cases, happened-later, happened-head, happened-grown}
 use Rattle.lapi_laws.proofs.Lines.{SoundRun}
 use Rattle.lapi_laws.proofs.Still.{back-data}
 use Rattle.lapi_laws.proofs.Turns.{step-sound, below-place}
 use Rattle.lapi_laws.proofs.Follows.{Stand, Owes, perform-owes}
 use Rattle.lapi_laws.proofs.Backward.{Atomic-head, Atomic-tail, closed, there, behind}
-use Rattle.lapi_base.specs.Seen.{HoldsOfRecords}
+use Rattle.lapi_base.specs.Record.WorldView.{HoldsOfRecords}
 use Rattle.lapi_parts.proofs.Records.{record-sound}
 use Rattle.lapi_epochs.specs.Epochs.{Has}
 use Rattle.lapi_flush.specs.Flushed.{data_count, sum_to, all_data, IsCalm}
@@ -50,7 +51,7 @@ use Rattle.lapi_epochs.proofs.StagedBytes.{data-not_passed}
 use Rattle.lapi_flush.proofs.SettledRecords.{record-owes, growth, grows-on, ends-there, ready-go, ready-join, needed-go, settles}
 use Rattle.lapi_flush.proofs.NoneOwed.{IsPaid, after-paid, record-paid}
 use Rattle.lapi_flush.proofs.ServedParts.{named-append, after-more, place-below}
-use Rattle.lapi_flush.proofs.SweptTasks.{done-before, same-next, same-entered, kept-done}
+use Rattle.lapi_flush.proofs.SweptTasks.{happened-before, same-next, same-entered, kept-done}
 use Rattle.lapi_flush.proofs.FlushedTasks.{after-join}
 
 -- what two stretches of events add, one after the other
@@ -66,12 +67,12 @@ IsOfCall (Pass a i) = Unit {0}
 IsOfCall _ = ⊥
 
 -- deeds of messages
-IsOfMessages : Deed → Type 0
+IsOfMessages : EventKey → Type 0
 IsOfMessages (Copied m) = Unit {0}
 IsOfMessages (Landed m) = Unit {0}
 IsOfMessages _ = ⊥
 
-call-apart : (e : Event) (d : Deed) → IsOfCall e → IsOfMessages d → d ≡ deed e → ⊥
+call-apart : (e : Event) (d : EventKey) → IsOfCall e → IsOfMessages d → d ≡ key_of e → ⊥
 unfolding IsOfMessages
 call-apart (Issue a i) d h g q = subst IsOfMessages q g
 call-apart (Enter a i) d h g q = subst IsOfMessages q g
@@ -90,27 +91,27 @@ module _ (script : Script) (rules : Rules) where
   pub no-steps : (r : Run) → Steps r r
   no-steps r = record { wires = λ x y. refl; hands = λ x y. refl; later = []; journal = refl; calls = tt }
 
-  pub steps-done : (r s : Run) (d : Deed) → Steps r s → done d r.journal ≡ true → done d s.journal ≡ true
-  steps-done r s d k h = subst (λ L. done d L ≡ true) (sym k.journal) (done-grown k.later r.journal d h)
+  pub steps-done : (r s : Run) (d : EventKey) → Steps r s → happened d r.journal ≡ true → happened d s.journal ≡ true
+  steps-done r s d k h = subst (λ L. happened d L ≡ true) (sym k.journal) (happened-grown k.later r.journal d h)
 
-  pub steps-copied : (r s : Run) (m : MsgName) → Steps r s → done (Copied m) s.journal ≡ true → done (Copied m) r.journal ≡ true
+  pub steps-copied : (r s : Run) (m : MsgName) → Steps r s → happened (Copied m) s.journal ≡ true → happened (Copied m) r.journal ≡ true
   unfolding IsOfMessages
-  steps-copied r s m k h = done-before IsOfCall (Copied m) (λ e of. call-apart e (Copied m) of tt) k.later r.journal k.calls (subst (λ L. done (Copied m) L ≡ true) k.journal h)
+  steps-copied r s m k h = happened-before IsOfCall (Copied m) (λ e of. call-apart e (Copied m) of tt) k.later r.journal k.calls (subst (λ L. happened (Copied m) L ≡ true) k.journal h)
 
-  pub steps-landed : (r s : Run) (m : MsgName) → Steps r s → done (Landed m) s.journal ≡ true → done (Landed m) r.journal ≡ true
+  pub steps-landed : (r s : Run) (m : MsgName) → Steps r s → happened (Landed m) s.journal ≡ true → happened (Landed m) r.journal ≡ true
   unfolding IsOfMessages
-  steps-landed r s m k h = done-before IsOfCall (Landed m) (λ e of. call-apart e (Landed m) of tt) k.later r.journal k.calls (subst (λ L. done (Landed m) L ≡ true) k.journal h)
+  steps-landed r s m k h = happened-before IsOfCall (Landed m) (λ e of. call-apart e (Landed m) of tt) k.later r.journal k.calls (subst (λ L. happened (Landed m) L ≡ true) k.journal h)
 
-  out-on : (later J : List Event) (a b : ℕ) → AllByRecursion IsOfCall later → out script (later ++ J) a b ≡ out script J a b
-  unfolding out
-  out-on [] J a b h = refl
-  out-on (Issue t i ∷ later) J a b h = out-on later J a b h.1
-  out-on (Enter t i ∷ later) J a b h = out-on later J a b h.1
-  out-on (Pass t i ∷ later) J a b h = out-on later J a b h.1
-  out-on (_ ∷ later) J a b h = absurd h.0
+  numbered-on : (later J : List Event) (a b : ℕ) → AllByRecursion IsOfCall later → numbered script (later ++ J) a b ≡ numbered script J a b
+  unfolding numbered
+  numbered-on [] J a b h = refl
+  numbered-on (Issue t i ∷ later) J a b h = numbered-on later J a b h.1
+  numbered-on (Enter t i ∷ later) J a b h = numbered-on later J a b h.1
+  numbered-on (Pass t i ∷ later) J a b h = numbered-on later J a b h.1
+  numbered-on (_ ∷ later) J a b h = absurd h.0
 
-  pub steps-out : (r s : Run) (a b : ℕ) → Steps r s → out script s.journal a b ≡ out script r.journal a b
-  steps-out r s a b k = ap (λ L. out script L a b) k.journal ∙ out-on k.later r.journal a b k.calls
+  pub steps-out : (r s : Run) (a b : ℕ) → Steps r s → numbered script s.journal a b ≡ numbered script r.journal a b
+  steps-out r s a b k = ap (λ L. numbered script L a b) k.journal ∙ numbered-on k.later r.journal a b k.calls
 
   pub steps-calm : (r s : Run) (a b top : ℕ) → Steps r s → IsCalm r a b top → IsCalm s a b top
   steps-calm r s a b top k c = record {
@@ -124,14 +125,14 @@ module _ (script : Script) (rules : Rules) where
   steps-data r s k = λ j. sum_to script.tasks (λ a. sum_to script.tasks (λ b. data_count (k.wires a b j)))
 
   -- one step more
-  pub step-adds : (r : Run) (a : ℕ) (e : Event) → next r.journal a < length (statements script a) → unless_refused script rules r a (next r.journal a) (why script rules r.journal a (next r.journal a)) ≡ Some e → IsOfCall e →
+  pub step-adds : (r : Run) (a : ℕ) (e : Event) → next r.journal a < length (statements script a) → unless_refused script rules r a (next r.journal a) (refusal_of script rules r.journal a (next r.journal a)) ≡ Some e → IsOfCall e →
       let s = step script rules r a in
       Steps r s × (s.journal ≡ e ∷ r.journal)
   unfolding step followed
   step-adds r a e room what call =
       let i = next r.journal a in
       let same : step script rules r a ≡ reply_with script rules (with_events script rules r (e ∷ [])) Did =
-      cond-true (nat_lt i (length (statements script a))) (add_event script rules r (unless_refused script rules r a i (why script rules r.journal a i))) (reply_with script rules r Idle) (lt-ltb i (length (statements script a)) room)
+      cond-true (nat_lt i (length (statements script a))) (add_event script rules r (unless_refused script rules r a i (refusal_of script rules r.journal a i))) (reply_with script rules r Idle) (lt-ltb i (length (statements script a)) room)
       ∙ ap (add_event script rules r) what in
       subst (λ s. Steps r s × (s.journal ≡ e ∷ r.journal)) (sym same) (record { wires = λ x y. refl; hands = λ x y. refl; later = e ∷ []; journal = refl; calls = (call, tt) }, refl)
 
@@ -153,13 +154,13 @@ module _ (script : Script) (rules : Rules) where
   issue-proposed r a i (Getv target from to tgt org) h = refl
   issue-proposed r a i _ h = absurd (false≢true h)
 
-  pub issue-step : (r : Run) (a i : ℕ) → i ≡ next r.journal a → i < length (statements script a) → why script rules r.journal a i ≡ None → (is_store (statement script a i) || (goes (statement script a i) || comes (statement script a i))) ≡ true →
+  pub issue-step : (r : Run) (a i : ℕ) → i ≡ next r.journal a → i < length (statements script a) → refusal_of script rules r.journal a i ≡ None → (is_store (statement script a i) || (goes (statement script a i) || comes (statement script a i))) ≡ true →
       let s = step script rules r a in
       Steps r s × (s.journal ≡ Issue a i ∷ r.journal)
   issue-step r a i at room none h =
       let k = next r.journal a in
-      let what : unless_refused script rules r a k (why script rules r.journal a k) ≡ Some (Issue a i) =
-      subst (λ j. unless_refused script rules r a j (why script rules r.journal a j) ≡ Some (Issue a i)) at (ap (unless_refused script rules r a i) none ∙ issue-proposed r a i (statement script a i) h) in
+      let what : unless_refused script rules r a k (refusal_of script rules r.journal a k) ≡ Some (Issue a i) =
+      subst (λ j. unless_refused script rules r a j (refusal_of script rules r.journal a j) ≡ Some (Issue a i)) at (ap (unless_refused script rules r a i) none ∙ issue-proposed r a i (statement script a i) h) in
       step-adds r a (Issue a i) (let q : k < length (statements script a) = omega arith in q) what tt
 
   -- ---- what stands at the beginning of a round
@@ -170,21 +171,21 @@ module _ (script : Script) (rules : Rules) where
   joined-not-issued _ h = absurd (false≢true h)
 
   -- a fence that was passed was entered
-  passed-entered : (J : List Event) (a i : ℕ) → Atomic script rules J → has_join (statement script a i) ≡ true → done (Passed a i) J ≡ true → done (Entered a i) J ≡ true
-  passed-entered [] a i h is d = absurd (both_ways _ (done-nil (Passed a i)) d)
+  passed-entered : (J : List Event) (a i : ℕ) → Atomic script rules J → has_join (statement script a i) ≡ true → happened (Passed a i) J ≡ true → happened (Entered a i) J ≡ true
+  passed-entered [] a i h is d = absurd (both_ways _ (happened-nil (Passed a i)) d)
   passed-entered (e ∷ J) a i h is d =
       ⊎_elim
-      (λ (x : Passed a i ≡ deed e). done-later (Entered a i) e J (now e (Atomic-head script rules e J h) x))
-      (λ (x : done (Passed a i) J ≡ true). done-later (Entered a i) e J (passed-entered J a i (Atomic-tail script rules e J h) is x))
-      (done-cases (Passed a i) e J d)
+      (λ (x : Passed a i ≡ key_of e). happened-later (Entered a i) e J (now e (Atomic-head script rules e J h) x))
+      (λ (x : happened (Passed a i) J ≡ true). happened-later (Entered a i) e J (passed-entered J a i (Atomic-tail script rules e J h) is x))
+      (happened-cases (Passed a i) e J d)
     where
-      now : (e : Event) → Keeps script rules J e → Passed a i ≡ deed e → done (Entered a i) J ≡ true
+      now : (e : Event) → Keeps script rules J e → Passed a i ≡ key_of e → happened (Entered a i) J ≡ true
       now (Pass b j) k same =
           let x : a ≡ b = cc in
           let y : i ≡ j = cc in
           let is' = subst (λ u. has_join (statement script u j) ≡ true) x (subst (λ u. has_join (statement script a u) ≡ true) y is) in
-          let there = subst (λ c. cond c (done (Entered b j) J ≡ true) (why script rules J b j ≡ None)) is' k.order.1 in
-          subst (λ u. done (Entered u i) J ≡ true) (sym x) (subst (λ u. done (Entered b u) J ≡ true) (sym y) there)
+          let there = subst (λ c. cond c (happened (Entered b j) J ≡ true) (refusal_of script rules J b j ≡ None)) is' k.order.1 in
+          subst (λ u. happened (Entered u i) J ≡ true) (sym x) (subst (λ u. happened (Entered b u) J ≡ true) (sym y) there)
       now (Issue b j) k same = absurd (cc)
       now (Refuse b j reason) k same = absurd (cc)
       now (Enter b j) k same = absurd (cc)
@@ -200,34 +201,34 @@ module _ (script : Script) (rules : Rules) where
 
   module _ (rounds : ℕ) (begin fence : (round task : ℕ) → ℕ) (f : IsFenced script rules rounds begin fence) where
     -- what was taken was issued, or passed
-    data-issued : (J : List Event) (a i : ℕ) → Atomic script rules J → Has script a i → is_data (statement script a i) ≡ true → i < next J a → done (Issued a i) J ≡ true
+    data-issued : (J : List Event) (a i : ℕ) → Atomic script rules J → Has script a i → is_data (statement script a i) ≡ true → i < next J a → happened (Issued a i) J ≡ true
     data-issued J a i h has d l =
         ⊎_elim
-        (λ (x : done (Issued a i) J ≡ true). x)
-        (λ (y : (done (Refused a i) J ≡ true) ⊎ (done (Passed a i) J ≡ true)).
+        (λ (x : happened (Issued a i) J ≡ true). x)
+        (λ (y : (happened (Refused a i) J ≡ true) ⊎ (happened (Passed a i) J ≡ true)).
         ⊎_elim
-        (λ (x : done (Refused a i) J ≡ true). let k = kind script rules (Refused a i) J h x in absurd (let e : None ≡ Some k.1 = sym (f.none_refused k.0 a i has) ∙ k.2 in cc))
-        (λ (x : done (Passed a i) J ≡ true). absurd (both_ways _ (data-not_passed (statement script a i) d).0 (kind script rules (Passed a i) J h x)))
+        (λ (x : happened (Refused a i) J ≡ true). let k = kind script rules (Refused a i) J h x in absurd (let e : None ≡ Some k.1 = sym (f.none_refused k.0 a i has) ∙ k.2 in cc))
+        (λ (x : happened (Passed a i) J ≡ true). absurd (both_ways _ (data-not_passed (statement script a i) d).0 (kind script rules (Passed a i) J h x)))
         y)
         (taken script rules J h a i l)
 
-    join-entered : (J : List Event) (a i : ℕ) → Atomic script rules J → Has script a i → has_join (statement script a i) ≡ true → i < next J a → done (Entered a i) J ≡ true
+    join-entered : (J : List Event) (a i : ℕ) → Atomic script rules J → Has script a i → has_join (statement script a i) ≡ true → i < next J a → happened (Entered a i) J ≡ true
     join-entered J a i h has j l =
         let e = joined-not-issued (statement script a i) j in
         ⊎_elim
-        (λ (x : done (Issued a i) J ≡ true). absurd (both_ways _ e.1 (kind script rules (Issued a i) J h x)))
-        (λ (y : (done (Refused a i) J ≡ true) ⊎ (done (Passed a i) J ≡ true)).
+        (λ (x : happened (Issued a i) J ≡ true). absurd (both_ways _ e.1 (kind script rules (Issued a i) J h x)))
+        (λ (y : (happened (Refused a i) J ≡ true) ⊎ (happened (Passed a i) J ≡ true)).
         ⊎_elim
-        (λ (x : done (Refused a i) J ≡ true). let k = kind script rules (Refused a i) J h x in absurd (let q : None ≡ Some k.1 = sym (f.none_refused k.0 a i has) ∙ k.2 in cc))
-        (λ (x : done (Passed a i) J ≡ true). passed-entered J a i h e.0 x)
+        (λ (x : happened (Refused a i) J ≡ true). let k = kind script rules (Refused a i) J h x in absurd (let q : None ≡ Some k.1 = sym (f.none_refused k.0 a i has) ∙ k.2 in cc))
+        (λ (x : happened (Passed a i) J ≡ true). passed-entered J a i h e.0 x)
         y)
         (taken script rules J h a i l)
 
-    go-complete : (r : Run) → IsSettled script rules r → SoundRun script rules r → (a i : ℕ) → Has script a i → is_data (statement script a i) ≡ true → i < next r.journal a → done (Copied (message a i Go)) r.journal ≡ true
-    go-complete r s sound a i has d l = ready-go script rules r.journal (λ m. done (Copied m) r.journal) a i (list_all-at (λ m. done (Copied m) r.journal) (ready script r.journal a) (s.copied a has.0)) has.1 d (data-issued r.journal a i sound.atomic has d l)
+    go-complete : (r : Run) → IsSettled script rules r → SoundRun script rules r → (a i : ℕ) → Has script a i → is_data (statement script a i) ≡ true → i < next r.journal a → happened (Copied (message a i Go)) r.journal ≡ true
+    go-complete r s sound a i has d l = ready-go script rules r.journal (λ m. happened (Copied m) r.journal) a i (list_all-at (λ m. happened (Copied m) r.journal) (ready script r.journal a) (s.copied a has.0)) has.1 d (data-issued r.journal a i sound.atomic has d l)
 
     -- in a settled record every message of a statement that was taken was copied
-    complete : (r : Run) → IsSettled script rules r → SoundRun script rules r → Owes script rules r.journal → (a i : ℕ) (leg : Leg) → Has script a i → has_leg script (answers script rules a i) a leg (statement script a i) ≡ true → i < next r.journal a → done (Copied (message a i leg)) r.journal ≡ true
+    complete : (r : Run) → IsSettled script rules r → SoundRun script rules r → Owes script rules r.journal → (a i : ℕ) (leg : Leg) → Has script a i → has_leg script (answers script rules a i) a leg (statement script a i) ≡ true → i < next r.journal a → happened (Copied (message a i leg)) r.journal ≡ true
     complete r s sound owes a i Go has leg l = go-complete r s sound a i has leg l
     complete r s sound owes a i Back has leg l =
         let go = go-complete r s sound a i has (back-data (statement script a i) leg) l in
@@ -237,17 +238,17 @@ module _ (script : Script) (rules : Rules) where
     complete r s sound owes a i Echo has leg l = absurd (both_ways _ (f.no_notes a i has).1 leg)
     complete r s sound owes a i (Join d) has leg l =
         let parts = and_parts (has_join (statement script a i)) _ leg in
-        ready-join script rules r.journal (λ m. done (Copied m) r.journal) a i d (list_all-at (λ m. done (Copied m) r.journal) (ready script r.journal a) (s.copied a has.0)) has.1 leg (join-entered r.journal a i sound.atomic has parts.0 l)
+        ready-join script rules r.journal (λ m. happened (Copied m) r.journal) a i d (list_all-at (λ m. happened (Copied m) r.journal) (ready script r.journal a) (s.copied a has.0)) has.1 leg (join-entered r.journal a i sound.atomic has parts.0 l)
 
     -- a message that was copied is of a statement that its task has come to
-    come-to : (K : List Event) (a i : ℕ) (leg : Leg) → Atomic script rules K → done (Copied (message a i leg)) K ≡ true → Has script a i × (has_leg script (answers script rules a i) a leg (statement script a i) ≡ true) × (i ≤ next K a)
+    come-to : (K : List Event) (a i : ℕ) (leg : Leg) → Atomic script rules K → happened (Copied (message a i leg)) K ≡ true → Has script a i × (has_leg script (answers script rules a i) a leg (statement script a i) ≡ true) × (i ≤ next K a)
     unfolding needs
     come-to K a i leg h c =
         let is = and_parts (has_statement script rules a i) (has_leg script (answers script rules a i) a leg (statement script a i)) (there script rules (Copied (message a i leg)) K h c) in
         let has = has-of script rules a i is.0 in
         (has, is.1, come leg is.1 c)
       where
-        come : (g : Leg) → has_leg script (answers script rules a i) a g (statement script a i) ≡ true → done (Copied (message a i g)) K ≡ true → i ≤ next K a
+        come : (g : Leg) → has_leg script (answers script rules a i) a g (statement script a i) ≡ true → happened (Copied (message a i g)) K ≡ true → i ≤ next K a
         come Go q d = let l : i < next K a = behind script rules (Issued a i) K h (needed-go script rules K a i Go h d (inl refl)) in omega arith
         come Back q d = let l : i < next K a = behind script rules (Issued a i) K h (needed-go script rules K a i Back h d (inr refl)) in omega arith
         come Note q d = absurd (false≢true (ap is_some (sym (f.no_notes a i (has-of script rules a i (and_parts (has_statement script rules a i) _ (there script rules (Copied (message a i Note)) K h d)).0)).0) ∙ (and_parts (is_some (cmpl_counter (statement script a i))) (not (answers script rules a i)) q).0))
@@ -256,19 +257,19 @@ module _ (script : Script) (rules : Rules) where
 
     module _ (k : ℕ) (lk : k < rounds) (r : Run) (sound : SoundRun script rules r) (paid : IsPaid script rules r) (owes : Owes script rules r.journal) (at : IsAtRound script rules begin k r) where
       -- in the round no link gets more numbers than the window has
-      room-of : (K later : List Event) → K ≡ later ++ r.journal → Atomic script rules K → ((a : ℕ) → a < script.tasks → next K a ≡ fence k a) → (a b : ℕ) → (la : a < script.tasks) → (lb : b < script.tasks) → length (out script K a b) ≤ length (out script r.journal a b) + weigh script (f.few k a b lk la lb).0
+      room-of : (K later : List Event) → K ≡ later ++ r.journal → Atomic script rules K → ((a : ℕ) → a < script.tasks → next K a ≡ fence k a) → (a b : ℕ) → (la : a < script.tasks) → (lb : b < script.tasks) → length (numbered script K a b) ≤ length (numbered script r.journal a b) + weigh script (f.few k a b lk la lb).0
       room-of K later same h places a b la lb =
           let few = f.few k a b lk la lb in
           let whole = subst (Atomic script rules) same h in
           let up = growth script rules later r.journal a b few.0 whole (λ m c absent from to.
-          let here = come-to K m.origin m.statement m.leg h (subst (λ L. done (Copied m) L ≡ true) (sym same) c) in
+          let here = come-to K m.origin m.statement m.leg h (subst (λ L. happened (Copied m) L ≡ true) (sym same) c) in
           let place = places m.origin here.0.0 in
           let top = here.2 in
           few.1 m here.0 here.1 (low m here.0 here.1 absent) (let q : m.statement ≤ fence k m.origin = omega arith in q) from to) in
-          let e = ap (λ L. length (out script L a b)) same in
+          let e = ap (λ L. length (numbered script L a b)) same in
           omega arith
         where
-          low : (m : MsgName) → Has script m.origin m.statement → has_leg script (answers script rules m.origin m.statement) m.origin m.leg (statement script m.origin m.statement) ≡ true → done (Copied m) r.journal ≡ false → begin k m.origin ≤ m.statement
+          low : (m : MsgName) → Has script m.origin m.statement → has_leg script (answers script rules m.origin m.statement) m.origin m.leg (statement script m.origin m.statement) ≡ true → happened (Copied m) r.journal ≡ false → begin k m.origin ≤ m.statement
           low m has leg absent =
               ⊎_elim
               (λ (lt : m.statement < begin k m.origin).
@@ -286,7 +287,7 @@ module _ (script : Script) (rules : Rules) where
         full : (a : ℕ) → a < script.tasks → a < n → next u.journal a ≡ fence k a
         part : n < script.tasks → next u.journal n ≡ begin k n + j
         rest : (a : ℕ) → a < script.tasks → n < a → next u.journal a ≡ begin k a
-        same_entered : (a i : ℕ) → done (Entered a i) u.journal ≡ true → done (Entered a i) r.journal ≡ true
+        same_entered : (a i : ℕ) → happened (Entered a i) u.journal ≡ true → happened (Entered a i) r.journal ≡ true
 
       next-issue : (J : List Event) (n i a : ℕ) → next (Issue n i ∷ J) a ≡ cond (a == n) (suc (next J a)) (next J a)
       unfolding next
@@ -295,8 +296,8 @@ module _ (script : Script) (rules : Rules) where
       other-next : (J : List Event) (n i a : ℕ) → (a ≡ n → ⊥) → next (Issue n i ∷ J) a ≡ next J a
       other-next J n i a h = next-issue J n i a ∙ cond-false (a == n) _ (next J a) (ne_eqb a n h)
 
-      not-entered : (J : List Event) (n i a j : ℕ) → done (Entered a j) (Issue n i ∷ J) ≡ true → done (Entered a j) J ≡ true
-      not-entered J n i a j d = ⊎_elim (λ (x : Entered a j ≡ Issued n i). absurd (cc)) (λ (x : done (Entered a j) J ≡ true). x) (done-cases (Entered a j) (Issue n i) J d)
+      not-entered : (J : List Event) (n i a j : ℕ) → happened (Entered a j) (Issue n i ∷ J) ≡ true → happened (Entered a j) J ≡ true
+      not-entered J n i a j d = ⊎_elim (λ (x : Entered a j ≡ Issued n i). absurd (cc)) (λ (x : happened (Entered a j) J ≡ true). x) (happened-cases (Entered a j) (Issue n i) J d)
 
       one-call : (u : Run) (n j : ℕ) → n < script.tasks → j < fence k n - begin k n → Called u n j → Called (step script rules u n) n (suc j)
       one-call u n j l lj c =
@@ -315,7 +316,7 @@ module _ (script : Script) (rules : Rules) where
             full = λ a la lt. ap (λ L. next L a) s.1 ∙ other-next J n i a (λ e. absurd (omega arith)) ∙ c.full a la lt;
             part = λ _. ap (λ L. next L n) s.1 ∙ next-issue J n i n ∙ cond-true (n == n) _ (next J n) (eqb-refl n) ∙ one-more (next J n) (begin k n) j now;
             rest = λ a la lt. ap (λ L. next L a) s.1 ∙ other-next J n i a (λ e. absurd (omega arith)) ∙ c.rest a la lt;
-            same_entered = λ a x d. c.same_entered a x (not-entered J n i a x (subst (λ L. done (Entered a x) L ≡ true) s.1 d));
+            same_entered = λ a x d. c.same_entered a x (not-entered J n i a x (subst (λ L. happened (Entered a x) L ≡ true) s.1 d));
           }
         where
           one-more : (n b j : ℕ) → n ≡ b + j → suc n ≡ b + suc j
@@ -371,19 +372,19 @@ module _ (script : Script) (rules : Rules) where
         since : (later : List Event) × (u.journal ≡ later ++ r.journal)
         f_place : (a : ℕ) → a < script.tasks → next u.journal a ≡ fence k a
 
-      swept-fences : (u : Run) → AtFences u → ((a b : ℕ) → a < script.tasks → b < script.tasks → IsCalm u a b (length (out script u.journal a b))) →
+      swept-fences : (u : Run) → AtFences u → ((a b : ℕ) → a < script.tasks → b < script.tasks → IsCalm u a b (length (numbered script u.journal a b))) →
           let s = after script rules packet_size refusal u (two_sweeps script rules u) in
           IsSettled script rules s × AtFences s × AddsEvents u.journal s.journal × (length (two_sweeps script rules u) + 2 * all_data script.tasks u ≤ 2 * script.tasks + 2 * all_data script.tasks s) × AllNamed script rules u (two_sweeps script rules u)
       swept-fences u g calm =
-          let tops = λ (a b : ℕ). length (out script u.journal a b) in
+          let tops = λ (a b : ℕ). length (numbered script u.journal a b) in
           let room : HasRoom script rules u tops = λ K h x a b la lb.
           let whole : K ≡ (x.0 ++ g.since.0) ++ r.journal = regroup _ _ _ x.0 g.since.0 x.1 g.since.1 in
           let up = room-of K (x.0 ++ g.since.0) whole h (λ c lc. same-next u.journal K c x ∙ g.f_place c lc) a b la lb in
           let low = grows-on script rules g.since.0 r.journal a b in
           let w = (f.few k a b lk la lb).2 in
-          let e = ap (λ L. length (out script L a b)) g.since.1 in
+          let e = ap (λ L. length (numbered script L a b)) g.since.1 in
           omega arith in
-          let z = settles script rules u f.no_notes tops room g.f_sound g.f_paid g.f_owes (λ a b la lb. (calm a b la lb, let q : length (out script u.journal a b) ≤ length (out script u.journal a b) = omega arith in q)) in
+          let z = settles script rules u f.no_notes tops room g.f_sound g.f_paid g.f_owes (λ a b la lb. (calm a b la lb, let q : length (numbered script u.journal a b) ≤ length (numbered script u.journal a b) = omega arith in q)) in
           let adds = z.3 in (
             z.0,
             record {
@@ -399,21 +400,21 @@ module _ (script : Script) (rules : Rules) where
           )
 
       -- steps leave the links as they are
-      calm-steps : (s u : Run) → Steps s u → ((a b : ℕ) → a < script.tasks → b < script.tasks → IsCalm s a b (length (out script s.journal a b))) → (a b : ℕ) → a < script.tasks → b < script.tasks → IsCalm u a b (length (out script u.journal a b))
-      calm-steps s u x calm a b la lb = subst (λ xs. IsCalm u a b (length xs)) (sym (steps-out s u a b x)) (steps-calm s u a b (length (out script s.journal a b)) x (calm a b la lb))
+      calm-steps : (s u : Run) → Steps s u → ((a b : ℕ) → a < script.tasks → b < script.tasks → IsCalm s a b (length (numbered script s.journal a b))) → (a b : ℕ) → a < script.tasks → b < script.tasks → IsCalm u a b (length (numbered script u.journal a b))
+      calm-steps s u x calm a b la lb = subst (λ xs. IsCalm u a b (length xs)) (sym (steps-out s u a b x)) (steps-calm s u a b (length (numbered script s.journal a b)) x (calm a b la lb))
 
       -- ---- entering
 
-      module _ (s : Run) (settled : IsSettled script rules s) (g : AtFences s) (new : (a : ℕ) → a < script.tasks → done (Entered a (fence k a)) s.journal ≡ false) where
+      module _ (s : Run) (settled : IsSettled script rules s) (g : AtFences s) (new : (a : ℕ) → a < script.tasks → happened (Entered a (fence k a)) s.journal ≡ false) where
         record Enters (u : Run) (n : ℕ) : Type 0 where
           e_sound : SoundRun script rules u
           e_owes : Owes script rules u.journal
           e_steps : Steps s u
           e_place : (a : ℕ) → a < script.tasks → next u.journal a ≡ fence k a
-          inside : (a : ℕ) → a < script.tasks → a < n → done (Entered a (fence k a)) u.journal ≡ true
-          outside : (a : ℕ) → a < script.tasks → n ≤ a → done (Entered a (fence k a)) u.journal ≡ false
+          inside : (a : ℕ) → a < script.tasks → a < n → happened (Entered a (fence k a)) u.journal ≡ true
+          outside : (a : ℕ) → a < script.tasks → n ≤ a → happened (Entered a (fence k a)) u.journal ≡ false
 
-        -- the data of all calls are done
+        -- the data of all calls are happened
         clear : (u : Run) (n : ℕ) → n < script.tasks → Steps s u → data_clear script u n (fence k n) ≡ true
         unfolding data_clear data_done
         clear u n l x =
@@ -421,18 +422,18 @@ module _ (script : Script) (rules : Rules) where
             let o = f.order k n lk l in
             let high = o.1 in
             let place = g.f_place n l in
-            every_below-from i _ (λ j lj. implied-from (is_data (statement script n j)) (done (Issued n j) u.journal) _ (λ d issued.
+            every_below-from i _ (λ j lj. implied-from (is_data (statement script n j)) (happened (Issued n j) u.journal) _ (λ d issued.
             let has : Has script n j = (l, let q : j < length (statements script n) = omega arith in q) in
             let come : j < next s.journal n = omega arith in
             let copied = go-complete s settled g.f_sound n j has d come in
             let ends = ends-there script rules f.no_notes s.journal n j Go g.f_sound.atomic copied in
             let b = receiver script (message n j Go) in
-            cond_both (has_back (statement script n j)) (done (Landed (message n j Back)) u.journal) (done (Copied (message n j Go)) u.journal && all_numbers script (out script u.journal n b) (message n j Go) (is_acked u n b)) (λ y. y ≡ true)
+            cond_both (has_back (statement script n j)) (happened (Landed (message n j Back)) u.journal) (happened (Copied (message n j Go)) u.journal && all_numbers script (numbered script u.journal n b) (message n j Go) (is_acked u n b)) (λ y. y ≡ true)
             (λ back. steps-done s u (Landed (message n j Back)) x (settled.landed (message n j Back) (complete s settled g.f_sound g.f_owes n j Back has back come)))
             (λ _.
             and_from _ _ (steps-done s u (Copied (message n j Go)) x copied)
-            (all_numbers-from script (out script u.journal n b) (message n j Go) (is_acked u n b) (λ m jj e.
-            (calm-steps s u x settled.calm n b l ends.1).acked m (place-below script rules (out script u.journal n b) m (message n j Go, jj) e))))))
+            (all_numbers-from script (numbered script u.journal n b) (message n j Go) (is_acked u n b) (λ m jj e.
+            (calm-steps s u x settled.calm n b l ends.1).acked m (place-below script rules (numbered script u.journal n b) m (message n j Go, jj) e))))))
 
         entered-next : (J : List Event) (n i a : ℕ) → next (Enter n i ∷ J) a ≡ next J a
         unfolding next
@@ -446,11 +447,11 @@ module _ (script : Script) (rules : Rules) where
             let high = o.1 in
             let is = (f.fences k n lk l).0 in
             let none = f.none_refused u.journal n i (l, high) in
-            let what : unless_refused script rules u n (next u.journal n) (why script rules u.journal n (next u.journal n)) ≡ Some (Enter n i) =
-            subst (λ j. unless_refused script rules u n j (why script rules u.journal n j) ≡ Some (Enter n i)) (sym at_place)
+            let what : unless_refused script rules u n (next u.journal n) (refusal_of script rules u.journal n (next u.journal n)) ≡ Some (Enter n i) =
+            subst (λ j. unless_refused script rules u n j (refusal_of script rules u.journal n j) ≡ Some (Enter n i)) (sym at_place)
             (ap (unless_refused script rules u n i) none
             ∙ ap (proposed script rules u n i) is
-            ∙ cond-false (done (Entered n i) u.journal) _ _ (c.outside n l (let q : n ≤ n = omega arith in q))
+            ∙ cond-false (happened (Entered n i) u.journal) _ _ (c.outside n l (let q : n ≤ n = omega arith in q))
             ∙ ap (λ b. event_if script rules b (Enter n i)) (clear u n l c.e_steps)) in
             let x = step-adds u n (Enter n i) (let q : next u.journal n < length (statements script n) = omega arith in q) what tt in
             let v = step script rules u n in
@@ -462,14 +463,14 @@ module _ (script : Script) (rules : Rules) where
               inside = λ a la lt.
                   ⊎_elim
                   (λ (old : a < n). steps-done u v (Entered a (fence k a)) x.0 (c.inside a la old))
-                  (λ (ge : n ≤ a). let same : n ≡ a = omega arith in subst (λ y. done (Entered y (fence k y)) v.journal ≡ true) same (subst (λ L. done (Entered n i) L ≡ true) (sym x.1) (done-head (Enter n i) J)))
+                  (λ (ge : n ≤ a). let same : n ≡ a = omega arith in subst (λ y. happened (Entered y (fence k y)) v.journal ≡ true) same (subst (λ L. happened (Entered n i) L ≡ true) (sym x.1) (happened-head (Enter n i) J)))
                   (cases_lt a n);
               outside = λ a la lt.
                   false_from_ne_true _ (λ d.
                   ⊎_elim
                   (λ (y : Entered a (fence k a) ≡ Entered n i). let same : a ≡ n = cc in absurd (omega arith))
-                  (λ (y : done (Entered a (fence k a)) J ≡ true). both_ways _ (c.outside a la (omega arith)) y)
-                  (done-cases (Entered a (fence k a)) (Enter n i) J (subst (λ L. done (Entered a (fence k a)) L ≡ true) x.1 d)));
+                  (λ (y : happened (Entered a (fence k a)) J ≡ true). both_ways _ (c.outside a la (omega arith)) y)
+                  (happened-cases (Entered a (fence k a)) (Enter n i) J (subst (λ L. happened (Entered a (fence k a)) L ≡ true) x.1 d)));
             }
 
         all-enter : (n : ℕ) → n ≤ script.tasks → Enters (after script rules packet_size refusal s (steps_to script rules n)) n
@@ -481,7 +482,7 @@ module _ (script : Script) (rules : Rules) where
 
       -- ---- passing
 
-      module _ (s : Run) (settled : IsSettled script rules s) (g : AtFences s) (entered : (a : ℕ) → a < script.tasks → done (Entered a (fence k a)) s.journal ≡ true) where
+      module _ (s : Run) (settled : IsSettled script rules s) (g : AtFences s) (entered : (a : ℕ) → a < script.tasks → happened (Entered a (fence k a)) s.journal ≡ true) where
         record Passes (u : Run) (n : ℕ) : Type 0 where
           p_sound : SoundRun script rules u
           p_owes : Owes script rules u.journal
@@ -489,16 +490,16 @@ module _ (script : Script) (rules : Rules) where
           gone : (a : ℕ) → a < script.tasks → a < n → next u.journal a ≡ suc (fence k a)
           here : (a : ℕ) → a < script.tasks → n ≤ a → next u.journal a ≡ fence k a
           same_ready : (a : ℕ) → ready script u.journal a ≡ ready script s.journal a
-          back : (a i : ℕ) → done (Entered a i) u.journal ≡ true → done (Entered a i) s.journal ≡ true
+          back : (a i : ℕ) → happened (Entered a i) u.journal ≡ true → happened (Entered a i) s.journal ≡ true
 
         -- the joins of a fence have landed
-        join-landed : (d n : ℕ) → d < script.tasks → n < script.tasks → (d ≡ n → ⊥) → done (Landed (message d (fence k d) (Join n))) s.journal ≡ true
+        join-landed : (d n : ℕ) → d < script.tasks → n < script.tasks → (d ≡ n → ⊥) → happened (Landed (message d (fence k d) (Join n))) s.journal ≡ true
         join-landed d n ld ln apart =
             let i = fence k d in
             let is = (f.fences k d lk ld).0 in
             let leg : has_leg script (answers script rules d i) d (Join n) (statement script d i) ≡ true =
             ap (has_leg script (answers script rules d i) d (Join n)) is ∙ and_from _ _ (lt-ltb n script.tasks ln) (ap not (ne_eqb n d (λ e. apart (sym e)))) in
-            let copied = ready-join script rules s.journal (λ m. done (Copied m) s.journal) d i n (list_all-at (λ m. done (Copied m) s.journal) (ready script s.journal d) (settled.copied d ld)) (f.order k d lk ld).1 leg (entered d ld) in
+            let copied = ready-join script rules s.journal (λ m. happened (Copied m) s.journal) d i n (list_all-at (λ m. happened (Copied m) s.journal) (ready script s.journal d) (settled.copied d ld)) (f.order k d lk ld).1 leg (entered d ld) in
             settled.landed (message d i (Join n)) copied
 
         own-round : (d i : ℕ) → statement script d i ≡ Gfence → round_of script d i ≡ length (filter (λ j. nat_lt j i) (gfence_rounds script d))
@@ -536,7 +537,7 @@ module _ (script : Script) (rules : Rules) where
         passed-next J n i a = refl
 
         passed-ready : (J : List Event) (n i a : ℕ) → ready script (Pass n i ∷ J) a ≡ ready script J a
-        unfolding ready done
+        unfolding ready happened
         passed-ready J n i a = refl
 
         one-pass : (u : Run) (n : ℕ) → n < script.tasks → Passes u n → Passes (step script rules u n) (suc n)
@@ -546,11 +547,11 @@ module _ (script : Script) (rules : Rules) where
             let high = (f.order k n lk l).1 in
             let is = (f.fences k n lk l).0 in
             let none = f.none_refused u.journal n i (l, high) in
-            let what : unless_refused script rules u n (next u.journal n) (why script rules u.journal n (next u.journal n)) ≡ Some (Pass n i) =
-            subst (λ j. unless_refused script rules u n j (why script rules u.journal n j) ≡ Some (Pass n i)) (sym at_place)
+            let what : unless_refused script rules u n (next u.journal n) (refusal_of script rules u.journal n (next u.journal n)) ≡ Some (Pass n i) =
+            subst (λ j. unless_refused script rules u n j (refusal_of script rules u.journal n j) ≡ Some (Pass n i)) (sym at_place)
             (ap (unless_refused script rules u n i) none
             ∙ ap (proposed script rules u n i) is
-            ∙ cond-true (done (Entered n i) u.journal) _ _ (steps-done s u (Entered n i) c.p_steps (entered n l))
+            ∙ cond-true (happened (Entered n i) u.journal) _ _ (steps-done s u (Entered n i) c.p_steps (entered n l))
             ∙ ap (λ b. event_if script rules b (Pass n i)) (all-joined u n l c.p_steps)) in
             let x = step-adds u n (Pass n i) (let q : next u.journal n < length (statements script n) = omega arith in q) what tt in
             let v = step script rules u n in
@@ -567,7 +568,7 @@ module _ (script : Script) (rules : Rules) where
                   (cases_lt a n);
               here = λ a la lt. ap (λ L. next L a) x.1 ∙ passed-next J n i a ∙ cond-false (a == n) _ (next J a) (ne_eqb a n (λ e. absurd (omega arith))) ∙ c.here a la (omega arith);
               same_ready = λ a. ap (λ L. ready script L a) x.1 ∙ passed-ready J n i a ∙ c.same_ready a;
-              back = λ a j d. c.back a j (⊎_elim (λ (y : Entered a j ≡ Passed n i). absurd (cc)) (λ (y : done (Entered a j) J ≡ true). y) (done-cases (Entered a j) (Pass n i) J (subst (λ L. done (Entered a j) L ≡ true) x.1 d)));
+              back = λ a j d. c.back a j (⊎_elim (λ (y : Entered a j ≡ Passed n i). absurd (cc)) (λ (y : happened (Entered a j) J ≡ true). y) (happened-cases (Entered a j) (Pass n i) J (subst (λ L. happened (Entered a j) L ≡ true) x.1 d)));
             }
 
         all-pass : (n : ℕ) → n ≤ script.tasks → Passes (after script rules packet_size refusal s (steps_to script rules n)) n
@@ -591,7 +592,7 @@ module _ (script : Script) (rules : Rules) where
           → u5 ≡ after script rules packet_size refusal u4 (steps_to script rules script.tasks)
           → IsAtRound script rules begin (suc k) u5 × SoundRun script rules u5
           × (length (two_sweeps script rules u1) + length (two_sweeps script rules u3) + 2 * all_data script.tasks r ≤ 4 * script.tasks + 2 * all_data script.tasks u5)
-          × ((a b : ℕ) → (la : a < script.tasks) → (lb : b < script.tasks) → length (out script u5.journal a b) ≤ length (out script r.journal a b) + weigh script (f.few k a b lk la lb).0)
+          × ((a b : ℕ) → (la : a < script.tasks) → (lb : b < script.tasks) → length (numbered script u5.journal a b) ≤ length (numbered script r.journal a b) + weigh script (f.few k a b lk la lb).0)
           × AllNamed script rules u1 (two_sweeps script rules u1) × AllNamed script rules u3 (two_sweeps script rules u3)
       goes-on u1 u2 u3 u4 u5 e1 e2 e3 e4 e5 =
           let c = subst (λ u. Called u script.tasks 0) (sym e1) (all-calls script.tasks (omega arith)) in
@@ -607,7 +608,7 @@ module _ (script : Script) (rules : Rules) where
           let p = subst (λ u. Passes u4 z4.0 z4.1 entered u script.tasks) (sym e5) (all-pass u4 z4.0 z4.1 entered script.tasks (omega arith)) in (
             record {
               settled = record {
-                copied = λ a la. subst (λ ms. AllByRecursion (λ m. done (Copied m) u5.journal ≡ true) ms) (sym (p.same_ready a)) (all-weaker (λ m. done (Copied m) u4.journal ≡ true) (λ m. done (Copied m) u5.journal ≡ true) (λ m h. steps-done u4 u5 (Copied m) p.p_steps h) (ready script u4.journal a) (z4.0.copied a la));
+                copied = λ a la. subst (λ ms. AllByRecursion (λ m. happened (Copied m) u5.journal ≡ true) ms) (sym (p.same_ready a)) (all-weaker (λ m. happened (Copied m) u4.journal ≡ true) (λ m. happened (Copied m) u5.journal ≡ true) (λ m h. steps-done u4 u5 (Copied m) p.p_steps h) (ready script u4.journal a) (z4.0.copied a la));
                 landed = λ m h. steps-done u4 u5 (Landed m) p.p_steps (z4.0.landed m (steps-copied u4 u5 m p.p_steps h));
                 calm = calm-steps u4 u5 p.p_steps z4.0.calm;
               };
@@ -622,7 +623,7 @@ module _ (script : Script) (rules : Rules) where
             p.p_sound,
             (let d1 = steps-data r u1 c.steps in let d3 = steps-data u2 u3 n.e_steps in let d5 = steps-data u4 u5 p.p_steps in let l2 = z2.3 in let l4 = z4.3 in
                 sums (length (two_sweeps script rules u1)) (length (two_sweeps script rules u3)) (all_data script.tasks r) (all_data script.tasks u1) (all_data script.tasks u2) (all_data script.tasks u3) (all_data script.tasks u4) (all_data script.tasks u5) script.tasks d1 d3 d5 l2 l4),
-            λ a b la lb. subst (λ xs. length xs ≤ length (out script r.journal a b) + weigh script (f.few k a b lk la lb).0) (sym (steps-out u4 u5 a b p.p_steps)) (room-of u4.journal z4.1.since.0 z4.1.since.1 z4.1.f_sound.atomic z4.1.f_place a b la lb),
+            λ a b la lb. subst (λ xs. length xs ≤ length (numbered script r.journal a b) + weigh script (f.few k a b lk la lb).0) (sym (steps-out u4 u5 a b p.p_steps)) (room-of u4.journal z4.1.since.0 z4.1.since.1 z4.1.f_sound.atomic z4.1.f_place a b la lb),
             z2.4,
             z4.4,
           )
@@ -630,7 +631,7 @@ module _ (script : Script) (rules : Rules) where
           sums : (x y d0 d1 d2 d3 d4 d5 t : ℕ) → d1 ≡ d0 → d3 ≡ d2 → d5 ≡ d4 → x + 2 * d1 ≤ 2 * t + 2 * d2 → y + 2 * d3 ≤ 2 * t + 2 * d4 → x + y + 2 * d0 ≤ 4 * t + 2 * d5
           sums x y d0 d1 d2 d3 d4 d5 t a b c l m = omega arith
 
-          not-yet : (u1 u2 : Run) (a : ℕ) → a < script.tasks → Called u1 script.tasks 0 → AddsEvents u1.journal u2.journal → done (Entered a (fence k a)) u2.journal ≡ false
+          not-yet : (u1 u2 : Run) (a : ℕ) → a < script.tasks → Called u1 script.tasks 0 → AddsEvents u1.journal u2.journal → happened (Entered a (fence k a)) u2.journal ≡ false
           not-yet u1 u2 a la c x =
               false_from_ne_true _ (λ d.
               let old = at.passed a (fence k a) (c.same_entered a (fence k a) (sym (same-entered u1.journal u2.journal a (fence k a) x) ∙ d)) in
@@ -674,7 +675,7 @@ module _ (script : Script) (rules : Rules) where
         pub r_sound : SoundRun script rules s
         pub lines : length (round_acts script rules begin fence k r) + 2 * all_data script.tasks r ≤ sum_to script.tasks (λ a. fence k a - begin k a) + 6 * script.tasks + 2 * all_data script.tasks s
         pub named : AllNamed script rules r (round_acts script rules begin fence k r)
-        pub grown : (a b : ℕ) → (la : a < script.tasks) → (lb : b < script.tasks) → length (out script s.journal a b) ≤ length (out script r.journal a b) + weigh script (f.few k a b lk la lb).0
+        pub grown : (a b : ℕ) → (la : a < script.tasks) → (lb : b < script.tasks) → length (numbered script s.journal a b) ≤ length (numbered script r.journal a b) + weigh script (f.few k a b lk la lb).0
 
       pub round-done : IsRound (after script rules packet_size refusal r (round_acts script rules begin fence k r))
       round-done =

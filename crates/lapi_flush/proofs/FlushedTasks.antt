@@ -13,26 +13,27 @@ use Rattle.lapi_base.specs.declared.schedule.Act.{Act}
 use Rattle.lapi_base.specs.declared.packet.DataPacket.{DataPacket}
 use Rattle.lapi_base.specs.declared.packet.Packet.{Packet}
 use Rattle.lapi_base.specs.declared.packet.Packet.TheVariants.{Data, Ack}
-use Rattle.lapi_base.specs.Layout.{window_of}
-use Rattle.lapi_base.specs.Below.{below, least_missing}
-use Rattle.lapi_base.specs.Names.{Copied, Landed, done}
-use Rattle.lapi_base.specs.Operations.{sender, receiver}
-use Rattle.lapi_base.specs.Spelling.{refusal}
-use Rattle.lapi_base.specs.Written.{packet_size}
-use Rattle.lapi_base.specs.Record.{Run, out, base, is_number, has_number, is_sent, is_acked, is_delivered, packet_of, packets, fresh, poll, perform, after}
-use Rattle.lapi_base.specs.Atomic.{Atomic}
-use Rattle.lapi_base.specs.Seen.{HoldsOfRecords}
+use Rattle.lapi_base.specs.Packet.Layout.{window_of}
+use Rattle.lapi_base.specs.Record.Below.{below, least_missing}
+use Rattle.lapi_base.specs.Record.Names.{Copied, Landed, happened}
+use Rattle.lapi_base.specs.Record.Operations.{sender, receiver}
+use Rattle.lapi_base.specs.Packet.Spelling.{refusal}
+use Rattle.lapi_base.specs.Packet.PacketBytes.{packet_size}
+use Rattle.lapi_base.specs.Record.Wires.{Run, numbered, base, is_number, has_number, is_sent, is_acked, is_delivered, packet_of, packets, to_send}
+use Rattle.lapi_base.specs.Record.Acts.{poll, perform, after}
+use Rattle.lapi_base.specs.Record.Atomic.{Atomic}
+use Rattle.lapi_base.specs.Record.WorldView.{HoldsOfRecords}
 use Rattle.lapi_base.proofs.ListLaws.{all-append, any-all, get-front, all-get, get-right, get-some}
 use Rattle.lapi_base.proofs.TestLaws.{eqb-refl}
 use Rattle.lapi_laws.proofs.Sound.{Fits, known, number-known, acked-delivered}
 use Rattle.lapi_laws.proofs.Lines.{SoundRun, poll-sound}
-use Rattle.lapi_laws.proofs.Told.{IsData, packets-data}
+use Rattle.lapi_laws.proofs.LastAck.{IsData, packets-data}
 use Rattle.lapi_parts.proofs.Records.{record-sound}
-use Rattle.lapi_base.proofs.NameLaws.{done-grown}
+use Rattle.lapi_base.proofs.NameLaws.{happened-grown}
 use Rattle.lapi_parts.proofs.SentFront.{packets-have}
 use Rattle.lapi_base.proofs.PacketNumbers.{number-append}
 use Rattle.lapi_base.proofs.BelowLaws.{below-has}
-use Rattle.lapi_parts.proofs.HandedPackets.{out-has, out-below, out-unique}
+use Rattle.lapi_parts.proofs.HandedPackets.{numbered-has, numbered-below, numbered-unique}
 use Rattle.lapi_flush.specs.Served.{delivers, served, IsAck, AddsAcks, AddsEvents, IsPart, AllNamed}
 use Rattle.lapi_flush.specs.Flushed.{data_count, sum_to, all_data, IsCalm, polled, part_acts, link_acts, flush, IsFlushed, FlushesAreFlushed}
 use Rattle.lapi_flush.proofs.NoneOwed.{IsPaid, none-owed, record-paid}
@@ -144,12 +145,12 @@ module _ (script : Script) (rules : Rules) where
   unfolding packets
   packets-few J a b [] = omega arith
   packets-few J a b (n ∷ ns) =
-      let first = packet_of script rules J n (slice_get (out script J a b) n) in
-      let rest = flat_map (λ m. packet_of script rules J m (slice_get (out script J a b) m)) ns in
-      let split = ap length (flat_map-cons (λ m. packet_of script rules J m (slice_get (out script J a b) m)) n ns) ∙ length-append first rest in
-      let one = packet-few J n (slice_get (out script J a b) n) in
+      let first = packet_of script rules J n (slice_get (numbered script J a b) n) in
+      let rest = flat_map (λ m. packet_of script rules J m (slice_get (numbered script J a b) m)) ns in
+      let split = ap length (flat_map-cons (λ m. packet_of script rules J m (slice_get (numbered script J a b) m)) n ns) ∙ length-append first rest in
+      let one = packet-few J n (slice_get (numbered script J a b) n) in
       let more = packets-few J a b ns in
-      sums (length (flat_map (λ m. packet_of script rules J m (slice_get (out script J a b) m)) (n ∷ ns))) (length first) (length rest) (length ns) split one more
+      sums (length (flat_map (λ m. packet_of script rules J m (slice_get (numbered script J a b) m)) (n ∷ ns))) (length first) (length rest) (length ns) split one more
     where
       sums : (all f r n : ℕ) → all ≡ f + r → f ≤ 1 → r ≤ n → all ≤ suc n
       sums all f r n a b c = omega arith
@@ -164,7 +165,7 @@ module _ (script : Script) (rules : Rules) where
     s0 = poll script rules r t
 
     new : ℕ → List Packet
-    new b = packets script rules J t b (fresh script rules r J t b)
+    new b = packets script rules J t b (to_send script rules r J t b)
 
     s0-sound : SoundRun script rules s0
     unfolding s0
@@ -191,7 +192,7 @@ module _ (script : Script) (rules : Rules) where
     s0-acked a b m h = h
 
     size : ℕ → ℕ
-    size b = length (out script J t b)
+    size b = length (numbered script J t b)
 
     -- what was acknowledged is a number of the link
     acked-known : (b m : ℕ) → is_acked r t b m ≡ true → m < size b
@@ -199,7 +200,7 @@ module _ (script : Script) (rules : Rules) where
     acked-known b m h =
         let d = acked-delivered script rules s0.journal s0.wire s0.handed s0-sound t b m (s0-acked t b m h) in
         let k = known script rules s0.journal s0.wire s0.handed s0-sound t b m d in
-        place-below script rules (out script J t b) m k.0 (subst (λ K. slice_get (out script K t b) m ≡ Some k.0) s0-journal k.1)
+        place-below script rules (numbered script J t b) m k.0 (subst (λ K. slice_get (numbered script K t b) m ≡ Some k.0) s0-journal k.1)
 
     -- what is sent on its wire now is a number of the link
     sent-known : (b m : ℕ) → is_sent s0 t b m ≡ true → m < size b
@@ -207,35 +208,35 @@ module _ (script : Script) (rules : Rules) where
     sent-known b m h =
         let p = any-all (is_number m) (Fits script rules s0.journal s0.handed t b) (s0.wire t b) (s0-sound.wires t b) h in
         let x = number-known script rules s0.journal s0.handed t b m p.0 p.1 p.2 in
-        place-below script rules (out script J t b) m x.0 (subst (λ K. slice_get (out script K t b) m ≡ Some x.0) s0-journal x.1)
+        place-below script rules (numbered script J t b) m x.0 (subst (λ K. slice_get (numbered script K t b) m ≡ Some x.0) s0-journal x.1)
 
-    module _ (b top : ℕ) (calm : IsCalm r t b top) (room : length (out script (polled script rules r t) t b) ≤ top + window_of script) where
+    module _ (b top : ℕ) (calm : IsCalm r t b top) (room : length (numbered script (polled script rules r t) t b) ≤ top + window_of script) where
       -- all of its numbers are in the window
       edge-far : (m : ℕ) → m < size b → nat_lt m (base script (record r { journal = J }) t b + window_of script) ≡ true
       unfolding base size J
       edge-far m l =
-          let least = least-above script rules (length (out script J t b)) top (is_acked r t b) (λ k h. acked-known b k h) calm.acked in
-          lt-ltb m (least_missing (length (out script J t b)) (is_acked r t b) + window_of script) (omega arith)
+          let least = least-above script rules (length (numbered script J t b)) top (is_acked r t b) (λ k h. acked-known b k h) calm.acked in
+          lt-ltb m (least_missing (length (numbered script J t b)) (is_acked r t b) + window_of script) (omega arith)
 
       -- those that weren't sent are new
       new-has : (m : ℕ) → m < size b → top ≤ m → has_number (new b) m ≡ true
-      unfolding new fresh size
+      unfolding new to_send size
       new-has m l ge =
-          packets-have script rules J t b (below (length (out script J t b)) (λ n. not (is_sent r t b n) && nat_lt n (base script (record r { journal = J }) t b + window_of script))) m
-          (below-has (length (out script J t b)) (λ n. not (is_sent r t b n) && nat_lt n (base script (record r { journal = J }) t b + window_of script)) m l (and_from _ _ (ap not (calm.sent m ∙ le-ltb m top ge)) (edge-far m l)))
+          packets-have script rules J t b (below (length (numbered script J t b)) (λ n. not (is_sent r t b n) && nat_lt n (base script (record r { journal = J }) t b + window_of script))) m
+          (below-has (length (numbered script J t b)) (λ n. not (is_sent r t b n) && nat_lt n (base script (record r { journal = J }) t b + window_of script)) m l (and_from _ _ (ap not (calm.sent m ∙ le-ltb m top ge)) (edge-far m l)))
           l
 
       new-data : AllByRecursion IsData (new b)
       unfolding new
-      new-data = packets-data script rules J t b (fresh script rules r J t b)
+      new-data = packets-data script rules J t b (to_send script rules r J t b)
 
       -- no more than the link has numbers that weren't sent
       new-few : length (new b) ≤ size b - top
-      unfolding new fresh size
+      unfolding new to_send size
       new-few =
           let p = λ (n : ℕ). not (is_sent r t b n) && nat_lt n (base script (record r { journal = J }) t b + window_of script) in
-          let few = packets-few J t b (below (length (out script J t b)) p) in
-          let low = below-few (length (out script J t b)) top p (λ k l. and_left _ _ (ap not (calm.sent k ∙ lt-ltb k top l))) in
+          let few = packets-few J t b (below (length (numbered script J t b)) p) in
+          let low = below-few (length (numbered script J t b)) top p (λ k l. and_left _ _ (ap not (calm.sent k ∙ lt-ltb k top l))) in
           omega arith
 
       top-low : top ≤ size b
@@ -332,7 +333,7 @@ module _ (script : Script) (rules : Rules) where
       told = λ c l. absurd (omega arith);
     }
 
-    module _ (tops : ℕ → ℕ) (calms : (b : ℕ) → b < script.tasks → IsCalm r t b (tops b)) (rooms : (b : ℕ) → b < script.tasks → length (out script (polled script rules r t) t b) ≤ tops b + window_of script) where
+    module _ (tops : ℕ → ℕ) (calms : (b : ℕ) → b < script.tasks → IsCalm r t b (tops b)) (rooms : (b : ℕ) → b < script.tasks → length (numbered script (polled script rules r t) t b) ≤ tops b + window_of script) where
       one-link : (u : Run) (b count : ℕ) → b < script.tasks → length (new b) ≡ count → Linked u b → Linked (after script rules packet_size refusal u (part_acts script rules u t b (length (r.wire t b)) count)) (suc b)
       unfolding after
       one-link u b zero l e k = record {
@@ -429,18 +430,18 @@ module _ (script : Script) (rules : Rules) where
       flush-named task = (task, links-named task script.tasks (omega arith))
 
       -- where all numbers of a message were acknowledged, it has landed
-      acked-landed : (u : Run) → SoundRun script rules u → AddsEvents (polled script rules r t) u.journal → (b : ℕ) → ((n : ℕ) → n < length (out script (polled script rules r t) t b) → is_acked u t b n ≡ true) → (m : MsgName) → sender script m ≡ t → receiver script m ≡ b → done (Copied m) (polled script rules r t) ≡ true → done (Landed m) u.journal ≡ true
+      acked-landed : (u : Run) → SoundRun script rules u → AddsEvents (polled script rules r t) u.journal → (b : ℕ) → ((n : ℕ) → n < length (numbered script (polled script rules r t) t b) → is_acked u t b n ≡ true) → (m : MsgName) → sender script m ≡ t → receiver script m ≡ b → happened (Copied m) (polled script rules r t) ≡ true → happened (Landed m) u.journal ≡ true
       acked-landed u sound_u events b acked m from to copied =
           let K = polled script rules r t in
-          let here = subst (λ L. done (Copied m) L ≡ true) (sym events.1) (done-grown events.0 K (Copied m) copied) in
+          let here = subst (λ L. happened (Copied m) L ≡ true) (sym events.1) (happened-grown events.0 K (Copied m) copied) in
           sound_u.arrived m here
           (λ n is.
-          let ours : slice_get (out script u.journal t b) n ≡ Some (m, is.0) = subst (λ y. slice_get (out script u.journal t y) n ≡ Some (m, is.0)) to (subst (λ x. slice_get (out script u.journal x (receiver script m)) n ≡ Some (m, is.0)) from is.1) in
-          let old = out-has script K m is.0 copied (out-below script u.journal t b n (m, is.0) ours) in
-          let place : slice_get (out script K t b) old.0 ≡ Some (m, is.0) = subst (λ y. slice_get (out script K t y) old.0 ≡ Some (m, is.0)) to (subst (λ x. slice_get (out script K x (receiver script m)) old.0 ≡ Some (m, is.0)) from old.1) in
-          let later : slice_get (out script u.journal t b) old.0 ≡ Some (m, is.0) = subst (λ L. slice_get (out script L t b) old.0 ≡ Some (m, is.0)) (sym events.1) (grown-out script rules events.0 K t b old.0 (m, is.0) place) in
-          let number = out-unique script rules u.journal sound_u.atomic t b n old.0 (m, is.0) ours later in
-          let got = acked-delivered script rules u.journal u.wire u.handed sound_u t b old.0 (acked old.0 (place-below script rules (out script K t b) old.0 (m, is.0) place)) in
+          let ours : slice_get (numbered script u.journal t b) n ≡ Some (m, is.0) = subst (λ y. slice_get (numbered script u.journal t y) n ≡ Some (m, is.0)) to (subst (λ x. slice_get (numbered script u.journal x (receiver script m)) n ≡ Some (m, is.0)) from is.1) in
+          let old = numbered-has script K m is.0 copied (numbered-below script u.journal t b n (m, is.0) ours) in
+          let place : slice_get (numbered script K t b) old.0 ≡ Some (m, is.0) = subst (λ y. slice_get (numbered script K t y) old.0 ≡ Some (m, is.0)) to (subst (λ x. slice_get (numbered script K x (receiver script m)) old.0 ≡ Some (m, is.0)) from old.1) in
+          let later : slice_get (numbered script u.journal t b) old.0 ≡ Some (m, is.0) = subst (λ L. slice_get (numbered script L t b) old.0 ≡ Some (m, is.0)) (sym events.1) (grown-out script rules events.0 K t b old.0 (m, is.0) place) in
+          let number = numbered-unique script rules u.journal sound_u.atomic t b n old.0 (m, is.0) ours later in
+          let got = acked-delivered script rules u.journal u.wire u.handed sound_u t b old.0 (acked old.0 (place-below script rules (numbered script K t b) old.0 (m, is.0) place)) in
           let own : is_delivered u t b n ≡ true = subst (λ i. is_delivered u t b i ≡ true) (sym number) got in
           subst (λ x. is_delivered u x (receiver script m) n ≡ true) (sym from) (subst (λ y. is_delivered u t y n ≡ true) (sym to) own))
 

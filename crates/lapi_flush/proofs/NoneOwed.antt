@@ -9,14 +9,15 @@ use Rattle.lapi_base.specs.declared.schedule.Act.TheVariants.{Step, Poll, Tick, 
 use Rattle.lapi_base.specs.declared.reply.Reply.TheVariants.{Idle}
 use Rattle.lapi_base.specs.declared.packet.Packet.{Packet}
 use Rattle.lapi_base.specs.declared.packet.Packet.TheVariants.{Data, Ack}
-use Rattle.lapi_base.specs.Layout.{holds_back}
-use Rattle.lapi_base.specs.Operations.{statements}
-use Rattle.lapi_base.specs.Refusals.{next, why}
-use Rattle.lapi_base.specs.Jobs.{queue, runs}
-use Rattle.lapi_base.specs.Spelling.{refusal}
-use Rattle.lapi_base.specs.Written.{packet_size}
-use Rattle.lapi_base.specs.Record.{Run, start, owed_ack, poll, tick, hand_over, deliver, deliver_entry, unless_refused, add_event, reply_with, step, begin_first, begin_at, begin, end_at, end, cut_entry, perform, after, run_of}
-use Rattle.lapi_base.specs.Seen.{record_of, IsRecord}
+use Rattle.lapi_base.specs.Packet.Layout.{holds_back}
+use Rattle.lapi_base.specs.Record.Operations.{statements}
+use Rattle.lapi_base.specs.Record.Refusals.{next, refusal_of}
+use Rattle.lapi_base.specs.Record.Jobs.{queue, runs}
+use Rattle.lapi_base.specs.Packet.Spelling.{refusal}
+use Rattle.lapi_base.specs.Packet.PacketBytes.{packet_size}
+use Rattle.lapi_base.specs.Record.Wires.{Run, start, owed_ack}
+use Rattle.lapi_base.specs.Record.Acts.{poll, tick, hand_over, deliver, deliver_entry, unless_refused, add_event, reply_with, step, begin_first, begin_at, begin, end_at, end, cut_entry, perform, after, run_of}
+use Rattle.lapi_base.specs.Record.WorldView.{record_of, IsRecord}
 
 module _ (script : Script) (rules : Rules) where
   -- acknowledgements go out at once, and none is owed
@@ -31,8 +32,8 @@ module _ (script : Script) (rules : Rules) where
   perform-paid : (r : Run) (act : Act) → IsPaid r → IsPaid (perform script rules packet_size refusal r act)
   unfolding perform step poll tick deliver begin end
   perform-paid r (Step a) h =
-      cond_both (nat_lt (next r.journal a) (length (statements script a))) (add_event script rules r (unless_refused script rules r a (next r.journal a) (why script rules r.journal a (next r.journal a)))) (reply_with script rules r Idle) IsPaid
-      (λ _. elim (unless_refused script rules r a (next r.journal a) (why script rules r.journal a (next r.journal a))) as (λ o. IsPaid (add_event script rules r o)) [ None ↦ h | Some e ↦ h ])
+      cond_both (nat_lt (next r.journal a) (length (statements script a))) (add_event script rules r (unless_refused script rules r a (next r.journal a) (refusal_of script rules r.journal a (next r.journal a)))) (reply_with script rules r Idle) IsPaid
+      (λ _. elim (unless_refused script rules r a (next r.journal a) (refusal_of script rules r.journal a (next r.journal a))) as (λ o. IsPaid (add_event script rules r o)) [ None ↦ h | Some e ↦ h ])
       (λ _. h)
   perform-paid r (Poll t) h = (h.0, λ a b. and_right (not (b == t)) (r.owed a b) (h.1 a b))
   perform-paid r (Tick t) h = h

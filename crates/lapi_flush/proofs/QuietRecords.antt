@@ -7,18 +7,19 @@ use Rattle.lapi_base.specs.declared.script.Script.{Script}
 use Rattle.lapi_base.specs.declared.rule.Rules.{Rules}
 use Rattle.lapi_base.specs.declared.message.MsgName.{MsgName}
 use Rattle.lapi_base.specs.declared.message.Leg.TheVariants.{Go}
-use Rattle.lapi_base.specs.Layout.{window_of}
-use Rattle.lapi_base.specs.Names.{leg_eq, Copied, Landed, Begun, done}
-use Rattle.lapi_base.specs.Operations.{statement, receiver, is_am}
-use Rattle.lapi_base.specs.Handlers.{has_completion}
-use Rattle.lapi_base.specs.Jobs.{is_job, queue, runs}
-use Rattle.lapi_base.specs.Record.{Run, out, base, has_number, is_number, is_sent, is_acked, fresh, ready}
-use Rattle.lapi_base.specs.Atomic.{has_statement, has_message}
-use Rattle.lapi_base.specs.Final.{Quiet}
+use Rattle.lapi_base.specs.Packet.Layout.{window_of}
+use Rattle.lapi_base.specs.Record.Names.{leg_eq, Copied, Landed, Begun, happened}
+use Rattle.lapi_base.specs.Record.Operations.{statement, receiver, is_am}
+use Rattle.lapi_base.specs.Record.Handlers.{has_completion}
+use Rattle.lapi_base.specs.Record.Jobs.{is_job, queue, runs}
+use Rattle.lapi_base.specs.Record.Wires.{Run, numbered, base, has_number, is_number, is_sent, is_acked, to_send}
+use Rattle.lapi_base.specs.Record.Acts.{ready}
+use Rattle.lapi_base.specs.Record.Atomic.{has_statement, has_message}
+use Rattle.lapi_base.specs.Record.Final.{Quiet}
 use Rattle.lapi_base.proofs.ListLaws.{any-all, list_all-at}
 use Rattle.lapi_laws.proofs.Backward.{there}
 use Rattle.lapi_laws.proofs.Workers.{Waiting, queue-waiting, begun}
-use Rattle.lapi_laws.proofs.Out.{out-copied}
+use Rattle.lapi_laws.proofs.Out.{numbered-copied}
 use Rattle.lapi_laws.proofs.Sound.{Fits, number-known}
 use Rattle.lapi_laws.proofs.Lines.{SoundRun}
 use Rattle.lapi_base.proofs.BelowLaws.{below-none}
@@ -36,7 +37,7 @@ module _ (script : Script) (rules : Rules) (plain : (a i : ℕ) → Has script a
   nobody-waits : (t : ℕ) → queue script rules r.journal t ≡ []
   unfolding is_job has_completion
   nobody-waits t =
-      elim (queue script rules r.journal t) as (λ ms. AllByRecursion (λ m. Waiting script rules r.journal t m × (not (done (Begun m) r.journal) ≡ true)) ms → ms ≡ []) [
+      elim (queue script rules r.journal t) as (λ ms. AllByRecursion (λ m. Waiting script rules r.journal t m × (not (happened (Begun m) r.journal) ≡ true)) ms → ms ≡ []) [
         | [] ↦ λ h. refl
         | m ∷ ms ↦ λ h.
             let job = and_parts (leg_eq m.leg Go) (has_completion script rules m.origin m.statement && receiver script m == t) h.0.0.0 in
@@ -56,10 +57,10 @@ module _ (script : Script) (rules : Rules) (plain : (a i : ℕ) → Has script a
             absurd (no-active m both.0 (and_parts (leg_eq m.leg Go) (is_am (statement script m.origin m.statement)) both.1).1)
       ] refl
 
-  nothing-fresh : (a b : ℕ) → a < script.tasks → b < script.tasks → fresh script rules r r.journal a b ≡ []
-  unfolding fresh
+  nothing-fresh : (a b : ℕ) → a < script.tasks → b < script.tasks → to_send script rules r r.journal a b ≡ []
+  unfolding to_send
   nothing-fresh a b la lb =
-      let len = length (out script r.journal a b) in
+      let len = length (numbered script r.journal a b) in
       below-none len (λ n. not (is_sent r a b n) && nat_lt n (base script (record r { journal = r.journal }) a b + window_of script)) (λ n l. and_left _ _ (ap not ((s.calm a b la lb).sent n ∙ lt-ltb n len l)))
 
   -- all that was sent goes between tasks, and is acknowledged
@@ -68,11 +69,11 @@ module _ (script : Script) (rules : Rules) (plain : (a i : ℕ) → Has script a
   sent-acked a b n h =
       let p = any-all (is_number n) (Fits script rules r.journal r.handed a b) (r.wire a b) (sound.wires a b) h in
       let x = number-known script rules r.journal r.handed a b n p.0 p.1 p.2 in
-      let copied = out-copied script r.journal a b n x.0 x.1 in
+      let copied = numbered-copied script r.journal a b n x.0 x.1 in
       let ends = ends-there script rules none r.journal x.0.0.origin x.0.0.statement x.0.0.leg sound.atomic copied.0 in
       let la : a < script.tasks = subst (λ u. u < script.tasks) copied.1 ends.0 in
       let lb : b < script.tasks = subst (λ u. u < script.tasks) copied.2 ends.1 in
-      (s.calm a b la lb).acked n (place-below script rules (out script r.journal a b) n x.0 x.1)
+      (s.calm a b la lb).acked n (place-below script rules (numbered script r.journal a b) n x.0 x.1)
 
   pub settled-quiet : Quiet script rules r
   settled-quiet = record {
@@ -80,7 +81,7 @@ module _ (script : Script) (rules : Rules) (plain : (a i : ℕ) → Has script a
     resting = record {
       none_waits = λ t l. nobody-waits t;
       none_runs = λ t w l lw. nobody-runs t w;
-      no_copy = λ t l. list_all-at (λ m. done (Copied m) r.journal) (ready script r.journal t) (s.copied t l);
+      no_copy = λ t l. list_all-at (λ m. happened (Copied m) r.journal) (ready script r.journal t) (s.copied t l);
       no_entry = λ a b la lb. nothing-fresh a b la lb;
     };
     none_owed = λ a b la lb. paid.1 a b;

@@ -14,28 +14,29 @@ use Rattle.lapi_base.specs.declared.reply.Reply.TheVariants.{Did}
 use Rattle.lapi_base.specs.declared.packet.DataPacket.{DataPacket}
 use Rattle.lapi_base.specs.declared.packet.Packet.{Packet}
 use Rattle.lapi_base.specs.declared.packet.Packet.TheVariants.{Data, Ack}
-use Rattle.lapi_base.specs.Layout.{window_of, holds_back}
-use Rattle.lapi_base.specs.Below.{least_missing, has_bit, bits_of}
+use Rattle.lapi_base.specs.Packet.Layout.{window_of, holds_back}
+use Rattle.lapi_base.specs.Record.Below.{least_missing, has_bit, bits_of}
 use Rattle.lapi_base.specs.declared.event.Event.TheVariants.{Land}
 use Rattle.lapi_base.specs.declared.message.Leg.TheVariants.{Go}
-use Rattle.lapi_base.specs.Handlers.{has_completion}
-use Rattle.lapi_base.specs.Names.{leg_eq, Copied, done}
-use Rattle.lapi_base.specs.Operations.{statement, is_am, has_back, cmpl_counter, receiver}
-use Rattle.lapi_base.specs.Spelling.{refusal}
-use Rattle.lapi_base.specs.Written.{packet_size}
-use Rattle.lapi_base.specs.Record.{followed, Run, out, all_numbers, some_number, note_of, after_land, has_number, has_ack, covers, is_number, is_delivered, is_acked, arrival, ack, with_handed, hand_over, deliver_entry, deliver, reply_with, perform, after}
-use Rattle.lapi_base.specs.Seen.{HoldsOfRecords}
+use Rattle.lapi_base.specs.Record.Handlers.{has_completion}
+use Rattle.lapi_base.specs.Record.Names.{leg_eq, Copied, happened}
+use Rattle.lapi_base.specs.Record.Operations.{statement, is_am, has_back, cmpl_counter, receiver}
+use Rattle.lapi_base.specs.Packet.Spelling.{refusal}
+use Rattle.lapi_base.specs.Packet.PacketBytes.{packet_size}
+use Rattle.lapi_base.specs.Record.Wires.{Run, numbered, all_numbers, some_number, has_number, has_ack, covers, is_number, is_delivered, is_acked, ack}
+use Rattle.lapi_base.specs.Record.Acts.{followed, note_of, after_land, first_delivery, with_handed, hand_over, deliver_entry, deliver, reply_with, perform, after}
+use Rattle.lapi_base.specs.Record.WorldView.{HoldsOfRecords}
 use Rattle.lapi_base.proofs.BelowLaws.{least_missing-not}
 use Rattle.lapi_base.proofs.ListLaws.{all-append, get-front, get-back, all-get}
 use Rattle.lapi_base.proofs.TestLaws.{eqb-refl}
-use Rattle.lapi_laws.proofs.Out.{out-later}
+use Rattle.lapi_laws.proofs.Out.{numbered-later}
 use Rattle.lapi_laws.proofs.Sound.{Fits, known, acked-delivered}
 use Rattle.lapi_laws.proofs.SentWindow.{number-append}
 use Rattle.lapi_laws.proofs.Lines.{SoundRun, deliver-sound}
 use Rattle.lapi_parts.proofs.Records.{record-sound}
 use Rattle.lapi_parts.proofs.FirstLayout.{told-now}
-use Rattle.lapi_base.proofs.NameLaws.{done-grown}
-use Rattle.lapi_parts.proofs.HandedPackets.{out-has, out-below, out-unique}
+use Rattle.lapi_base.proofs.NameLaws.{happened-grown}
+use Rattle.lapi_parts.proofs.HandedPackets.{numbered-has, numbered-below, numbered-unique}
 use Rattle.lapi_flush.specs.Served.{delivers, served, IsAck, AddsAcks, IsOfMessage, AddsEvents, IsPart, IsServed, AllNamed, PartsAreServed}
 
 -- ---- lists
@@ -74,9 +75,9 @@ module _ (script : Script) (rules : Rules) where
   unfolding has_ack
   ack-cons p ps n = refl
 
-  pub grown-out : (later J : List Event) (a b n : ℕ) (x : MsgName × ℕ) → slice_get (out script J a b) n ≡ Some x → slice_get (out script (later ++ J) a b) n ≡ Some x
+  pub grown-out : (later J : List Event) (a b n : ℕ) (x : MsgName × ℕ) → slice_get (numbered script J a b) n ≡ Some x → slice_get (numbered script (later ++ J) a b) n ≡ Some x
   grown-out [] J a b n x h = h
-  grown-out (e ∷ later) J a b n x h = out-later script e (later ++ J) a b n x (grown-out later J a b n x h)
+  grown-out (e ∷ later) J a b n x h = numbered-later script e (later ++ J) a b n x (grown-out later J a b n x h)
 
   -- events of messages, one after another
   pub events-on : (old mid new : List Event) → AddsEvents old mid → AddsEvents mid new → AddsEvents old new
@@ -90,12 +91,12 @@ module _ (script : Script) (rules : Rules) where
   note-of_messages : (m : MsgName) → AllByRecursion IsOfMessage (note_of script rules m)
   note-of_messages m = cond_both (is_some (cmpl_counter (statement script m.origin m.statement))) _ [] (AllByRecursion IsOfMessage) (λ _. (tt, tt)) (λ _. tt)
 
-  arrival-of_messages : (r : Run) (a b : ℕ) (m : MsgName) (n : ℕ) → AllByRecursion IsOfMessage (arrival script rules r a b m n)
-  unfolding arrival
+  arrival-of_messages : (r : Run) (a b : ℕ) (m : MsgName) (n : ℕ) → AllByRecursion IsOfMessage (first_delivery script rules r a b m n)
+  unfolding first_delivery
   arrival-of_messages r a b m n =
       all-append IsOfMessage _ _
-      (cond_both (is_am (statement script m.origin m.statement) && leg_eq m.leg Go && not (some_number script (out script r.journal a b) m (is_delivered r a b))) _ [] (AllByRecursion IsOfMessage) (λ _. (tt, tt)) (λ _. tt))
-      (cond_both (all_numbers script (out script r.journal a b) m (λ k. k == n || is_delivered r a b k)) (Land m ∷ after_land script rules m) [] (AllByRecursion IsOfMessage)
+      (cond_both (is_am (statement script m.origin m.statement) && leg_eq m.leg Go && not (some_number script (numbered script r.journal a b) m (is_delivered r a b))) _ [] (AllByRecursion IsOfMessage) (λ _. (tt, tt)) (λ _. tt))
+      (cond_both (all_numbers script (numbered script r.journal a b) m (λ k. k == n || is_delivered r a b k)) (Land m ∷ after_land script rules m) [] (AllByRecursion IsOfMessage)
       (λ _. (
         tt,
         cond_both (leg_eq m.leg Go) _ [] (AllByRecursion IsOfMessage)
@@ -125,10 +126,10 @@ module _ (script : Script) (rules : Rules) where
   abbrev Tells : (ℕ → Bool) → Packet → Type 0
   Tells set q = (top : ℕ) → ((m : ℕ) → m < top → set m ≡ true) → (m : ℕ) → m < top → covers m q ≡ true
 
-  ack-tells : (t : Run) (a b : ℕ) → ((m : ℕ) → is_delivered t a b m ≡ true → m < length (out script t.journal a b)) → (least : ℕ) × (bits : ℕ) × (ack script rules t a b ≡ Ack b a least bits) × Tells (is_delivered t a b) (Ack b a least bits)
+  ack-tells : (t : Run) (a b : ℕ) → ((m : ℕ) → is_delivered t a b m ≡ true → m < length (numbered script t.journal a b)) → (least : ℕ) × (bits : ℕ) × (ack script rules t a b ≡ Ack b a least bits) × Tells (is_delivered t a b) (Ack b a least bits)
   unfolding ack
   ack-tells t a b below =
-      let len = length (out script t.journal a b) in
+      let len = length (numbered script t.journal a b) in
       let least = least_missing len (is_delivered t a b) in
       let bits = bits_of (window_of script) (λ i. is_delivered t a b (least + i)) in
       (least, bits, refl, λ top all m l. or_left (nat_lt m least) (has_bit bits (m - least)) (lt-ltb m least (let up = least-above len top (is_delivered t a b) below all in omega arith)))
@@ -188,21 +189,21 @@ module _ (script : Script) (rules : Rules) where
 
     on-events : (s : Run) (p : DataPacket) → AddsEvents s.journal (handed-on s p).journal
     unfolding handed-on hand_over
-    on-events s p = events-followed (cond (is_delivered s a b p.seq) [] (arrival script rules s a b p.name p.seq)) s.journal (cond_both (is_delivered s a b p.seq) [] (arrival script rules s a b p.name p.seq) (AllByRecursion IsOfMessage) (λ _. tt) (λ _. arrival-of_messages s a b p.name p.seq))
+    on-events s p = events-followed (cond (is_delivered s a b p.seq) [] (first_delivery script rules s a b p.name p.seq)) s.journal (cond_both (is_delivered s a b p.seq) [] (first_delivery script rules s a b p.name p.seq) (AllByRecursion IsOfMessage) (λ _. tt) (λ _. arrival-of_messages s a b p.name p.seq))
 
     -- what is handed over is known to the link
-    known-numbers : (s : Run) (p : DataPacket) (k : ℕ) → SoundRun script rules s → slice_get (s.wire a b) k ≡ Some (Data p) → (m : ℕ) → is_delivered (with_handed script rules s a b (Data p)) a b m ≡ true → m < length (out script s.journal a b)
+    known-numbers : (s : Run) (p : DataPacket) (k : ℕ) → SoundRun script rules s → slice_get (s.wire a b) k ≡ Some (Data p) → (m : ℕ) → is_delivered (with_handed script rules s a b (Data p)) a b m ≡ true → m < length (numbered script s.journal a b)
     known-numbers s p k sound e m d =
         let here : is_delivered (with_handed script rules s a b (Data p)) a b m ≡ (is_number m (Data p) || has_number (s.handed a b) m) =
         ap (λ ps. has_number ps m) (cond-true (a == a && b == b) (Data p ∷ s.handed a b) (s.handed a b) (and_from _ _ (eqb-refl a) (eqb-refl b))) ∙ number-cons (Data p) (s.handed a b) m in
         ⊎_elim
         (λ (x : is_number m (Data p) ≡ true).
         let fit = all-get (Fits script rules s.journal s.handed a b) (s.wire a b) k (Data p) (sound.wires a b) e in
-        let l = place-below (out script s.journal a b) p.seq (p.name, p.fragment) fit in
-        subst (λ n. n < length (out script s.journal a b)) (eqb-true p.seq m x) l)
+        let l = place-below (numbered script s.journal a b) p.seq (p.name, p.fragment) fit in
+        subst (λ n. n < length (numbered script s.journal a b)) (eqb-true p.seq m x) l)
         (λ (x : has_number (s.handed a b) m ≡ true).
         let q = known script rules s.journal s.wire s.handed sound a b m x in
-        place-below (out script s.journal a b) m q.0 q.1)
+        place-below (numbered script s.journal a b) m q.0 q.1)
         (or_cases (is_number m (Data p)) (has_number (s.handed a b) m) (sym here ∙ d))
 
     same-delivered : (s : Run) (p : DataPacket) (m : ℕ) → is_delivered (with_handed script rules s a b (Data p)) a b m ≡ is_delivered (handed-on s p) a b m
@@ -343,15 +344,15 @@ module _ (script : Script) (rules : Rules) where
               ack-now s told.0 told.1 m (told.3 top (all-delivered s mid) m (part.sent m old));
           stays = λ x y m h. ack-acked s told.0 told.1 x y m (mid.stays x y m h);
           landed = λ m from to copied sent.
-              let here = subst (λ J. done (Copied m) J ≡ true) (sym events.1) (done-grown events.0 r.journal (Copied m) copied) in
+              let here = subst (λ J. happened (Copied m) J ≡ true) (sym events.1) (happened-grown events.0 r.journal (Copied m) copied) in
               sound.arrived m here
               (λ n is.
               let at = is.1 in
-              let ours : slice_get (out script t.journal a b) n ≡ Some (m, is.0) = subst (λ y. slice_get (out script t.journal a y) n ≡ Some (m, is.0)) to (subst (λ x. slice_get (out script t.journal x (receiver script m)) n ≡ Some (m, is.0)) from at) in
-              let old = out-has script r.journal m is.0 copied (out-below script t.journal a b n (m, is.0) ours) in
-              let first_place : slice_get (out script r.journal a b) old.0 ≡ Some (m, is.0) = subst (λ y. slice_get (out script r.journal a y) old.0 ≡ Some (m, is.0)) to (subst (λ x. slice_get (out script r.journal x (receiver script m)) old.0 ≡ Some (m, is.0)) from old.1) in
-              let later : slice_get (out script t.journal a b) old.0 ≡ Some (m, is.0) = subst (λ J. slice_get (out script J a b) old.0 ≡ Some (m, is.0)) (sym events.1) (grown-out events.0 r.journal a b old.0 (m, is.0) first_place) in
-              let number = out-unique script rules t.journal sound.atomic a b n old.0 (m, is.0) ours later in
+              let ours : slice_get (numbered script t.journal a b) n ≡ Some (m, is.0) = subst (λ y. slice_get (numbered script t.journal a y) n ≡ Some (m, is.0)) to (subst (λ x. slice_get (numbered script t.journal x (receiver script m)) n ≡ Some (m, is.0)) from at) in
+              let old = numbered-has script r.journal m is.0 copied (numbered-below script t.journal a b n (m, is.0) ours) in
+              let first_place : slice_get (numbered script r.journal a b) old.0 ≡ Some (m, is.0) = subst (λ y. slice_get (numbered script r.journal a y) old.0 ≡ Some (m, is.0)) to (subst (λ x. slice_get (numbered script r.journal x (receiver script m)) old.0 ≡ Some (m, is.0)) from old.1) in
+              let later : slice_get (numbered script t.journal a b) old.0 ≡ Some (m, is.0) = subst (λ J. slice_get (numbered script J a b) old.0 ≡ Some (m, is.0)) (sym events.1) (grown-out events.0 r.journal a b old.0 (m, is.0) first_place) in
+              let number = numbered-unique script rules t.journal sound.atomic a b n old.0 (m, is.0) ours later in
               let low = part.sent old.0 (sent old.0 is.0 first_place) in
               let got = ack-delivered s told.0 told.1 a b old.0 (all-delivered s mid old.0 low) in
               let own : is_delivered t a b n ≡ true = subst (λ i. is_delivered t a b i ≡ true) (sym number) got in

@@ -3,7 +3,7 @@ use Rattle.std.proofs.Common.{◌≡◌, [], ◌∷◌, refl, None}
 use Rattle.lapi_base.specs.declared.address.Addr.TheVariants.{Plain}
 use Rattle.lapi_base.specs.declared.statement.Statement.TheVariants.{Put, Get}
 use Rattle.lapi_base.specs.declared.schedule.Act.TheVariants.{Step, Poll, Deliver}
-use Rattle.lapi_laws.proofs.Rows.{Row, builtin, run, two_tasks}
+use Rattle.lapi_laws.proofs.WorkedRuns.{Row, builtin, run, two_tasks}
 use Rattle.lapi_flush.specs.Served.{delivers, served}
 use Rattle.lapi_flush.specs.Flushed.{data_count, link_acts, flush}
 use Rattle.lapi_flush.specs.Swept.{sweep_to, sweep}

@@ -10,14 +10,15 @@ use Rattle.lapi_base.specs.declared.message.MsgName.{MsgName}
 use Rattle.lapi_base.specs.declared.event.Event.{Event}
 use Rattle.lapi_base.specs.declared.event.Event.TheVariants.{Issue, Refuse, Enter, Pass, Copy, Head, Land, Begin, End}
 use Rattle.lapi_base.specs.declared.schedule.Act.{Act}
-use Rattle.lapi_base.specs.Names.{message, Deed, Issued, Refused, Entered, Passed, Copied, Landed, deed, done}
-use Rattle.lapi_base.specs.Operations.{upto, statements, statement, is_data, has_join}
-use Rattle.lapi_base.specs.Spelling.{refusal}
-use Rattle.lapi_base.specs.Written.{packet_size}
-use Rattle.lapi_base.specs.Refusals.{next}
-use Rattle.lapi_base.specs.Record.{Run, out, joins, to_copy_of, ready, copy_each, perform, after}
-use Rattle.lapi_base.specs.Seen.{HoldsOfRecords}
-use Rattle.lapi_base.proofs.NameLaws.{done-cases, done-later, done-head, done-grown}
+use Rattle.lapi_base.specs.Record.Names.{message, EventKey, Issued, Refused, Entered, Passed, Copied, Landed, key_of, happened}
+use Rattle.lapi_base.specs.Record.Operations.{numbers_below, statements, statement, is_data, has_join}
+use Rattle.lapi_base.specs.Packet.Spelling.{refusal}
+use Rattle.lapi_base.specs.Packet.PacketBytes.{packet_size}
+use Rattle.lapi_base.specs.Record.Refusals.{next}
+use Rattle.lapi_base.specs.Record.Wires.{Run, numbered}
+use Rattle.lapi_base.specs.Record.Acts.{joins, to_copy_of, ready, copy_each, perform, after}
+use Rattle.lapi_base.specs.Record.WorldView.{HoldsOfRecords}
+use Rattle.lapi_base.proofs.NameLaws.{happened-cases, happened-later, happened-head, happened-grown}
 use Rattle.lapi_laws.proofs.Lines.{SoundRun}
 use Rattle.lapi_parts.proofs.Records.{record-sound}
 use Rattle.lapi_parts.proofs.LocalQuestions.{by_points}
@@ -30,14 +31,14 @@ use Rattle.lapi_flush.proofs.FlushedTasks.{flush-named, flushed, flush-sound, po
 
 -- ---- events of messages change nothing of statements
 
-IsOfStatement : Deed → Type 0
+IsOfStatement : EventKey → Type 0
 IsOfStatement (Issued a i) = Unit {0}
 IsOfStatement (Refused a i) = Unit {0}
 IsOfStatement (Entered a i) = Unit {0}
 IsOfStatement (Passed a i) = Unit {0}
 IsOfStatement _ = ⊥
 
-apart-deeds : (e : Event) (d : Deed) → IsOfMessage e → IsOfStatement d → d ≡ deed e → ⊥
+apart-deeds : (e : Event) (d : EventKey) → IsOfMessage e → IsOfStatement d → d ≡ key_of e → ⊥
 unfolding IsOfStatement
 apart-deeds (Issue a i) d h g q = h
 apart-deeds (Refuse a i why) d h g q = h
@@ -49,23 +50,23 @@ apart-deeds (Land m) d h g q = subst IsOfStatement q g
 apart-deeds (Begin m t w) d h g q = subst IsOfStatement q g
 apart-deeds (End m t w) d h g q = subst IsOfStatement q g
 
--- a deed that no event of a kind does was done before such events
-pub done-before : (P : Event → Type 0) (d : Deed) → ((e : Event) → P e → d ≡ deed e → ⊥) → (later J : List Event) → AllByRecursion P later → done d (later ++ J) ≡ true → done d J ≡ true
-done-before P d apart [] J h x = x
-done-before P d apart (e ∷ later) J h x =
+-- a key_of that no event of a kind does was happened before such events
+pub happened-before : (P : Event → Type 0) (d : EventKey) → ((e : Event) → P e → d ≡ key_of e → ⊥) → (later J : List Event) → AllByRecursion P later → happened d (later ++ J) ≡ true → happened d J ≡ true
+happened-before P d apart [] J h x = x
+happened-before P d apart (e ∷ later) J h x =
     ⊎_elim
-    (λ (y : d ≡ deed e). absurd (apart e h.0 y))
-    (λ (y : done d (later ++ J) ≡ true). done-before P d apart later J h.1 y)
-    (done-cases d e (later ++ J) x)
+    (λ (y : d ≡ key_of e). absurd (apart e h.0 y))
+    (λ (y : happened d (later ++ J) ≡ true). happened-before P d apart later J h.1 y)
+    (happened-cases d e (later ++ J) x)
 
-pub kept-done : (J K : List Event) (d : Deed) → AddsEvents J K → done d J ≡ true → done d K ≡ true
-kept-done J K d x h = subst (λ L. done d L ≡ true) (sym x.1) (done-grown x.0 J d h)
+pub kept-done : (J K : List Event) (d : EventKey) → AddsEvents J K → happened d J ≡ true → happened d K ≡ true
+kept-done J K d x h = subst (λ L. happened d L ≡ true) (sym x.1) (happened-grown x.0 J d h)
 
-same-done : (J K : List Event) (d : Deed) → AddsEvents J K → IsOfStatement d → done d K ≡ done d J
+same-done : (J K : List Event) (d : EventKey) → AddsEvents J K → IsOfStatement d → happened d K ≡ happened d J
 same-done J K d x g =
-    elim (cases_Bool (done d J)) [
+    elim (cases_Bool (happened d J)) [
       | inl h ↦ kept-done J K d x h ∙ sym h
-      | inr h ↦ false_from_ne_true _ (λ y. both_ways _ h (done-before IsOfMessage d (λ e of. apart-deeds e d of g) x.0 J x.2 (subst (λ L. done d L ≡ true) x.1 y))) ∙ sym h
+      | inr h ↦ false_from_ne_true _ (λ y. both_ways _ h (happened-before IsOfMessage d (λ e of. apart-deeds e d of g) x.0 J x.2 (subst (λ L. happened d L ≡ true) x.1 y))) ∙ sym h
     ]
 
 next-on : (later J : List Event) (a : ℕ) → AllByRecursion IsOfMessage later → next (later ++ J) a ≡ next J a
@@ -84,34 +85,34 @@ next-on (End m t w ∷ later) J a h = next-on later J a h.1
 pub same-next : (J K : List Event) (a : ℕ) → AddsEvents J K → next K a ≡ next J a
 same-next J K a x = ap (λ L. next L a) x.1 ∙ next-on x.0 J a x.2
 
-pub same-issued : (J K : List Event) (a i : ℕ) → AddsEvents J K → done (Issued a i) K ≡ done (Issued a i) J
+pub same-issued : (J K : List Event) (a i : ℕ) → AddsEvents J K → happened (Issued a i) K ≡ happened (Issued a i) J
 unfolding IsOfStatement
 same-issued J K a i x = same-done J K (Issued a i) x tt
 
-pub same-entered : (J K : List Event) (a i : ℕ) → AddsEvents J K → done (Entered a i) K ≡ done (Entered a i) J
+pub same-entered : (J K : List Event) (a i : ℕ) → AddsEvents J K → happened (Entered a i) K ≡ happened (Entered a i) J
 unfolding IsOfStatement
 same-entered J K a i x = same-done J K (Entered a i) x tt
 
 -- ---- what a Poll copies
 
-copies-all : (ms : List MsgName) (J : List Event) (m : MsgName) → done (Copied m) J ≡ true → done (Copied m) (copy_each J ms) ≡ true
+copies-all : (ms : List MsgName) (J : List Event) (m : MsgName) → happened (Copied m) J ≡ true → happened (Copied m) (copy_each J ms) ≡ true
 unfolding copy_each
 copies-all [] J m h = h
-copies-all (n ∷ ms) J m h = copies-all ms (cond (done (Copied n) J) J (Copy n ∷ J)) m (cond_both (done (Copied n) J) J (Copy n ∷ J) (λ K. done (Copied m) K ≡ true) (λ _. h) (λ _. done-later (Copied m) (Copy n) J h))
+copies-all (n ∷ ms) J m h = copies-all ms (cond (happened (Copied n) J) J (Copy n ∷ J)) m (cond_both (happened (Copied n) J) J (Copy n ∷ J) (λ K. happened (Copied m) K ≡ true) (λ _. h) (λ _. happened-later (Copied m) (Copy n) J h))
 
-all-copied : (ms : List MsgName) (J : List Event) → AllByRecursion (λ m. done (Copied m) (copy_each J ms) ≡ true) ms
+all-copied : (ms : List MsgName) (J : List Event) → AllByRecursion (λ m. happened (Copied m) (copy_each J ms) ≡ true) ms
 unfolding copy_each
 all-copied [] J = tt
 all-copied (m ∷ ms) J =
-    (copies-all ms (cond (done (Copied m) J) J (Copy m ∷ J)) m (cond_both (done (Copied m) J) J (Copy m ∷ J) (λ K. done (Copied m) K ≡ true) (λ h. h) (λ _. done-head (Copy m) J)), all-copied ms (cond (done (Copied m) J) J (Copy m ∷ J)))
+    (copies-all ms (cond (happened (Copied m) J) J (Copy m ∷ J)) m (cond_both (happened (Copied m) J) J (Copy m ∷ J) (λ K. happened (Copied m) K ≡ true) (λ h. h) (λ _. happened-head (Copy m) J)), all-copied ms (cond (happened (Copied m) J) J (Copy m ∷ J)))
 
 module _ (script : Script) (rules : Rules) where
   copies-add : (ms : List MsgName) (J : List Event) → AddsEvents J (copy_each J ms)
   unfolding copy_each
   copies-add [] J = ([], refl, tt)
   copies-add (m ∷ ms) J =
-      let K = cond (done (Copied m) J) J (Copy m ∷ J) in
-      events-on script rules J K (copy_each K ms) (cond_both (done (Copied m) J) J (Copy m ∷ J) (AddsEvents J) (λ _. ([], refl, tt)) (λ _. (Copy m ∷ [], refl, (tt, tt)))) (copies-add ms K)
+      let K = cond (happened (Copied m) J) J (Copy m ∷ J) in
+      events-on script rules J K (copy_each K ms) (cond_both (happened (Copied m) J) J (Copy m ∷ J) (AddsEvents J) (λ _. ([], refl, tt)) (λ _. (Copy m ∷ [], refl, (tt, tt)))) (copies-add ms K)
 
   pub polled-adds : (r : Run) (t : ℕ) → AddsEvents r.journal (polled script rules r t)
   polled-adds r t = copies-add (ready script r.journal t) r.journal
@@ -119,12 +120,12 @@ module _ (script : Script) (rules : Rules) where
   -- what is ready hangs on statements alone
   to_copy-same : (J K : List Event) (t i : ℕ) → AddsEvents J K → to_copy_of script K t i ≡ to_copy_of script J t i
   to_copy-same J K t i x =
-      ap (λ b. cond (is_data (statement script t i) && b) (message t i Go ∷ []) (cond (has_join (statement script t i) && done (Entered t i) K) (joins script t i) [])) (same-issued J K t i x)
-      ∙ ap (λ b. cond (is_data (statement script t i) && done (Issued t i) J) (message t i Go ∷ []) (cond (has_join (statement script t i) && b) (joins script t i) [])) (same-entered J K t i x)
+      ap (λ b. cond (is_data (statement script t i) && b) (message t i Go ∷ []) (cond (has_join (statement script t i) && happened (Entered t i) K) (joins script t i) [])) (same-issued J K t i x)
+      ∙ ap (λ b. cond (is_data (statement script t i) && happened (Issued t i) J) (message t i Go ∷ []) (cond (has_join (statement script t i) && b) (joins script t i) [])) (same-entered J K t i x)
 
   pub same-ready : (J K : List Event) (t : ℕ) → AddsEvents J K → ready script K t ≡ ready script J t
   unfolding ready
-  same-ready J K t x = ap (λ f. flat_map f (upto (length (statements script t)))) (by_points _ _ (λ i. to_copy-same J K t i x))
+  same-ready J K t x = ap (λ f. flat_map f (numbers_below (length (statements script t)))) (by_points _ _ (λ i. to_copy-same J K t i x))
 
   -- ---- task by task
 
@@ -160,7 +161,7 @@ module _ (script : Script) (rules : Rules) where
                 until = events-on script rules mark.then_journal u.journal v.journal mark.until on;
                 copied = mark.copied;
                 landed = λ m from to h. kept-done u.journal v.journal (Landed m) on (mark.landed m from to h);
-                calm = λ b lb. f.others a b (length (out script mark.then_journal a b)) (λ e. absurd (omega arith)) (mark.calm b lb);
+                calm = λ b lb. f.others a b (length (numbered script mark.then_journal a b)) (λ e. absurd (omega arith)) (mark.calm b lb);
               })
               (λ (ge : t ≤ a).
               let same : t ≡ a = omega arith in
@@ -169,7 +170,7 @@ module _ (script : Script) (rules : Rules) where
                 then_journal = K;
                 since = adds;
                 until = f.events;
-                copied = subst (λ ms. AllByRecursion (λ m. done (Copied m) K ≡ true) ms) (same-ready r.journal u.journal t k.events) (all-copied (ready script u.journal t) u.journal);
+                copied = subst (λ ms. AllByRecursion (λ m. happened (Copied m) K ≡ true) ms) (same-ready r.journal u.journal t k.events) (all-copied (ready script u.journal t) u.journal);
                 landed = f.landed;
                 calm = f.own;
               }))

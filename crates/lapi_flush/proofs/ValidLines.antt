@@ -11,16 +11,17 @@ use Rattle.lapi_base.specs.declared.schedule.Act.TheVariants.{Step, Poll, Tick, 
 use Rattle.lapi_base.specs.declared.reply.Reply.TheVariants.{Idle}
 use Rattle.lapi_base.specs.declared.packet.Packet.{Packet}
 use Rattle.lapi_base.specs.declared.packet.Packet.TheVariants.{Data, Ack}
-use Rattle.lapi_base.specs.Operations.{statements}
-use Rattle.lapi_base.specs.Spelling.{refusal}
-use Rattle.lapi_base.specs.Written.{packet_size}
-use Rattle.lapi_base.specs.Refusals.{next, why}
-use Rattle.lapi_base.specs.Valid.{ValidAct}
-use Rattle.lapi_base.specs.Layout.{holds_back}
-use Rattle.lapi_base.specs.Record.{Run, packets, fresh, ready, copy_each, ack, with_handed, at_once, owed_ack, hand_over, deliver_entry, deliver, reply_with, unless_refused, add_event, step, poll, perform, after}
+use Rattle.lapi_base.specs.Record.Operations.{statements}
+use Rattle.lapi_base.specs.Packet.Spelling.{refusal}
+use Rattle.lapi_base.specs.Packet.PacketBytes.{packet_size}
+use Rattle.lapi_base.specs.Record.Refusals.{next, refusal_of}
+use Rattle.lapi_base.specs.Record.Valid.{ValidAct}
+use Rattle.lapi_base.specs.Packet.Layout.{holds_back}
+use Rattle.lapi_base.specs.Record.Wires.{Run, packets, to_send, ack, owed_ack}
+use Rattle.lapi_base.specs.Record.Acts.{ready, copy_each, with_handed, at_once, hand_over, deliver_entry, deliver, reply_with, unless_refused, add_event, step, poll, perform, after}
 use Rattle.lapi_flush.specs.Served.{IsNamed, AllNamed}
 use Rattle.lapi_flush.specs.Flushed.{data_count}
-use Rattle.lapi_laws.proofs.Told.{IsData, packets-data}
+use Rattle.lapi_laws.proofs.LastAck.{IsData, packets-data}
 use Rattle.lapi_flush.proofs.FlushedTasks.{count-append, count-data}
 
 -- a wire has data packets more, and one entry at most
@@ -63,14 +64,14 @@ module _ (script : Script) (rules : Rules) where
   unfolding perform step poll deliver
   act-extends r (Step t) a b h =
       let i = next r.journal t in
-      cond_both (nat_lt i (length (statements script t))) (add_event script rules r (unless_refused script rules r t i (why script rules r.journal t i))) (reply_with script rules r Idle) (λ s. Extends (r.wire a b) (s.wire a b))
-      (λ _. elim (unless_refused script rules r t i (why script rules r.journal t i)) as (λ o. Extends (r.wire a b) ((add_event script rules r o).wire a b)) [ None ↦ same-wire (r.wire a b) | Some e ↦ same-wire (r.wire a b) ])
+      cond_both (nat_lt i (length (statements script t))) (add_event script rules r (unless_refused script rules r t i (refusal_of script rules r.journal t i))) (reply_with script rules r Idle) (λ s. Extends (r.wire a b) (s.wire a b))
+      (λ _. elim (unless_refused script rules r t i (refusal_of script rules r.journal t i)) as (λ o. Extends (r.wire a b) ((add_event script rules r o).wire a b)) [ None ↦ same-wire (r.wire a b) | Some e ↦ same-wire (r.wire a b) ])
       (λ _. same-wire (r.wire a b))
   act-extends r (Poll t) a b h =
       let J = copy_each r.journal (ready script r.journal t) in
-      let more = packets script rules J a b (fresh script rules r J a b) in
+      let more = packets script rules J a b (to_send script rules r J a b) in
       let owed = owed_ack script rules r b a in
-      cond_both (a == t) (r.wire a b ++ (more ++ owed)) (r.wire a b) (Extends (r.wire a b)) (λ _. (more, owed, refl, packets-data script rules J a b (fresh script rules r J a b), owed-short r b a)) (λ _. same-wire (r.wire a b))
+      cond_both (a == t) (r.wire a b ++ (more ++ owed)) (r.wire a b) (Extends (r.wire a b)) (λ _. (more, owed, refl, packets-data script rules J a b (to_send script rules r J a b), owed-short r b a)) (λ _. same-wire (r.wire a b))
   act-extends r (Deliver x y k) a b h =
       elim (slice_get (r.wire x y) k) as (λ o. Extends (r.wire a b) ((deliver_entry script rules r x y o).wire a b)) [
         | None ↦ same-wire (r.wire a b)

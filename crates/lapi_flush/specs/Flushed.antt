@@ -9,13 +9,14 @@ use Rattle.lapi_base.specs.declared.schedule.Act.{Act}
 use Rattle.lapi_base.specs.declared.schedule.Act.TheVariants.{Poll}
 use Rattle.lapi_base.specs.declared.packet.Packet.{Packet}
 use Rattle.lapi_base.specs.declared.packet.Packet.TheVariants.{Data, Ack}
-use Rattle.lapi_base.specs.Layout.{window_of, holds_back}
-use Rattle.lapi_base.specs.Names.{Copied, Landed}
-use Rattle.lapi_base.specs.Operations.{sender, receiver}
-use Rattle.lapi_base.specs.Spelling.{refusal}
-use Rattle.lapi_base.specs.Written.{packet_size}
-use Rattle.lapi_base.specs.Record.{Run, out, is_sent, is_acked, ready, copy_each, after, poll}
-use Rattle.lapi_base.specs.Headline.{Happened}
+use Rattle.lapi_base.specs.Packet.Layout.{window_of, holds_back}
+use Rattle.lapi_base.specs.Record.Names.{Copied, Landed}
+use Rattle.lapi_base.specs.Record.Operations.{sender, receiver}
+use Rattle.lapi_base.specs.Packet.Spelling.{refusal}
+use Rattle.lapi_base.specs.Packet.PacketBytes.{packet_size}
+use Rattle.lapi_base.specs.Record.Wires.{Run, numbered, is_sent, is_acked}
+use Rattle.lapi_base.specs.Record.Acts.{ready, copy_each, after, poll}
+use Rattle.lapi_base.specs.Laws.Headline.{Happened}
 use Rattle.lapi_flush.specs.Served.{AddsEvents, served}
 
 -- how many of these are data packets
@@ -64,7 +65,7 @@ module _ (script : Script) (rules : Rules) where
   -- What a flush of t leaves: the links of t are calm with all numbers that they had by its Poll, each message of t
   -- that was copied by then has landed, and calm links of others still are.
   pub record IsFlushed (r s : Run) (t : ℕ) : Type 0 where
-    pub own : (b : ℕ) → b < script.tasks → IsCalm s t b (length (out script (polled r t) t b))
+    pub own : (b : ℕ) → b < script.tasks → IsCalm s t b (length (numbered script (polled r t) t b))
     pub others : (a b top : ℕ) → (a ≡ t → ⊥) → IsCalm r a b top → IsCalm s a b top
     pub landed : (m : MsgName) → sender script m ≡ t → receiver script m < script.tasks
         → Happened (Copied m) (polled r t) → Happened (Landed m) s.journal
@@ -72,10 +73,10 @@ module _ (script : Script) (rules : Rules) where
     -- it has no more than two lines for each data packet that it adds, and one
     pub lines : length (flush r t) + 2 * all_data script.tasks r ≤ 1 + 2 * all_data script.tasks s
 
-  -- where acknowledgements go out at once, the links of t are calm, and a Poll adds to each no more than the window has
+  -- where acknowledgements go numbered at once, the links of t are calm, and a Poll adds to each no more than the window has
   abbrev pub FlushesAreFlushed : Run → Type 0
   FlushesAreFlushed r = holds_back script ≡ false → (t : ℕ) (tops : ℕ → ℕ)
       → t < script.tasks
       → ((b : ℕ) → b < script.tasks → IsCalm r t b (tops b))
-      → ((b : ℕ) → b < script.tasks → length (out script (polled r t) t b) ≤ tops b + window_of script)
+      → ((b : ℕ) → b < script.tasks → length (numbered script (polled r t) t b) ≤ tops b + window_of script)
       → IsFlushed r (after script rules packet_size refusal r (flush r t)) t

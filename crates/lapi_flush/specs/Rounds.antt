@@ -8,15 +8,16 @@ use Rattle.lapi_base.specs.declared.message.MsgName.{MsgName}
 use Rattle.lapi_base.specs.declared.event.Event.{Event}
 use Rattle.lapi_base.specs.declared.schedule.Act.{Act}
 use Rattle.lapi_base.specs.declared.schedule.Act.TheVariants.{Step}
-use Rattle.lapi_base.specs.Layout.{window_of, holds_back}
-use Rattle.lapi_base.specs.Names.{Entered}
-use Rattle.lapi_base.specs.Operations.{statements, statement, sender, receiver, fragment_count, has_leg}
-use Rattle.lapi_base.specs.Handlers.{answers}
-use Rattle.lapi_base.specs.Spelling.{refusal}
-use Rattle.lapi_base.specs.Written.{packet_size}
-use Rattle.lapi_base.specs.Refusals.{next, why}
-use Rattle.lapi_base.specs.Record.{Run, after}
-use Rattle.lapi_base.specs.Headline.{Happened}
+use Rattle.lapi_base.specs.Packet.Layout.{window_of, holds_back}
+use Rattle.lapi_base.specs.Record.Names.{Entered}
+use Rattle.lapi_base.specs.Record.Operations.{statements, statement, sender, receiver, fragment_count, has_leg}
+use Rattle.lapi_base.specs.Record.Handlers.{answers}
+use Rattle.lapi_base.specs.Packet.Spelling.{refusal}
+use Rattle.lapi_base.specs.Packet.PacketBytes.{packet_size}
+use Rattle.lapi_base.specs.Record.Refusals.{next, refusal_of}
+use Rattle.lapi_base.specs.Record.Wires.{Run}
+use Rattle.lapi_base.specs.Record.Acts.{after}
+use Rattle.lapi_base.specs.Laws.Headline.{Happened}
 use Rattle.lapi_epochs.specs.Epochs.{epoch, Has}
 use Rattle.lapi_epochs.specs.Stages.{is_store, goes, comes}
 use Rattle.lapi_flush.specs.Settled.{HasNoNotes, IsSettled, two_sweeps}
@@ -37,7 +38,7 @@ module _ (script : Script) (rules : Rules) where
   -- have no more numbers than the window.
   pub record IsFenced (rounds : ℕ) (begin fence : (round task : ℕ) → ℕ) : Type 0 where
     pub no_notes : HasNoNotes script rules
-    pub none_refused : (J : List Event) (a i : ℕ) → Has script a i → why script rules J a i ≡ None
+    pub none_refused : (J : List Event) (a i : ℕ) → Has script a i → refusal_of script rules J a i ≡ None
     pub first : (a : ℕ) → a < script.tasks → begin 0 a ≡ 0
     pub order : (k a : ℕ) → k < rounds → a < script.tasks
         → (begin k a ≤ fence k a) × (fence k a < length (statements script a)) × (begin (suc k) a ≡ suc (fence k a))

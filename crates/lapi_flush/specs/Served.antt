@@ -12,13 +12,14 @@ use Rattle.lapi_base.specs.declared.schedule.Act.TheVariants.{Step, Poll, Delive
 use Rattle.lapi_base.specs.declared.packet.DataPacket.{DataPacket}
 use Rattle.lapi_base.specs.declared.packet.Packet.{Packet}
 use Rattle.lapi_base.specs.declared.packet.Packet.TheVariants.{Data, Ack}
-use Rattle.lapi_base.specs.Layout.{holds_back}
-use Rattle.lapi_base.specs.Names.{Copied, Landed}
-use Rattle.lapi_base.specs.Operations.{sender, receiver}
-use Rattle.lapi_base.specs.Spelling.{refusal}
-use Rattle.lapi_base.specs.Written.{packet_size}
-use Rattle.lapi_base.specs.Record.{Run, out, is_sent, is_acked, perform, after}
-use Rattle.lapi_base.specs.Headline.{Happened}
+use Rattle.lapi_base.specs.Packet.Layout.{holds_back}
+use Rattle.lapi_base.specs.Record.Names.{Copied, Landed}
+use Rattle.lapi_base.specs.Record.Operations.{sender, receiver}
+use Rattle.lapi_base.specs.Packet.Spelling.{refusal}
+use Rattle.lapi_base.specs.Packet.PacketBytes.{packet_size}
+use Rattle.lapi_base.specs.Record.Wires.{Run, numbered, is_sent, is_acked}
+use Rattle.lapi_base.specs.Record.Acts.{perform, after}
+use Rattle.lapi_base.specs.Laws.Headline.{Happened}
 
 -- so many lines that deliver entries first, first + 1 .. of the wire from a to b
 unfoldable pub delivers : (a b first count : ℕ) → List Act
@@ -66,7 +67,7 @@ module _ (script : Script) (rules : Rules) where
     pub acked : (m : ℕ) → is_sent s a b m ≡ true → is_acked s a b m ≡ true
     pub stays : (x y m : ℕ) → is_acked r x y m ≡ true → is_acked s x y m ≡ true
     pub landed : (m : MsgName) → sender script m ≡ a → receiver script m ≡ b → Happened (Copied m) r.journal
-        → ((n j : ℕ) → slice_get (out script r.journal a b) n ≡ Some (m, j) → is_sent r a b n ≡ true)
+        → ((n j : ℕ) → slice_get (numbered script r.journal a b) n ≡ Some (m, j) → is_sent r a b n ≡ true)
         → Happened (Landed m) s.journal
     pub wires : (x y : ℕ) → AddsAcks (r.wire x y) (s.wire x y)
     pub events : AddsEvents r.journal s.journal
@@ -83,7 +84,7 @@ module _ (script : Script) (rules : Rules) where
   AllNamed r [] = Unit {0}
   AllNamed r (act ∷ acts) = IsNamed r act × AllNamed (perform script rules packet_size refusal r act) acts
 
-  -- where acknowledgements go out at once, a part that keeps what `IsPart` says leaves what `IsServed` says
+  -- where acknowledgements go numbered at once, a part that keeps what `IsPart` says leaves what `IsServed` says
   abbrev pub PartsAreServed : Run → Type 0
   PartsAreServed r =
       holds_back script ≡ false → (a b first last top : ℕ) → IsPart r a b first last top

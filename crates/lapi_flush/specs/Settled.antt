@@ -5,14 +5,15 @@ use Rattle.lapi_base.specs.declared.script.Script.{Script}
 use Rattle.lapi_base.specs.declared.rule.Rules.{Rules}
 use Rattle.lapi_base.specs.declared.message.MsgName.{MsgName}
 use Rattle.lapi_base.specs.declared.schedule.Act.{Act}
-use Rattle.lapi_base.specs.Layout.{holds_back}
-use Rattle.lapi_base.specs.Names.{Copied, Landed}
-use Rattle.lapi_base.specs.Operations.{statement, cmpl_counter}
-use Rattle.lapi_base.specs.Handlers.{answers}
-use Rattle.lapi_base.specs.Spelling.{refusal}
-use Rattle.lapi_base.specs.Written.{packet_size}
-use Rattle.lapi_base.specs.Record.{Run, out, ready, after}
-use Rattle.lapi_base.specs.Headline.{Happened}
+use Rattle.lapi_base.specs.Packet.Layout.{holds_back}
+use Rattle.lapi_base.specs.Record.Names.{Copied, Landed}
+use Rattle.lapi_base.specs.Record.Operations.{statement, cmpl_counter}
+use Rattle.lapi_base.specs.Record.Handlers.{answers}
+use Rattle.lapi_base.specs.Packet.Spelling.{refusal}
+use Rattle.lapi_base.specs.Packet.PacketBytes.{packet_size}
+use Rattle.lapi_base.specs.Record.Wires.{Run, numbered}
+use Rattle.lapi_base.specs.Record.Acts.{ready, after}
+use Rattle.lapi_base.specs.Laws.Headline.{Happened}
 use Rattle.lapi_epochs.specs.Epochs.{Has}
 use Rattle.lapi_flush.specs.Flushed.{IsCalm}
 use Rattle.lapi_flush.specs.Swept.{sweep, HasRoom}
@@ -25,7 +26,7 @@ module _ (script : Script) (rules : Rules) where
         → AllByRecursion (λ m. Happened (Copied m) r.journal) (ready script r.journal a)
     pub landed : (m : MsgName) → Happened (Copied m) r.journal → Happened (Landed m) r.journal
     pub calm : (a b : ℕ) → a < script.tasks → b < script.tasks
-        → IsCalm r a b (length (out script r.journal a b))
+        → IsCalm r a b (length (numbered script r.journal a b))
 
   -- no statement names a completion counter, and none answers
   abbrev pub HasNoNotes : Type 0
@@ -39,10 +40,10 @@ module _ (script : Script) (rules : Rules) where
       let first = sweep script rules r in
       first ++ sweep script rules (after script rules packet_size refusal r first)
 
-  -- where acknowledgements go out at once, nothing notifies, all links are calm, and there is room
+  -- where acknowledgements go numbered at once, nothing notifies, all links are calm, and there is room
   abbrev pub TwoSweepsSettle : Run → Type 0
   TwoSweepsSettle r = holds_back script ≡ false → HasNoNotes → (tops : ℕ → ℕ → ℕ)
       → ((a b : ℕ) → a < script.tasks → b < script.tasks
-      → IsCalm r a b (tops a b) × (tops a b ≤ length (out script r.journal a b)))
+      → IsCalm r a b (tops a b) × (tops a b ≤ length (numbered script r.journal a b)))
       → HasRoom script rules r tops
       → IsSettled (after script rules packet_size refusal r (two_sweeps r))

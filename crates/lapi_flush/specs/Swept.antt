@@ -6,14 +6,15 @@ use Rattle.lapi_base.specs.declared.rule.Rules.{Rules}
 use Rattle.lapi_base.specs.declared.message.MsgName.{MsgName}
 use Rattle.lapi_base.specs.declared.event.Event.{Event}
 use Rattle.lapi_base.specs.declared.schedule.Act.{Act}
-use Rattle.lapi_base.specs.Layout.{window_of, holds_back}
-use Rattle.lapi_base.specs.Names.{Copied, Landed}
-use Rattle.lapi_base.specs.Operations.{sender, receiver}
-use Rattle.lapi_base.specs.Spelling.{refusal}
-use Rattle.lapi_base.specs.Written.{packet_size}
-use Rattle.lapi_base.specs.Record.{Run, out, ready, after}
-use Rattle.lapi_base.specs.Atomic.{Atomic}
-use Rattle.lapi_base.specs.Headline.{Happened}
+use Rattle.lapi_base.specs.Packet.Layout.{window_of, holds_back}
+use Rattle.lapi_base.specs.Record.Names.{Copied, Landed}
+use Rattle.lapi_base.specs.Record.Operations.{sender, receiver}
+use Rattle.lapi_base.specs.Packet.Spelling.{refusal}
+use Rattle.lapi_base.specs.Packet.PacketBytes.{packet_size}
+use Rattle.lapi_base.specs.Record.Wires.{Run, numbered}
+use Rattle.lapi_base.specs.Record.Acts.{ready, after}
+use Rattle.lapi_base.specs.Record.Atomic.{Atomic}
+use Rattle.lapi_base.specs.Laws.Headline.{Happened}
 use Rattle.lapi_flush.specs.Served.{AddsEvents}
 use Rattle.lapi_flush.specs.Flushed.{IsCalm, flush}
 
@@ -32,7 +33,7 @@ module _ (script : Script) (rules : Rules) where
   HasRoom r tops =
       (K : List Event) → Atomic script rules K → AddsEvents r.journal K
       → (a b : ℕ) → a < script.tasks → b < script.tasks
-      → length (out script K a b) ≤ tops a b + window_of script
+      → length (numbered script K a b) ≤ tops a b + window_of script
 
   -- What a sweep leaves of task a: by some time in it all messages that were ready at a were copied; they, and all
   -- others that a had copied by then, have landed, and the links of a are calm with all numbers that they had then.
@@ -43,9 +44,9 @@ module _ (script : Script) (rules : Rules) where
     pub copied : AllByRecursion (λ m. Happened (Copied m) then_journal) (ready script r.journal a)
     pub landed : (m : MsgName) → sender script m ≡ a → receiver script m < script.tasks
         → Happened (Copied m) then_journal → Happened (Landed m) s.journal
-    pub calm : (b : ℕ) → b < script.tasks → IsCalm s a b (length (out script then_journal a b))
+    pub calm : (b : ℕ) → b < script.tasks → IsCalm s a b (length (numbered script then_journal a b))
 
-  -- where acknowledgements go out at once, all links are calm, and there is room
+  -- where acknowledgements go numbered at once, all links are calm, and there is room
   abbrev pub SweepsAreSwept : Run → Type 0
   SweepsAreSwept r = holds_back script ≡ false → (tops : ℕ → ℕ → ℕ)
       → ((a b : ℕ) → a < script.tasks → b < script.tasks → IsCalm r a b (tops a b))

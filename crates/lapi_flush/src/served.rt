@@ -1,5 +1,5 @@
 //! What served parts of a schedule, and flushes of tasks, leave.
-ghost use Rattle.lapi_base.specs.Seen.{HoldsOfRecords};
+ghost use Rattle.lapi_base.specs.Record.WorldView.{HoldsOfRecords};
 ghost use Rattle.lapi_flush.specs.Served.{PartsAreServed};
 ghost use Rattle.lapi_flush.specs.Flushed.{FlushesAreFlushed};
 

@@ -1,5 +1,5 @@
 //! What sweeps, in which each task is flushed once, leave.
-ghost use Rattle.lapi_base.specs.Seen.{HoldsOfRecords};
+ghost use Rattle.lapi_base.specs.Record.WorldView.{HoldsOfRecords};
 ghost use Rattle.lapi_flush.specs.Swept.{SweepsAreSwept};
 ghost use Rattle.lapi_flush.specs.Settled.{TwoSweepsSettle};
 

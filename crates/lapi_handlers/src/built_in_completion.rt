@@ -1,7 +1,7 @@
 //! The completion handlers that the program is run with.
 ghost use Rattle.std.specs.Prelude.{◌≡◌, ◌%◌, ◌^◌};
 ghost use Rattle.std.specs.List as lists;
-ghost use Rattle.lapi_base.specs.Handlers.{completion_answer};
+ghost use Rattle.lapi_base.specs.Record.Handlers.{completion_answer};
 ghost use Rattle.lapi_base.specs.declared.rule.CompletionRule.TheVariants.{Nothing, Sum, Same, Reversed};
 
 use lapi_base::Effect;

@@ -1,7 +1,7 @@
 //! The header handlers that the program is run with.
 ghost use Rattle.std.specs.Prelude.{◌≡◌, ◌<◌, ◌≤◌, length, take};
-ghost use Rattle.lapi_base.specs.Handlers as rules;
-ghost use Rattle.lapi_base.specs.Handlers.{header_answer};
+ghost use Rattle.lapi_base.specs.Record.Handlers as rules;
+ghost use Rattle.lapi_base.specs.Record.Handlers.{header_answer};
 ghost use Rattle.lapi_handlers.specs.BuiltInHeader.{word_rule, word_and_choice_rule, per_origin_rule, nowhere_rule};
 
 use lapi_base::{HeaderIn, HeaderOut, UserHeader};
@@ -57,7 +57,7 @@ fn user(header: &UserHeader) -> u32
 }
 
 // Word `index`, which is absent where the header is shorter.
-#[tactic(auto, unfolding(lapi_base::specs::Handlers::header_word))]
+#[tactic(auto, unfolding(lapi_base::specs::Record::Handlers::header_word))]
 fn header_word(header: &UserHeader, index: usize) -> Option<u32>
     requires { index < 3 }
     ensures { result ≡ rules.header_word header.now index }

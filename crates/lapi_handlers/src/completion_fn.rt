@@ -1,5 +1,5 @@
 ghost use Rattle.std.specs.Prelude.{◌≡◌, ℕ, ◌<◌, ◌≤◌, ◌^◌, length};
-ghost use Rattle.lapi_base.specs.Handlers.{completion_answer};
+ghost use Rattle.lapi_base.specs.Record.Handlers.{completion_answer};
 ghost use Rattle.lapi_handlers.specs.CompletionFn.{IsInRange};
 
 use lapi_base::{CompletionRule, Effect};

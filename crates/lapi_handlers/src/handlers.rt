@@ -1,5 +1,5 @@
 ghost use Rattle.std.specs.Prelude.{◌≡◌, ◌<◌, ◌≤◌, length, map, vec_len};
-ghost use Rattle.lapi_base.specs.Handlers.{header_answer, header_rule, completion_answer, completion_rule, kept_choice};
+ghost use Rattle.lapi_base.specs.Record.Handlers.{header_answer, header_rule, completion_answer, completion_rule, kept_choice};
 ghost use Rattle.lapi_handlers.specs.HeaderFn.{IsInRange};
 
 use crate::completion_fn::CompletionFn;

@@ -1,5 +1,5 @@
 ghost use Rattle.std.specs.Prelude.{◌≡◌};
-ghost use Rattle.lapi_base.specs.Handlers.{header_answer};
+ghost use Rattle.lapi_base.specs.Record.Handlers.{header_answer};
 ghost use Rattle.lapi_handlers.specs.HeaderFn.{IsInRange};
 
 use lapi_base::{HeaderIn, HeaderOut, HeaderRule};

@@ -15,16 +15,16 @@ use Rattle.lapi_base.specs.declared.event.Event.{Event}
 use Rattle.lapi_base.specs.declared.event.Event.TheVariants.{Head, Land}
 use Rattle.lapi_base.specs.declared.packet.Packet.TheVariants.{Data}
 use Rattle.lapi_base.specs.declared.packet.DataPacket.{DataPacket}
-use Rattle.lapi_base.specs.Below.{every_below}
-use Rattle.lapi_base.specs.Names.{name_eq, leg_eq, Deed, Issued, Entered, Copied, Headed, Landed, done, message}
-use Rattle.lapi_base.specs.Operations.{statement, sender, receiver, is_am, is_gfence, has_back}
-use Rattle.lapi_base.specs.Record.{out, is_number, has_number, is_of, all_numbers, some_number}
-use Rattle.lapi_base.specs.Atomic.{Atomic, Keeps, needs, copy_needs, land_needs, landed_before, has_message}
+use Rattle.lapi_base.specs.Record.Below.{every_below}
+use Rattle.lapi_base.specs.Record.Names.{name_eq, leg_eq, EventKey, Issued, Entered, Copied, Headed, Landed, happened, message}
+use Rattle.lapi_base.specs.Record.Operations.{statement, sender, receiver, is_am, is_gfence, has_back}
+use Rattle.lapi_base.specs.Record.Wires.{numbered, is_number, has_number, is_of, all_numbers, some_number}
+use Rattle.lapi_base.specs.Record.Atomic.{Atomic, Keeps, needs, copy_needs, land_needs, landed_before, has_message}
 use Rattle.lapi_base.proofs.BelowLaws.{every_below-at, every_below-fails, every_below-from}
 use Rattle.lapi_base.proofs.ListLaws.{some-same, all-weaker, list_all-at}
-use Rattle.lapi_base.proofs.NameLaws.{done-cases, done-head, done-later, leg_eq-true, name_eq-refl, name_eq-true}
+use Rattle.lapi_base.proofs.NameLaws.{happened-cases, happened-head, happened-later, leg_eq-true, name_eq-refl, name_eq-true}
 use Rattle.lapi_base.proofs.TestLaws.{eqb-refl, same_tests}
-use Rattle.lapi_laws.proofs.Out.{out-later, out-copied}
+use Rattle.lapi_laws.proofs.Out.{numbered-later, numbered-copied}
 use Rattle.lapi_laws.proofs.Backward.{Atomic-cons, closed, there}
 use Rattle.lapi_laws.proofs.Sound.{Lists, Fits, IsOf, Got, IsHeadGo, Sound, all-later, fits-more, of-later, before, landed_before-later, add_known}
 
@@ -84,25 +84,25 @@ module _ (script : Script) (rules : Rules) where
     pub atomic : Atomic script rules J
     pub wires : (a b : ℕ) → AllByRecursion (Fits script rules J handed a b) (wire a b)
     pub hands : (a b : ℕ) → AllByRecursion (Fits script rules J handed a b) (handed a b)
-    pub landed : (k : MsgName) → done (Landed k) J ≡ true → (n : ℕ) → IsOf script rules J k n → Got script rules handed k n
-    pub arrived : (k : MsgName) → (k ≡ m → ⊥) → done (Copied k) J ≡ true → ((n : ℕ) → IsOf script rules J k n → Got script rules handed k n) → done (Landed k) J ≡ true
-    pub headed : (k : MsgName) → done (Headed k) J ≡ true → (n : ℕ) × (IsOf script rules J k n × Got script rules handed k n)
-    pub heads : (k : MsgName) → (k ≡ m → ⊥) → IsHeadGo script rules k ≡ true → (n : ℕ) → IsOf script rules J k n → Got script rules handed k n → done (Headed k) J ≡ true
-    pub fences : (a i : ℕ) → is_gfence (statement script a i) ≡ true → done (Entered a i) J ≡ true → landed_before script rules J a i ≡ true
+    pub landed : (k : MsgName) → happened (Landed k) J ≡ true → (n : ℕ) → IsOf script rules J k n → Got script rules handed k n
+    pub arrived : (k : MsgName) → (k ≡ m → ⊥) → happened (Copied k) J ≡ true → ((n : ℕ) → IsOf script rules J k n → Got script rules handed k n) → happened (Landed k) J ≡ true
+    pub headed : (k : MsgName) → happened (Headed k) J ≡ true → (n : ℕ) × (IsOf script rules J k n × Got script rules handed k n)
+    pub heads : (k : MsgName) → (k ≡ m → ⊥) → IsHeadGo script rules k ≡ true → (n : ℕ) → IsOf script rules J k n → Got script rules handed k n → happened (Headed k) J ≡ true
+    pub fences : (a i : ℕ) → is_gfence (statement script a i) ≡ true → happened (Entered a i) J ≡ true → landed_before script rules J a i ≡ true
 
-  out-head : (m : MsgName) (J : List Event) (a b : ℕ) → out script (Head m ∷ J) a b ≡ out script J a b
-  unfolding out
-  out-head m J a b = refl
+  numbered-head : (m : MsgName) (J : List Event) (a b : ℕ) → numbered script (Head m ∷ J) a b ≡ numbered script J a b
+  unfolding numbered
+  numbered-head m J a b = refl
 
-  out-land : (m : MsgName) (J : List Event) (a b : ℕ) → out script (Land m ∷ J) a b ≡ out script J a b
-  unfolding out
-  out-land m J a b = refl
+  numbered-land : (m : MsgName) (J : List Event) (a b : ℕ) → numbered script (Land m ∷ J) a b ≡ numbered script J a b
+  unfolding numbered
+  numbered-land m J a b = refl
 
   of-head : (m : MsgName) (J : List Event) (k : MsgName) (n : ℕ) → IsOf script rules (Head m ∷ J) k n → IsOf script rules J k n
-  of-head m J k n x = (x.0, subst (λ xs. slice_get xs n ≡ Some (k, x.0)) (out-head m J (sender script k) (receiver script k)) x.1)
+  of-head m J k n x = (x.0, subst (λ xs. slice_get xs n ≡ Some (k, x.0)) (numbered-head m J (sender script k) (receiver script k)) x.1)
 
   of-land : (m : MsgName) (J : List Event) (k : MsgName) (n : ℕ) → IsOf script rules (Land m ∷ J) k n → IsOf script rules J k n
-  of-land m J k n x = (x.0, subst (λ xs. slice_get xs n ≡ Some (k, x.0)) (out-land m J (sender script k) (receiver script k)) x.1)
+  of-land m J k n x = (x.0, subst (λ xs. slice_get xs n ≡ Some (k, x.0)) (numbered-land m J (sender script k) (receiver script k)) x.1)
 
   -- the head comes
   but_head : (m : MsgName) (J : List Event) (wire handed : Lists) (n : ℕ) → IsOf script rules J m n → Got script rules handed m n → Keeps script rules J (Head m) → SoundBut m J wire handed → SoundBut m (Head m ∷ J) wire handed
@@ -111,15 +111,15 @@ module _ (script : Script) (rules : Rules) where
     wires = all-later script rules (Head m) J handed wire s.wires;
     hands = all-later script rules (Head m) J handed handed s.hands;
     landed = λ k l i x. s.landed k (before script rules (Landed k) (Head m) J (λ y. cc) l) i (of-head m J k i x);
-    arrived = λ k apart c all. done-later (Landed k) (Head m) J (s.arrived k apart (before script rules (Copied k) (Head m) J (λ y. cc) c) (λ i x. all i (of-later script rules (Head m) J k i x)));
+    arrived = λ k apart c all. happened-later (Landed k) (Head m) J (s.arrived k apart (before script rules (Copied k) (Head m) J (λ y. cc) c) (λ i x. all i (of-later script rules (Head m) J k i x)));
     headed = λ k h.
         ⊎_elim
         (λ (y : Headed k ≡ Headed m).
         let same : m ≡ k = cc in
         subst (λ z. (i : ℕ) × (IsOf script rules (Head m ∷ J) z i × Got script rules handed z i)) same (n, (of-later script rules (Head m) J m n is, got)))
-        (λ (y : done (Headed k) J ≡ true). let r = s.headed k y in (r.0, (of-later script rules (Head m) J k r.0 r.1.0, r.1.1)))
-        (done-cases (Headed k) (Head m) J h);
-    heads = λ k apart g i x got'. done-later (Headed k) (Head m) J (s.heads k apart g i (of-head m J k i x) got');
+        (λ (y : happened (Headed k) J ≡ true). let r = s.headed k y in (r.0, (of-later script rules (Head m) J k r.0 r.1.0, r.1.1)))
+        (happened-cases (Headed k) (Head m) J h);
+    heads = λ k apart g i x got'. happened-later (Headed k) (Head m) J (s.heads k apart g i (of-head m J k i x) got');
     fences = λ a i g h. landed_before-later script rules (Head m) J a i (λ j l x. cc) (s.fences a i g (before script rules (Entered a i) (Head m) J (λ y. cc) h));
   }
 
@@ -132,30 +132,30 @@ module _ (script : Script) (rules : Rules) where
     landed = λ k l i x.
         ⊎_elim
         (λ (y : Landed k ≡ Landed m). let same : m ≡ k = cc in subst (λ z. (i : ℕ) → IsOf script rules J z i → Got script rules handed z i) same whole i (of-land m J k i x))
-        (λ (y : done (Landed k) J ≡ true). s.landed k y i (of-land m J k i x))
-        (done-cases (Landed k) (Land m) J l);
-    arrived = λ k apart c all. done-later (Landed k) (Land m) J (s.arrived k apart (before script rules (Copied k) (Land m) J (λ y. cc) c) (λ i x. all i (of-later script rules (Land m) J k i x)));
+        (λ (y : happened (Landed k) J ≡ true). s.landed k y i (of-land m J k i x))
+        (happened-cases (Landed k) (Land m) J l);
+    arrived = λ k apart c all. happened-later (Landed k) (Land m) J (s.arrived k apart (before script rules (Copied k) (Land m) J (λ y. cc) c) (λ i x. all i (of-later script rules (Land m) J k i x)));
     headed = λ k h. let r = s.headed k (before script rules (Headed k) (Land m) J (λ y. cc) h) in (r.0, (of-later script rules (Land m) J k r.0 r.1.0, r.1.1));
-    heads = λ k apart g i x got'. done-later (Headed k) (Land m) J (s.heads k apart g i (of-land m J k i x) got');
+    heads = λ k apart g i x got'. happened-later (Headed k) (Land m) J (s.heads k apart g i (of-land m J k i x) got');
     fences = λ a i g h. landed_before-later script rules (Land m) J a i (λ j l x. cc) (s.fences a i g (before script rules (Entered a i) (Land m) J (λ y. cc) h));
   }
 
   -- and the message too is as far as it was delivered
-  but_all : (m : MsgName) (J : List Event) (wire handed : Lists) → (((n : ℕ) → IsOf script rules J m n → Got script rules handed m n) → done (Landed m) J ≡ true) → (IsHeadGo script rules m ≡ true → done (Headed m) J ≡ true) → SoundBut m J wire handed → Sound script rules J wire handed
+  but_all : (m : MsgName) (J : List Event) (wire handed : Lists) → (((n : ℕ) → IsOf script rules J m n → Got script rules handed m n) → happened (Landed m) J ≡ true) → (IsHeadGo script rules m ≡ true → happened (Headed m) J ≡ true) → SoundBut m J wire handed → Sound script rules J wire handed
   but_all m J wire handed land head s = record {
     atomic = s.atomic;
     wires = s.wires;
     hands = s.hands;
     landed = s.landed;
     arrived = λ k c all.
-        elim (name_eq k m) as (λ b. name_eq k m ≡ b → done (Landed k) J ≡ true) [
-          | true ↦ λ e. let same = sym (name_eq-true k m e) in subst (λ z. ((n : ℕ) → IsOf script rules J z n → Got script rules handed z n) → done (Landed z) J ≡ true) same land all
+        elim (name_eq k m) as (λ b. name_eq k m ≡ b → happened (Landed k) J ≡ true) [
+          | true ↦ λ e. let same = sym (name_eq-true k m e) in subst (λ z. ((n : ℕ) → IsOf script rules J z n → Got script rules handed z n) → happened (Landed z) J ≡ true) same land all
           | false ↦ λ e. s.arrived k (λ same. both_ways _ e (subst (λ z. name_eq k z ≡ true) same (name_eq-refl k))) c all
         ] refl;
     headed = s.headed;
     heads = λ k g n x got.
-        elim (name_eq k m) as (λ b. name_eq k m ≡ b → done (Headed k) J ≡ true) [
-          | true ↦ λ e. let same = sym (name_eq-true k m e) in subst (λ z. IsHeadGo script rules z ≡ true → done (Headed z) J ≡ true) same head g
+        elim (name_eq k m) as (λ b. name_eq k m ≡ b → happened (Headed k) J ≡ true) [
+          | true ↦ λ e. let same = sym (name_eq-true k m e) in subst (λ z. IsHeadGo script rules z ≡ true → happened (Headed z) J ≡ true) same head g
           | false ↦ λ e. s.heads k (λ same. both_ways _ e (subst (λ z. name_eq k z ≡ true) same (name_eq-refl k))) g n x got
         ] refl;
     fences = s.fences;
@@ -200,8 +200,8 @@ module _ (script : Script) (rules : Rules) where
       mine : IsOf script rules J p.name p.seq
       mine = (p.fragment, fit)
 
-      copied : done (Copied p.name) J ≡ true
-      copied = (out-copied script J A B p.seq (p.name, p.fragment) fit).0
+      copied : happened (Copied p.name) J ≡ true
+      copied = (numbered-copied script J A B p.seq (p.name, p.fragment) fit).0
 
       -- a number of another message was delivered before
       others : (k : MsgName) (n : ℕ) → (k ≡ p.name → ⊥) → IsOf script rules J k n → Got script rules now k n → Got script rules handed k n
@@ -209,8 +209,8 @@ module _ (script : Script) (rules : Rules) where
           ⊎_elim
           (λ (y : has_number (handed (sender script k) (receiver script k)) n ≡ true). y)
           (λ (y : (sender script k ≡ A) × (receiver script k ≡ B) × (p.seq ≡ n)).
-          let there = subst (λ i. slice_get (out script J A B) i ≡ Some (p.name, p.fragment)) y.2 fit in
-          let here = subst (λ b. slice_get (out script J A b) n ≡ Some (k, x.0)) y.1 (subst (λ a. slice_get (out script J a (receiver script k)) n ≡ Some (k, x.0)) y.0 x.1) in
+          let there = subst (λ i. slice_get (numbered script J A B) i ≡ Some (p.name, p.fragment)) y.2 fit in
+          let here = subst (λ b. slice_get (numbered script J A b) n ≡ Some (k, x.0)) y.1 (subst (λ a. slice_get (numbered script J a (receiver script k)) n ≡ Some (k, x.0)) y.0 x.1) in
           absurd (apart (ap (λ (z : MsgName × ℕ). z.0) (some-same (k, x.0) (p.name, p.fragment) (sym here ∙ there)))))
           (less (sender script k) (receiver script k) n got)
 
@@ -220,7 +220,7 @@ module _ (script : Script) (rules : Rules) where
           cond_both (a == A && b == B) (Data p ∷ handed a b) (handed a b) (AllByRecursion (Fits script rules J now a b))
           (λ e.
           let ends = and_parts _ _ e in
-          let here : Fits script rules J now a b (Data p) = subst (λ y. slice_get (out script J a y) p.seq ≡ Some (p.name, p.fragment)) (sym (eqb-true b B ends.1)) (subst (λ x. slice_get (out script J x B) p.seq ≡ Some (p.name, p.fragment)) (sym (eqb-true a A ends.0)) fit) in
+          let here : Fits script rules J now a b (Data p) = subst (λ y. slice_get (numbered script J a y) p.seq ≡ Some (p.name, p.fragment)) (sym (eqb-true b B ends.1)) (subst (λ x. slice_get (numbered script J x B) p.seq ≡ Some (p.name, p.fragment)) (sym (eqb-true a A ends.0)) fit) in
           (here, old))
           (λ _. old)
 
@@ -237,19 +237,19 @@ module _ (script : Script) (rules : Rules) where
       }
 
       abbrev pub head_test : Bool
-      head_test = is_am (statement script p.name.origin p.name.statement) && leg_eq p.name.leg Go && not (some_number script (out script J A B) p.name (has_number (handed A B)))
+      head_test = is_am (statement script p.name.origin p.name.statement) && leg_eq p.name.leg Go && not (some_number script (numbered script J A B) p.name (has_number (handed A B)))
 
       abbrev pub land_test : Bool
-      land_test = all_numbers script (out script J A B) p.name (λ k. k == p.seq || has_number (handed A B) k)
+      land_test = all_numbers script (numbered script J A B) p.name (λ k. k == p.seq || has_number (handed A B) k)
 
       there-m : has_message script rules p.name ≡ true
       there-m = there script rules (Copied p.name) J s.atomic copied
 
-      copy-needs : AllByRecursion (λ d. done d J ≡ true) (copy_needs script rules p.name.origin p.name.statement p.name.leg)
+      copy-needs : AllByRecursion (λ d. happened d J ≡ true) (copy_needs script rules p.name.origin p.name.statement p.name.leg)
       unfolding needs
       copy-needs = closed script rules (Copied p.name) J s.atomic copied
 
-      issued-by : (leg : Leg) → leg ≡ Go → AllByRecursion (λ d. done d J ≡ true) (copy_needs script rules p.name.origin p.name.statement leg) → done (Issued p.name.origin p.name.statement) J ≡ true
+      issued-by : (leg : Leg) → leg ≡ Go → AllByRecursion (λ d. happened d J ≡ true) (copy_needs script rules p.name.origin p.name.statement leg) → happened (Issued p.name.origin p.name.statement) J ≡ true
       issued-by Go e h = h.0
       issued-by Back e h = absurd (cc)
       issued-by Note e h = absurd (cc)
@@ -265,16 +265,16 @@ module _ (script : Script) (rules : Rules) where
             there = and_from _ _ there-m (and_from _ _ h2.1 h2.0);
             once = false_from_ne_true _ (λ yes.
                 let r = s.headed p.name yes in
-                both_ways _ (not-true _ h1.1) (some_number-from script (out script J A B) p.name (has_number (handed A B)) r.0 r.1.0.0 r.1.0.1 r.1.1));
-            after = list_all-at (λ d. done d J) (Issued p.name.origin p.name.statement ∷ Copied p.name ∷ []) (issued-by p.name.leg (leg_eq-true p.name.leg Go h2.1) copy-needs, (copied, tt));
+                both_ways _ (not-true _ h1.1) (some_number-from script (numbered script J A B) p.name (has_number (handed A B)) r.0 r.1.0.0 r.1.0.1 r.1.1));
+            after = list_all-at (λ d. happened d J) (Issued p.name.origin p.name.statement ∷ Copied p.name ∷ []) (issued-by p.name.leg (leg_eq-true p.name.leg Go h2.1) copy-needs, (copied, tt));
             jobs = refl;
             waits = refl;
             order = tt;
           }
 
-      land-needs : (J' : List Event) (a i : ℕ) (leg : Leg) → done (Copied (message a i leg)) J' ≡ true → AllByRecursion (λ d. done d J' ≡ true) (copy_needs script rules a i leg) → ((is_am (statement script a i) && leg_eq leg Go) ≡ true → done (Headed (message a i leg)) J' ≡ true) → AllByRecursion (λ d. done d J' ≡ true) (land_needs script rules a i leg)
+      land-needs : (J' : List Event) (a i : ℕ) (leg : Leg) → happened (Copied (message a i leg)) J' ≡ true → AllByRecursion (λ d. happened d J' ≡ true) (copy_needs script rules a i leg) → ((is_am (statement script a i) && leg_eq leg Go) ≡ true → happened (Headed (message a i leg)) J' ≡ true) → AllByRecursion (λ d. happened d J' ≡ true) (land_needs script rules a i leg)
       land-needs J' a i Go c n h =
-          cond_both (is_am (statement script a i)) (Headed (message a i Go) ∷ []) [] (λ ds. AllByRecursion (λ d. done d J' ≡ true) (Issued a i ∷ Copied (message a i Go) ∷ ds))
+          cond_both (is_am (statement script a i)) (Headed (message a i Go) ∷ []) [] (λ ds. AllByRecursion (λ d. happened d J' ≡ true) (Issued a i ∷ Copied (message a i Go) ∷ ds))
           (λ e. (n.0, (c, (h (and_from _ _ e refl), tt))))
           (λ e. (n.0, (c, tt)))
       land-needs J' a i Back c n h = (c, n)
@@ -282,7 +282,7 @@ module _ (script : Script) (rules : Rules) where
       land-needs J' a i Echo c n h = (c, n)
       land-needs J' a i (Join d) c n h = (c, n)
 
-      unlanded : has_number (handed A B) p.seq ≡ false → done (Landed p.name) J ≡ false
+      unlanded : has_number (handed A B) p.seq ≡ false → happened (Landed p.name) J ≡ false
       unlanded fresh = false_from_ne_true _ (λ yes. both_ways _ fresh (s.landed p.name yes p.seq mine))
 
       -- The journal with the head, if it comes now.
@@ -295,34 +295,34 @@ module _ (script : Script) (rules : Rules) where
           (λ e. but_head p.name J wire now p.seq mine it (keeps-head e) but)
           (λ _. but)
 
-      up-1 : (d : Deed) → done d J ≡ true → done d J1 ≡ true
-      up-1 d h = cond_both head_test (Head p.name ∷ J) J (λ K. done d K ≡ true) (λ _. done-later d (Head p.name) J h) (λ _. h)
+      up-1 : (d : EventKey) → happened d J ≡ true → happened d J1 ≡ true
+      up-1 d h = cond_both head_test (Head p.name ∷ J) J (λ K. happened d K ≡ true) (λ _. happened-later d (Head p.name) J h) (λ _. h)
 
-      up-all : (ds : List Deed) → AllByRecursion (λ d. done d J ≡ true) ds → AllByRecursion (λ d. done d J1 ≡ true) ds
-      up-all ds h = all-weaker (λ d. done d J ≡ true) (λ d. done d J1 ≡ true) up-1 ds h
+      up-all : (ds : List EventKey) → AllByRecursion (λ d. happened d J ≡ true) ds → AllByRecursion (λ d. happened d J1 ≡ true) ds
+      up-all ds h = all-weaker (λ d. happened d J ≡ true) (λ d. happened d J1 ≡ true) up-1 ds h
 
-      head-1 : IsHeadGo script rules p.name ≡ true → done (Headed p.name) J1 ≡ true
+      head-1 : IsHeadGo script rules p.name ≡ true → happened (Headed p.name) J1 ≡ true
       head-1 g =
-          elim head_test as (λ b. head_test ≡ b → done (Headed p.name) (cond b (Head p.name ∷ J) J) ≡ true) [
-            | true ↦ λ e. done-head (Head p.name) J
+          elim head_test as (λ b. head_test ≡ b → happened (Headed p.name) (cond b (Head p.name ∷ J) J) ≡ true) [
+            | true ↦ λ e. happened-head (Head p.name) J
             | false ↦ λ e.
-                let no : not (some_number script (out script J A B) p.name (has_number (handed A B))) ≡ false = ⊎_elim (λ (x : IsHeadGo script rules p.name ≡ false). absurd (both_ways _ x g)) (λ (x : not (some_number script (out script J A B) p.name (has_number (handed A B))) ≡ false). x) (Rattle.std.proofs.lemmas.Bool.and_cases _ _ e) in
-                let r = some_number-at script (out script J A B) p.name (has_number (handed A B)) (not-false _ no) in
+                let no : not (some_number script (numbered script J A B) p.name (has_number (handed A B))) ≡ false = ⊎_elim (λ (x : IsHeadGo script rules p.name ≡ false). absurd (both_ways _ x g)) (λ (x : not (some_number script (numbered script J A B) p.name (has_number (handed A B))) ≡ false). x) (Rattle.std.proofs.lemmas.Bool.and_cases _ _ e) in
+                let r = some_number-at script (numbered script J A B) p.name (has_number (handed A B)) (not-false _ no) in
                 s.heads p.name g r.0 r.1 r.2
           ] refl
 
-      out-1 : (n j : ℕ) → slice_get (out script J1 A B) n ≡ Some (p.name, j) → slice_get (out script J A B) n ≡ Some (p.name, j)
-      out-1 n j x = cond_both head_test (Head p.name ∷ J) J (λ K. slice_get (out script K A B) n ≡ Some (p.name, j) → slice_get (out script J A B) n ≡ Some (p.name, j)) (λ _ y. subst (λ xs. slice_get xs n ≡ Some (p.name, j)) (out-head p.name J A B) y) (λ _ y. y) x
+      numbered-1 : (n j : ℕ) → slice_get (numbered script J1 A B) n ≡ Some (p.name, j) → slice_get (numbered script J A B) n ≡ Some (p.name, j)
+      numbered-1 n j x = cond_both head_test (Head p.name ∷ J) J (λ K. slice_get (numbered script K A B) n ≡ Some (p.name, j) → slice_get (numbered script J A B) n ≡ Some (p.name, j)) (λ _ y. subst (λ xs. slice_get xs n ≡ Some (p.name, j)) (numbered-head p.name J A B) y) (λ _ y. y) x
 
-      pub once-1 : has_number (handed A B) p.seq ≡ false → done (Landed p.name) J1 ≡ false
-      once-1 fresh = cond_both head_test (Head p.name ∷ J) J (λ K. done (Landed p.name) K ≡ false) (λ _. false_from_ne_true _ (λ yes. both_ways _ (unlanded fresh) (before script rules (Landed p.name) (Head p.name) J (λ y. cc) yes))) (λ _. unlanded fresh)
+      pub once-1 : has_number (handed A B) p.seq ≡ false → happened (Landed p.name) J1 ≡ false
+      once-1 fresh = cond_both head_test (Head p.name ∷ J) J (λ K. happened (Landed p.name) K ≡ false) (λ _. false_from_ne_true _ (λ yes. both_ways _ (unlanded fresh) (before script rules (Landed p.name) (Head p.name) J (λ y. cc) yes))) (λ _. unlanded fresh)
 
       keeps-land : has_number (handed A B) p.seq ≡ false → Keeps script rules J1 (Land p.name)
       unfolding needs
       keeps-land fresh = record {
         there = there-m;
         once = once-1 fresh;
-        after = list_all-at (λ d. done d J1) (land_needs script rules p.name.origin p.name.statement p.name.leg) (land-needs J1 p.name.origin p.name.statement p.name.leg (up-1 (Copied p.name) copied) (up-all (copy_needs script rules p.name.origin p.name.statement p.name.leg) copy-needs) head-1);
+        after = list_all-at (λ d. happened d J1) (land_needs script rules p.name.origin p.name.statement p.name.leg) (land-needs J1 p.name.origin p.name.statement p.name.leg (up-1 (Copied p.name) copied) (up-all (copy_needs script rules p.name.origin p.name.statement p.name.leg) copy-needs) head-1);
         jobs = refl;
         waits = refl;
         order = tt;
@@ -333,22 +333,22 @@ module _ (script : Script) (rules : Rules) where
           ⊎_elim
           (λ (y : (n == p.seq) ≡ true). subst (λ k. has_number (now A B) k ≡ true) (sym (eqb-true n p.seq y)) it)
           (λ (y : has_number (handed A B) n ≡ true). more A B n y)
-          (or_cases _ _ (all_numbers-at script (out script J A B) p.name (λ k. k == p.seq || has_number (handed A B) k) e n x.0 (out-1 n x.0 x.1)))
+          (or_cases _ _ (all_numbers-at script (numbered script J A B) p.name (λ k. k == p.seq || has_number (handed A B) k) e n x.0 (numbered-1 n x.0 x.1)))
 
       not_whole : land_test ≡ false → ((n : ℕ) → IsOf script rules J1 p.name n → Got script rules now p.name n) → ⊥
       not_whole e all =
-          both_ways _ e (all_numbers-from script (out script J A B) p.name (λ k. k == p.seq || has_number (handed A B) k)
+          both_ways _ e (all_numbers-from script (numbered script J A B) p.name (λ k. k == p.seq || has_number (handed A B) k)
           (λ n j x.
           ⊎_elim
           (λ (y : has_number (handed A B) n ≡ true). or_right _ _ y)
           (λ (y : (A ≡ A) × (B ≡ B) × (p.seq ≡ n)). or_left _ _ (eq-eqb n p.seq (sym y.2)))
-          (less A B n (all n (j, cond_both head_test (Head p.name ∷ J) J (λ K. slice_get (out script K A B) n ≡ Some (p.name, j)) (λ _. out-later script (Head p.name) J A B n (p.name, j) x) (λ _. x))))))
+          (less A B n (all n (j, cond_both head_test (Head p.name ∷ J) J (λ K. slice_get (numbered script K A B) n ≡ Some (p.name, j)) (λ _. numbered-later script (Head p.name) J A B n (p.name, j) x) (λ _. x))))))
 
       pub sound-land : land_test ≡ true → has_number (handed A B) p.seq ≡ false → Sound script rules (Land p.name ∷ J1) wire now
       sound-land e fresh =
           but_all p.name (Land p.name ∷ J1) wire now
-          (λ _. done-head (Land p.name) J1)
-          (λ g. done-later (Headed p.name) (Land p.name) J1 (head-1 g))
+          (λ _. happened-head (Land p.name) J1)
+          (λ g. happened-later (Headed p.name) (Land p.name) J1 (head-1 g))
           (but_land p.name J1 wire now (whole e) (keeps-land fresh) but-1)
 
       pub sound-none : land_test ≡ false → Sound script rules J1 wire now
@@ -365,7 +365,7 @@ module _ (script : Script) (rules : Rules) where
           (λ a b. cond_both (a == A && b == B) (Data p ∷ handed a b) (handed a b) (AllByRecursion (Fits script rules J handed a b))
           (λ e.
           let ends = and_parts _ _ e in
-          (subst (λ y. slice_get (out script J a y) p.seq ≡ Some (p.name, p.fragment)) (sym (eqb-true b B ends.1)) (subst (λ x. slice_get (out script J x B) p.seq ≡ Some (p.name, p.fragment)) (sym (eqb-true a A ends.0)) fit), s.hands a b))
+          (subst (λ y. slice_get (numbered script J a y) p.seq ≡ Some (p.name, p.fragment)) (sym (eqb-true b B ends.1)) (subst (λ x. slice_get (numbered script J x B) p.seq ≡ Some (p.name, p.fragment)) (sym (eqb-true a A ends.0)) fit), s.hands a b))
           (λ _. s.hands a b))
           s
         where

@@ -9,12 +9,12 @@ use Rattle.lapi_base.specs.declared.script.Script.{Script}
 use Rattle.lapi_base.specs.declared.rule.Rules.{Rules}
 use Rattle.lapi_base.specs.declared.event.Event.{Event}
 use Rattle.lapi_base.specs.declared.event.Event.TheVariants.{Issue, Pass}
-use Rattle.lapi_base.specs.Names.{Issued, deed, done}
-use Rattle.lapi_base.specs.Operations.{statement}
-use Rattle.lapi_base.specs.Counters.{tells, issued_count, passed_count, count}
-use Rattle.lapi_base.specs.Atomic.{Atomic, Keeps, pass_allowed}
-use Rattle.lapi_base.specs.Headline.{taken_by, announced, taken_at, taken, IsNotSet, StartsAt, CountersAddUp, HoldsOfAtomic}
-use Rattle.lapi_base.proofs.NameLaws.{done-cases, done-head, done-later, done-nil}
+use Rattle.lapi_base.specs.Record.Names.{Issued, key_of, happened}
+use Rattle.lapi_base.specs.Record.Operations.{statement}
+use Rattle.lapi_base.specs.Record.Counters.{tells, issued_count, passed_count, count}
+use Rattle.lapi_base.specs.Record.Atomic.{Atomic, Keeps, pass_allowed}
+use Rattle.lapi_base.specs.Laws.Headline.{taken_by, announced, taken_at, taken, IsNotSet, StartsAt, CountersAddUp, HoldsOfAtomic}
+use Rattle.lapi_base.proofs.NameLaws.{happened-cases, happened-head, happened-later, happened-nil}
 use Rattle.lapi_base.proofs.TestLaws.{eqb-refl}
 use Rattle.lapi_laws.proofs.Backward.{Atomic-head, Atomic-tail}
 
@@ -57,7 +57,7 @@ module _ (script : Script) (rules : Rules) where
   pass-takes s a i t c J h = cond_both (a == t) 0 0 (λ x. count script rules J t c + x ≡ count script rules J t c) (λ _. omega arith) (λ _. omega arith)
 
   -- one more event that doesn't set the counter
-  one-more : (e : Event) (J : List Event) (t c : ℕ) → Keeps script rules J e → ((i value : ℕ) → statement script t i ≡ Set c value → Issued t i ≡ deed e → ⊥) → count script rules (e ∷ J) t c + taken_at script rules e t c ≡ cond (tells script rules e t c) 1 0 + count script rules J t c
+  one-more : (e : Event) (J : List Event) (t c : ℕ) → Keeps script rules J e → ((i value : ℕ) → statement script t i ≡ Set c value → Issued t i ≡ key_of e → ⊥) → count script rules (e ∷ J) t c + taken_at script rules e t c ≡ cond (tells script rules e t c) 1 0 + count script rules J t c
   unfolding count tells
   one-more (Issue a i) J t c k none =
       let same = issue-keeps (statement script a i) a t c (count script rules J t c) (λ value here is. none i value (subst (λ x. statement script x i ≡ Set c value) here is) (ap (λ x. Issued x i) (sym here))) in
@@ -76,8 +76,8 @@ module _ (script : Script) (rules : Rules) where
   add-up : (later before : List Event) (t c value : ℕ) → Atomic script rules (later ++ before) → StartsAt script rules before t c value → IsNotSet script rules later t c → count script rules (later ++ before) t c + taken script rules later t c ≡ value + announced script rules later t c
   add-up [] before t c value h start none = let e = started before t c value start in omega arith
   add-up (e ∷ later) before t c value h start none =
-      let rest = add-up later before t c value (Atomic-tail script rules e (later ++ before) h) start (λ i v is d. none i v is (done-later (Issued t i) e later d)) in
-      let one = one-more e (later ++ before) t c (Atomic-head script rules e (later ++ before) h) (λ i v is same. none i v is (subst (λ d. done d (e ∷ later) ≡ true) (sym same) (done-head e later))) in
+      let rest = add-up later before t c value (Atomic-tail script rules e (later ++ before) h) start (λ i v is d. none i v is (happened-later (Issued t i) e later d)) in
+      let one = one-more e (later ++ before) t c (Atomic-head script rules e (later ++ before) h) (λ i v is same. none i v is (subst (λ d. happened d (e ∷ later) ≡ true) (sym same) (happened-head e later))) in
       let took = sum_by-cons (λ x. taken_at script rules x t c) e later in
       let told = sum_by-cons (λ x. cond (tells script rules x t c) 1 0) e later in
       omega arith
@@ -87,25 +87,25 @@ module _ (script : Script) (rules : Rules) where
   Start J t c = (value : ℕ) × (later : List Event) × (before : List Event) × (J ≡ later ++ before) × StartsAt script rules before t c value × IsNotSet script rules later t c
 
   -- an event that doesn't set the counter keeps it
-  start-later : (e : Event) (J : List Event) (t c : ℕ) → ((i value : ℕ) → statement script t i ≡ Set c value → Issued t i ≡ deed e → ⊥) → Start J t c → Start (e ∷ J) t c
+  start-later : (e : Event) (J : List Event) (t c : ℕ) → ((i value : ℕ) → statement script t i ≡ Set c value → Issued t i ≡ key_of e → ⊥) → Start J t c → Start (e ∷ J) t c
   start-later e J t c none (value, later, before, same, start, not_set) = (
     value,
     e ∷ later,
     before,
     ap (λ x. e ∷ x) same,
     start,
-    λ i v is d. ⊎_elim (λ (x : Issued t i ≡ deed e). none i v is x) (λ (x : done (Issued t i) later ≡ true). not_set i v is x) (done-cases (Issued t i) e later d),
+    λ i v is d. ⊎_elim (λ (x : Issued t i ≡ key_of e). none i v is x) (λ (x : happened (Issued t i) later ≡ true). not_set i v is x) (happened-cases (Issued t i) e later d),
   )
 
   -- every journal has one: what the last set of the counter set, or 0
   pub counters-start : (J : List Event) (t c : ℕ) → Start J t c
-  counters-start [] t c = (0, [], [], refl, refl, λ i v is d. both_ways _ (done-nil (Issued t i)) d)
+  counters-start [] t c = (0, [], [], refl, refl, λ i v is d. both_ways _ (happened-nil (Issued t i)) d)
   counters-start (Issue a i ∷ J) t c =
       let old = λ (none : (value : ℕ) → a ≡ t → statement script a i ≡ Set c value → ⊥). start-later (Issue a i) J t c (λ k v is same. none v (let q : a ≡ t = cc in q) (let q : statement script a i ≡ Set c v = cc in q)) (counters-start J t c) in
       ⊎_elim
       (λ (here : (a == t) ≡ true).
       ⊎_elim
-      (λ (sets : (value : ℕ) × (statement script a i ≡ Set c value)). (sets.0, [], Issue a i ∷ J, refl, (eqb-true a t here, sets.1), λ k v is d. both_ways _ (done-nil (Issued t k)) d))
+      (λ (sets : (value : ℕ) × (statement script a i ≡ Set c value)). (sets.0, [], Issue a i ∷ J, refl, (eqb-true a t here, sets.1), λ k v is d. both_ways _ (happened-nil (Issued t k)) d))
       (λ (keeps : (value : ℕ) → statement script a i ≡ Set c value → ⊥). old (λ v _ is. keeps v is))
       (set-or-not (statement script a i) c))
       (λ (away : (a == t) ≡ false). old (λ v same _. both_ways _ away (eq-eqb a t same)))

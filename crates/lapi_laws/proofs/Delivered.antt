@@ -8,14 +8,14 @@ use Rattle.lapi_base.specs.declared.script.Script.{Script}
 use Rattle.lapi_base.specs.declared.rule.Rules.{Rules}
 use Rattle.lapi_base.specs.declared.packet.Packet.{Packet}
 use Rattle.lapi_base.specs.declared.packet.Packet.TheVariants.{Data, Ack}
-use Rattle.lapi_base.specs.Record.{Run, out, is_number, covers, has_number, has_ack, is_sent}
-use Rattle.lapi_base.specs.Final.{Quiet, WasHanded, AllDelivered}
+use Rattle.lapi_base.specs.Record.Wires.{Run, numbered, is_number, covers, has_number, has_ack, is_sent}
+use Rattle.lapi_base.specs.Record.Final.{Quiet, WasHanded, AllDelivered}
 use Rattle.lapi_base.proofs.BelowLaws.{least_missing-least}
 use Rattle.lapi_base.proofs.ListLaws.{any-all}
 use Rattle.lapi_laws.proofs.Lines.{SoundRun}
 use Rattle.lapi_laws.proofs.Sound.{Fits, number-known, acked-delivered}
 use Rattle.lapi_laws.proofs.SentWindow.{WindowRun}
-use Rattle.lapi_laws.proofs.Told.{Tells, ToldRun}
+use Rattle.lapi_laws.proofs.LastAck.{Tells, ToldRun}
 use Rattle.lapi_laws.proofs.Still.{linked}
 
 any-at : {X : Type 0} (t : X → Bool) (xs : List X) (k : ℕ) (x : X) → k < length xs → t (slice_index_or xs k x) ≡ true → list_any t xs ≡ true
@@ -31,16 +31,16 @@ module _ (script : Script) (rules : Rules) where
   covered r s w a b n sent (Data p) t d = absurd t
   covered r s w a b n sent (Ack from to least bits) t d =
       let unacked : has_ack (r.handed b a) least ≡ false = false_from_ne_true _ (λ h. both_ways _ t.0 (acked-delivered script rules r.journal r.wire r.handed s a b least h)) in
-      let low = least_missing-least (length (out script r.journal a b)) (has_ack (r.handed b a)) least unacked in
+      let low = least_missing-least (length (numbered script r.journal a b)) (has_ack (r.handed b a)) least unacked in
       t.1 n d (omega (arith, low, w a b n sent))
 
   -- a number that was sent is one of the link
-  number-room : (r : Run) → SoundRun script rules r → (a b n : ℕ) → is_sent r a b n ≡ true → n < length (out script r.journal a b)
+  number-room : (r : Run) → SoundRun script rules r → (a b n : ℕ) → is_sent r a b n ≡ true → n < length (numbered script r.journal a b)
   unfolding has_number
   number-room r s a b n h =
       let p = any-all (is_number n) (Fits script rules r.journal r.handed a b) (r.wire a b) (s.wires a b) h in
       let x = number-known script rules r.journal r.handed a b n p.0 p.1 p.2 in
-      slice_get_within (out script r.journal a b) n x.0 x.1
+      slice_get_within (numbered script r.journal a b) n x.0 x.1
 
   -- The last acknowledgement of each wire tells of all that was sent.
   pub delivered-quiet : (r : Run) → SoundRun script rules r → WindowRun script rules r → ToldRun script rules r → AllDelivered script rules r → Quiet script rules r

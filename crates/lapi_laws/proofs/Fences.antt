@@ -8,11 +8,11 @@ use Rattle.lapi_base.specs.declared.script.Script.{Script}
 use Rattle.lapi_base.specs.declared.rule.Rules.{Rules}
 use Rattle.lapi_base.specs.declared.event.Event.{Event}
 use Rattle.lapi_base.specs.declared.event.Event.TheVariants.{Pass}
-use Rattle.lapi_base.specs.Names.{Entered, done}
-use Rattle.lapi_base.specs.Operations.{statements, statement, is_gfence, table_rounds}
-use Rattle.lapi_base.specs.Refusals.{gfence_rounds, round_of, partner}
-use Rattle.lapi_base.specs.Atomic.{Atomic, landed_before, all_cleared, partner_cleared, pass_allowed}
-use Rattle.lapi_base.specs.Headline.{StandsAfter, FencesWait, HasJoined, GlobalFencesWait, HoldsOfAtomic}
+use Rattle.lapi_base.specs.Record.Names.{Entered, happened}
+use Rattle.lapi_base.specs.Record.Operations.{statements, statement, is_gfence, table_rounds}
+use Rattle.lapi_base.specs.Record.Refusals.{gfence_rounds, round_of, partner}
+use Rattle.lapi_base.specs.Record.Atomic.{Atomic, landed_before, all_cleared, partner_cleared, pass_allowed}
+use Rattle.lapi_base.specs.Laws.Headline.{StandsAfter, FencesWait, HasJoined, GlobalFencesWait, HoldsOfAtomic}
 use Rattle.lapi_base.proofs.BelowLaws.{below-all, every_below-at}
 use Rattle.lapi_base.proofs.ListLaws.{all-get}
 use Rattle.lapi_laws.proofs.Sound.{landed_before-at}
@@ -54,7 +54,7 @@ module _ (script : Script) (rules : Rules) where
       elim (partner script a i d) as (λ o. partner script a i d ≡ o → partner_cleared script rules J d o ≡ true → HasJoined script rules J a i d) [
         | None ↦ λ e c. absurd (false≢true c)
         | Some k ↦ λ e c.
-            let both = and_parts (done (Entered d k) J) (landed_before script rules J d k) c in
+            let both = and_parts (happened (Entered d k) J) (landed_before script rules J d k) c in
             let is = partner-is a i d k g e in
             (k, is.0, is.1, both.0, λ j l operates issued. landed_before-at script rules J d k j both.1 l operates issued)
       ] refl h

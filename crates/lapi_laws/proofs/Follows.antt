@@ -18,46 +18,47 @@ use Rattle.lapi_base.specs.declared.reply.Reply.TheVariants.{Idle}
 use Rattle.lapi_base.specs.declared.reply.Bad.{Bad}
 use Rattle.lapi_base.specs.declared.packet.Packet.{Packet}
 use Rattle.lapi_base.specs.declared.packet.Packet.TheVariants.{Data, Ack}
-use Rattle.lapi_base.specs.Names.{leg_eq, Deed, Copied, Landed, Ended, deed, done, message}
-use Rattle.lapi_base.specs.Operations.{statements, statement, has_back, is_am, cmpl_counter}
-use Rattle.lapi_base.specs.Handlers.{has_completion, answers}
-use Rattle.lapi_base.specs.Counters.{count}
-use Rattle.lapi_base.specs.Refusals.{next, joined, why}
-use Rattle.lapi_base.specs.Jobs.{queue, runs}
-use Rattle.lapi_base.specs.Record.{Run, start, out, has_number, all_numbers, some_number, ready, copy_each, followed, poll, tick, note_of, after_land, after_end, arrival, hand_over, deliver, deliver_entry, data_clear, event_if, proposed, unless_refused, add_event, reply_with, step, begin_first, begin_at, begin, end_at, end, cut_entry, perform, after, run_of}
+use Rattle.lapi_base.specs.Record.Names.{leg_eq, EventKey, Copied, Landed, Ended, key_of, happened, message}
+use Rattle.lapi_base.specs.Record.Operations.{statements, statement, has_back, is_am, cmpl_counter}
+use Rattle.lapi_base.specs.Record.Handlers.{has_completion, answers}
+use Rattle.lapi_base.specs.Record.Counters.{count}
+use Rattle.lapi_base.specs.Record.Refusals.{next, joined, refusal_of}
+use Rattle.lapi_base.specs.Record.Jobs.{queue, runs}
+use Rattle.lapi_base.specs.Record.Wires.{Run, start, numbered, has_number, all_numbers, some_number, data_clear}
+use Rattle.lapi_base.specs.Record.Acts.{ready, copy_each, followed, poll, tick, note_of, after_land, after_end, first_delivery, hand_over, deliver, deliver_entry, event_if, proposed, unless_refused, add_event, reply_with, step, begin_first, begin_at, begin, end_at, end, cut_entry, perform, after, run_of}
 use Rattle.lapi_base.proofs.ListLaws.{all-weaker}
-use Rattle.lapi_base.proofs.NameLaws.{done-cases, done-head, done-later, done-nil}
+use Rattle.lapi_base.proofs.NameLaws.{happened-cases, happened-head, happened-later, happened-nil}
 use Rattle.lapi_base.proofs.EveryRun.{after-any}
 use Rattle.lapi_laws.proofs.Sound.{before}
 
 abbrev pub Stand : List Event → List Event → Type 0
-Stand J es = AllByRecursion (λ e. done (deed e) J ≡ true) es
+Stand J es = AllByRecursion (λ e. happened (key_of e) J ≡ true) es
 
 abbrev pub IsCopy : Event → Type 0
 IsCopy (Copy m) = Unit {0}
 IsCopy _ = ⊥
 
-pub done-followed : (d : Deed) (es J : List Event) → done d J ≡ true → done d (followed J es) ≡ true
+pub happened-followed : (d : EventKey) (es J : List Event) → happened d J ≡ true → happened d (followed J es) ≡ true
 unfolding followed
-done-followed d [] J h = h
-done-followed d (e ∷ es) J h = done-followed d es (e ∷ J) (done-later d e J h)
+happened-followed d [] J h = h
+happened-followed d (e ∷ es) J h = happened-followed d es (e ∷ J) (happened-later d e J h)
 
 stand-later : (e : Event) (J es : List Event) → Stand J es → Stand (e ∷ J) es
-stand-later e J es h = all-weaker (λ x. done (deed x) J ≡ true) (λ x. done (deed x) (e ∷ J) ≡ true) (λ x s. done-later (deed x) e J s) es h
+stand-later e J es h = all-weaker (λ x. happened (key_of x) J ≡ true) (λ x. happened (key_of x) (e ∷ J) ≡ true) (λ x s. happened-later (key_of x) e J s) es h
 
 stand-followed : (fs es J : List Event) → Stand J es → Stand (followed J fs) es
-stand-followed fs es J h = all-weaker (λ x. done (deed x) J ≡ true) (λ x. done (deed x) (followed J fs) ≡ true) (λ x s. done-followed (deed x) fs J s) es h
+stand-followed fs es J h = all-weaker (λ x. happened (key_of x) J ≡ true) (λ x. happened (key_of x) (followed J fs) ≡ true) (λ x s. happened-followed (key_of x) fs J s) es h
 
 -- what was added stands
 followed-stand : (es J : List Event) → Stand (followed J es) es
 unfolding followed
 followed-stand [] J = tt
-followed-stand (e ∷ es) J = (done-followed (deed e) es (e ∷ J) (done-head e J), followed-stand es (e ∷ J))
+followed-stand (e ∷ es) J = (happened-followed (key_of e) es (e ∷ J) (happened-head e J), followed-stand es (e ∷ J))
 
 module _ (script : Script) (rules : Rules) where
   pub record Owes (J : List Event) : Type 0 where
-    pub lands : (m : MsgName) → done (Landed m) J ≡ true → Stand J (after_land script rules m)
-    pub ends : (m : MsgName) → done (Ended m) J ≡ true → Stand J (after_end script rules m)
+    pub lands : (m : MsgName) → happened (Landed m) J ≡ true → Stand J (after_land script rules m)
+    pub ends : (m : MsgName) → happened (Ended m) J ≡ true → Stand J (after_end script rules m)
 
   -- an event that is neither Land nor End
   abbrev IsOther : Event → Type 0
@@ -65,12 +66,12 @@ module _ (script : Script) (rules : Rules) where
   IsOther (End m t w) = ⊥
   IsOther _ = Unit {0}
 
-  abbrev IsLast : Deed → Type 0
+  abbrev IsLast : EventKey → Type 0
   IsLast (Landed m) = Unit {0}
   IsLast (Ended m) = Unit {0}
   IsLast _ = ⊥
 
-  other-not : (e : Event) (d : Deed) → IsOther e → IsLast d → d ≡ deed e → ⊥
+  other-not : (e : Event) (d : EventKey) → IsOther e → IsLast d → d ≡ key_of e → ⊥
   other-not (Issue t i) d h g x = subst IsLast x g
   other-not (Refuse t i y) d h g x = subst IsLast x g
   other-not (Enter t i) d h g x = subst IsLast x g
@@ -88,7 +89,7 @@ module _ (script : Script) (rules : Rules) where
   }
 
   -- Copies neither land nor end anything.
-  copy-before : (es J : List Event) (d : Deed) → IsLast d → AllByRecursion IsCopy es → done d (followed J es) ≡ true → done d J ≡ true
+  copy-before : (es J : List Event) (d : EventKey) → IsLast d → AllByRecursion IsCopy es → happened d (followed J es) ≡ true → happened d J ≡ true
   unfolding followed
   copy-before [] J d g h s = s
   copy-before (Copy m ∷ es) J d g h s = before script rules d (Copy m) J (other-not (Copy m) d tt g) (copy-before es (Copy m ∷ J) d g h.1 s)
@@ -115,8 +116,8 @@ module _ (script : Script) (rules : Rules) where
         lands = λ n s.
             ⊎_elim
             (λ (x : Landed n ≡ Landed m). let same : m ≡ n = cc in subst (λ z. Stand (followed K es) (after_land script rules z)) same (followed-stand es K))
-            (λ (x : done (Landed n) J ≡ true). stand-followed es (after_land script rules n) K (stand-later (Land m) J (after_land script rules n) (o.lands n x)))
-            (done-cases (Landed n) (Land m) J (copy-before es K (Landed n) tt (after-copies m) s));
+            (λ (x : happened (Landed n) J ≡ true). stand-followed es (after_land script rules n) K (stand-later (Land m) J (after_land script rules n) (o.lands n x)))
+            (happened-cases (Landed n) (Land m) J (copy-before es K (Landed n) tt (after-copies m) s));
         ends = λ n s. stand-followed es (after_end script rules n) K (stand-later (Land m) J (after_end script rules n) (o.ends n (before script rules (Ended n) (Land m) J (λ y. cc) (copy-before es K (Ended n) tt (after-copies m) s))));
       }
 
@@ -128,20 +129,20 @@ module _ (script : Script) (rules : Rules) where
         ends = λ n s.
             ⊎_elim
             (λ (x : Ended n ≡ Ended m). let same : m ≡ n = cc in subst (λ z. Stand (followed K es) (after_end script rules z)) same (followed-stand es K))
-            (λ (x : done (Ended n) J ≡ true). stand-followed es (after_end script rules n) K (stand-later (End m t w) J (after_end script rules n) (o.ends n x)))
-            (done-cases (Ended n) (End m t w) J (copy-before es K (Ended n) tt (end-copies m) s));
+            (λ (x : happened (Ended n) J ≡ true). stand-followed es (after_end script rules n) K (stand-later (End m t w) J (after_end script rules n) (o.ends n x)))
+            (happened-cases (Ended n) (End m t w) J (copy-before es K (Ended n) tt (end-copies m) s));
       }
 
   owes-copied : (ms : List MsgName) (J : List Event) → Owes J → Owes (copy_each J ms)
   unfolding copy_each
   owes-copied [] J o = o
-  owes-copied (m ∷ ms) J o = owes-copied ms (cond (done (Copied m) J) J (Copy m ∷ J)) (cond_both (done (Copied m) J) J (Copy m ∷ J) Owes (λ _. o) (λ _. owes-other (Copy m) J tt o))
+  owes-copied (m ∷ ms) J o = owes-copied ms (cond (happened (Copied m) J) J (Copy m ∷ J)) (cond_both (happened (Copied m) J) J (Copy m ∷ J) Owes (λ _. o) (λ _. owes-other (Copy m) J tt o))
 
-  owes-arrival : (r : Run) (a b : ℕ) (m : MsgName) (n : ℕ) → Owes r.journal → Owes (followed r.journal (arrival script rules r a b m n))
-  unfolding arrival followed
+  owes-arrival : (r : Run) (a b : ℕ) (m : MsgName) (n : ℕ) → Owes r.journal → Owes (followed r.journal (first_delivery script rules r a b m n))
+  unfolding first_delivery followed
   owes-arrival r a b m n o =
-      let h = is_am (statement script m.origin m.statement) && leg_eq m.leg Go && not (some_number script (out script r.journal a b) m (has_number (r.handed a b))) in
-      let l = all_numbers script (out script r.journal a b) m (λ k. k == n || has_number (r.handed a b) k) in
+      let h = is_am (statement script m.origin m.statement) && leg_eq m.leg Go && not (some_number script (numbered script r.journal a b) m (has_number (r.handed a b))) in
+      let l = all_numbers script (numbered script r.journal a b) m (λ k. k == n || has_number (r.handed a b) k) in
       elim h as (λ x. Owes (followed r.journal (cond x (Head m ∷ []) [] ++ cond l (Land m ∷ after_land script rules m) []))) [
         | true ↦ cond_both l (Land m ∷ after_land script rules m) [] (λ es. Owes (followed (Head m ∷ r.journal) es)) (λ _. owes-land m (Head m ∷ r.journal) (owes-other (Head m) r.journal tt o)) (λ _. owes-other (Head m) r.journal tt o)
         | false ↦ cond_both l (Land m ∷ after_land script rules m) [] (λ es. Owes (followed r.journal es)) (λ _. owes-land m r.journal o) (λ _. o)
@@ -150,7 +151,7 @@ module _ (script : Script) (rules : Rules) where
   owes-handed : (r : Run) (a b : ℕ) (p : Packet) → Owes r.journal → Owes (hand_over script rules r a b p).journal
   unfolding hand_over followed
   owes-handed r a b (Ack from to least bits) o = o
-  owes-handed r a b (Data p) o = cond_both (has_number (r.handed a b) p.seq) [] (arrival script rules r a b p.name p.seq) (λ es. Owes (followed r.journal es)) (λ _. o) (λ _. owes-arrival r a b p.name p.seq o)
+  owes-handed r a b (Data p) o = cond_both (has_number (r.handed a b) p.seq) [] (first_delivery script rules r a b p.name p.seq) (λ es. Owes (followed r.journal es)) (λ _. o) (λ _. owes-arrival r a b p.name p.seq o)
 
   -- a step adds an event that is neither Land nor End
   abbrev IsStep : Option Event → Type 0
@@ -164,8 +165,8 @@ module _ (script : Script) (rules : Rules) where
   proposed-step : (r : Run) (a i : ℕ) (s : Statement) → IsStep (proposed script rules r a i s)
   proposed-step r a i (Wait counter value) = if-step (nat_le value (count script rules r.journal a counter)) (Pass a i) tt
   proposed-step r a i Fence = if-step (data_clear script r a i) (Pass a i) tt
-  proposed-step r a i Gfence = cond_both (done (Rattle.lapi_base.specs.Names.Entered a i) r.journal) _ _ IsStep (λ _. if-step (joined script r.journal a i) (Pass a i) tt) (λ _. if-step (data_clear script r a i) (Enter a i) tt)
-  proposed-step r a i (Statement.Addr at) = cond_both (done (Rattle.lapi_base.specs.Names.Entered a i) r.journal) _ _ IsStep (λ _. if-step (joined script r.journal a i) (Pass a i) tt) (λ _. tt)
+  proposed-step r a i Gfence = cond_both (happened (Rattle.lapi_base.specs.Record.Names.Entered a i) r.journal) _ _ IsStep (λ _. if-step (joined script r.journal a i) (Pass a i) tt) (λ _. if-step (data_clear script r a i) (Enter a i) tt)
+  proposed-step r a i (Statement.Addr at) = cond_both (happened (Rattle.lapi_base.specs.Record.Names.Entered a i) r.journal) _ _ IsStep (λ _. if-step (joined script r.journal a i) (Pass a i) tt) (λ _. tt)
   proposed-step r a i _ = tt
 
   unless-step : (r : Run) (a i : ℕ) (o : Option Refusal) → IsStep (unless_refused script rules r a i o)
@@ -181,8 +182,8 @@ module _ (script : Script) (rules : Rules) where
     pub perform-owes : (r : Run) (act : Act) → Owes r.journal → Owes (perform script rules size refusal r act).journal
     unfolding perform step poll tick deliver begin end followed
     perform-owes r (Step a) o =
-        cond_both (nat_lt (next r.journal a) (length (statements script a))) (add_event script rules r (unless_refused script rules r a (next r.journal a) (why script rules r.journal a (next r.journal a)))) (reply_with script rules r Idle) (λ x. Owes x.journal)
-        (λ _. owes-event r (unless_refused script rules r a (next r.journal a) (why script rules r.journal a (next r.journal a))) (unless-step r a (next r.journal a) (why script rules r.journal a (next r.journal a))) o)
+        cond_both (nat_lt (next r.journal a) (length (statements script a))) (add_event script rules r (unless_refused script rules r a (next r.journal a) (refusal_of script rules r.journal a (next r.journal a)))) (reply_with script rules r Idle) (λ x. Owes x.journal)
+        (λ _. owes-event r (unless_refused script rules r a (next r.journal a) (refusal_of script rules r.journal a (next r.journal a))) (unless-step r a (next r.journal a) (refusal_of script rules r.journal a (next r.journal a))) o)
         (λ _. o)
     perform-owes r (Poll t) o = owes-copied (ready script r.journal t) r.journal o
     perform-owes r (Tick t) o = o
@@ -201,4 +202,4 @@ module _ (script : Script) (rules : Rules) where
 
     pub run-owes : (acts : List Act) → Owes (run_of script rules size refusal acts).journal
     unfolding run_of
-    run-owes acts = after-owes acts start (record { lands = λ m h. absurd (both_ways _ (done-nil (Landed m)) h); ends = λ m h. absurd (both_ways _ (done-nil (Ended m)) h) })
+    run-owes acts = after-owes acts start (record { lands = λ m h. absurd (both_ways _ (happened-nil (Landed m)) h); ends = λ m h. absurd (both_ways _ (happened-nil (Ended m)) h) })

@@ -16,11 +16,12 @@ use Rattle.lapi_base.specs.declared.reply.Reply.{Reply}
 use Rattle.lapi_base.specs.declared.reply.Reply.TheVariants.{Did, Blocked, Absent, Idle, Busy}
 use Rattle.lapi_base.specs.declared.packet.Packet.{Packet}
 use Rattle.lapi_base.specs.declared.packet.Packet.TheVariants.{Data, Ack}
-use Rattle.lapi_base.specs.Layout.{holds_back}
-use Rattle.lapi_base.specs.Refusals.{next, why}
-use Rattle.lapi_base.specs.Jobs.{queue, runs}
-use Rattle.lapi_base.specs.Record.{Run, start, reply_with, add_event, unless_refused, deliver_entry, begin_at, begin_first, end_at, cut_entry, hand_over, ack, at_once, followed, with_handed, step, poll, tick, deliver, begin, end, perform, after, run_of, handed_by, deliveries, is_numbered, owes_by, owes, packets, sends, stale, copy_each, ready}
-use Rattle.lapi_base.specs.Operations.{statements}
+use Rattle.lapi_base.specs.Packet.Layout.{holds_back}
+use Rattle.lapi_base.specs.Record.Refusals.{next, refusal_of}
+use Rattle.lapi_base.specs.Record.Jobs.{queue, runs}
+use Rattle.lapi_base.specs.Record.Wires.{Run, start, ack, packets, sends, to_resend}
+use Rattle.lapi_base.specs.Record.Acts.{reply_with, add_event, unless_refused, deliver_entry, begin_at, begin_first, end_at, cut_entry, hand_over, at_once, followed, with_handed, step, poll, tick, deliver, begin, end, perform, after, run_of, handed_by, deliveries, is_numbered, owes_by, owes, copy_each, ready}
+use Rattle.lapi_base.specs.Record.Operations.{statements}
 use Rattle.lapi_base.proofs.ListLaws.{all-append, get-front}
 
 -- what a line hands over is the same however the wire grows
@@ -163,9 +164,9 @@ module _ (script : Script) (rules : Rules) where
   step-adds : (r : Run) (t : ℕ) → Adds script r (Step t) (step script rules r t)
   unfolding step followed
   step-adds r t =
-      cond_both (nat_lt (next r.journal t) (length (statements script t))) (add_event script rules r (unless_refused script rules r t (next r.journal t) (why script rules r.journal t (next r.journal t)))) (reply_with script rules r Idle) (Adds script r (Step t))
+      cond_both (nat_lt (next r.journal t) (length (statements script t))) (add_event script rules r (unless_refused script rules r t (next r.journal t) (refusal_of script rules r.journal t (next r.journal t)))) (reply_with script rules r Idle) (Adds script r (Step t))
       (λ _.
-      elim (unless_refused script rules r t (next r.journal t) (why script rules r.journal t (next r.journal t))) as (λ o. Adds script r (Step t) (add_event script rules r o)) [
+      elim (unless_refused script rules r t (next r.journal t) (refusal_of script rules r.journal t (next r.journal t))) as (λ o. Adds script r (Step t) (add_event script rules r o)) [
         | None ↦ quiet-adds r (Step t) Blocked r.journal (λ wire a b. refl) (λ wire a b before. refl)
         | Some e ↦ quiet-adds r (Step t) Did (e ∷ r.journal) (λ wire a b. refl) (λ wire a b before. refl)
       ])
@@ -203,7 +204,7 @@ module _ (script : Script) (rules : Rules) where
 
   tick-adds : (r : Run) (t : ℕ) → Adds script r (Tick t) (tick script rules r t)
   unfolding tick
-  tick-adds r t = sending-adds r (Tick t) t r.journal r.owed (λ a b. packets script rules r.journal a b (stale script rules r a b)) (λ wire a b. refl) (λ a b before e. e)
+  tick-adds r t = sending-adds r (Tick t) t r.journal r.owed (λ a b. packets script rules r.journal a b (to_resend script rules r a b)) (λ wire a b. refl) (λ a b before e. e)
 
   -- the entry that a line delivers, asked at the ends of its wire
   at_ends : (r : Run) (x y k : ℕ) (p : Packet) (a b : ℕ) → slice_get (r.wire x y) k ≡ Some p → (a == x && b == y) ≡ true → slice_get (r.wire a b) k ≡ Some p

@@ -4,22 +4,23 @@ use Rattle.std.specs.List.{AllByRecursion}
 use Rattle.std.proofs.lemmas.List.{reverse-reverse, reverse-append}
 use Rattle.std.proofs.lemmas.Bool.{false≢true}
 use mathlib.Core.List.{reverse-cons}
-use Rattle.lapi_base.specs.Layout.{window_of}
+use Rattle.lapi_base.specs.Packet.Layout.{window_of}
 use Rattle.lapi_base.specs.declared.script.Script.{Script}
 use Rattle.lapi_base.specs.declared.rule.Rules.{Rules}
 use Rattle.lapi_base.specs.declared.event.Event.{Event}
 use Rattle.lapi_base.specs.declared.schedule.Act.{Act}
 use Rattle.lapi_base.specs.declared.reply.Bad.{Bad}
 use Rattle.lapi_base.specs.declared.packet.Packet.{Packet}
-use Rattle.lapi_base.specs.Valid.{ValidAct}
-use Rattle.lapi_base.specs.Record.{start, has_number, is_sent, base, after, run_of}
-use Rattle.lapi_base.specs.Atomic.{Atomic, AtomicInTime, Keeps}
-use Rattle.lapi_base.specs.Final.{AllDelivered, Quiet, Final}
+use Rattle.lapi_base.specs.Record.Valid.{ValidAct}
+use Rattle.lapi_base.specs.Record.Wires.{start, has_number, is_sent, base}
+use Rattle.lapi_base.specs.Record.Acts.{after, run_of}
+use Rattle.lapi_base.specs.Record.Atomic.{Atomic, AtomicInTime, Keeps}
+use Rattle.lapi_base.specs.Record.Final.{AllDelivered, Quiet, Final}
 use Rattle.lapi_laws.proofs.Backward.{Atomic-head, Atomic-tail}
 use Rattle.lapi_laws.proofs.Runs.{start-sound, run-sound}
 use Rattle.lapi_laws.proofs.SentWindow.{run-window}
 use Rattle.lapi_laws.proofs.Follows.{run-owes}
-use Rattle.lapi_laws.proofs.Told.{after-told}
+use Rattle.lapi_laws.proofs.LastAck.{after-told}
 use Rattle.lapi_laws.proofs.Delivered.{delivered-quiet}
 use Rattle.lapi_laws.proofs.Ends.{quiet-final}
 

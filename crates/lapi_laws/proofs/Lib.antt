@@ -8,7 +8,7 @@ pub mod Turns
 pub mod Runs
 pub mod SentWindow
 pub mod Follows
-pub mod Told
+pub mod LastAck
 pub mod Quiet
 pub mod Ends
 pub mod Still
@@ -16,7 +16,7 @@ pub mod Delivered
 pub mod Owed
 pub mod Laws
 pub mod HandedOver
-pub mod Rows
+pub mod WorkedRuns
 pub mod Settled
 pub mod Once
 pub mod Landings
@@ -26,7 +26,7 @@ pub mod Counts
 pub mod Reach
 pub mod Partial
 pub mod Shorts
-pub mod MoreRows
-pub mod SecondLayoutRows
+pub mod WorkedRunsForMistakes
+pub mod WorkedRunsOfSecondLayout
 pub mod TextRows
 pub mod CellLaws

@@ -3,7 +3,7 @@ use Rattle.std.proofs.Common.{◌≡◌, ℕ, ◌+◌, ◌-◌, ◌<◌, ◌==�
 use Rattle.std.specs.Prelude.{slice_get, is_some, nat_lt}
 use Rattle.std.specs.List.{AllByRecursion, list_any}
 use Rattle.std.proofs.lemmas.Bool.{and_parts, and_from, both_ways, cond_both, eqb-true, or_cases, false_from_ne_true, and_left, and_right, not_from_false, ltb-true, ltb-false, lt-ltb}
-use Rattle.lapi_base.specs.Layout.{window_of, holds_back}
+use Rattle.lapi_base.specs.Packet.Layout.{window_of, holds_back}
 use Rattle.lapi_base.specs.declared.script.Script.{Script}
 use Rattle.lapi_base.specs.declared.rule.Rules.{Rules}
 use Rattle.lapi_base.specs.declared.message.Leg.{Leg}
@@ -14,18 +14,19 @@ use Rattle.lapi_base.specs.declared.event.Event.TheVariants.{Copy, Head, Land}
 use Rattle.lapi_base.specs.declared.packet.Packet.{Packet}
 use Rattle.lapi_base.specs.declared.packet.Packet.TheVariants.{Data, Ack}
 use Rattle.lapi_base.specs.declared.packet.DataPacket.{DataPacket}
-use Rattle.lapi_base.specs.Below.{least_missing, has_bit, bits_of}
-use Rattle.lapi_base.specs.Names.{Issued, Entered, Copied, Landed, Begun, Ended, done, message}
-use Rattle.lapi_base.specs.Operations.{upto, statements, statement, sender, receiver, is_data, has_back, has_join, cmpl_counter}
-use Rattle.lapi_base.specs.Handlers.{has_completion, answers}
-use Rattle.lapi_base.specs.Packets.{data_packet}
-use Rattle.lapi_base.specs.Record.{Run, out, is_number, has_number, joins, to_copy_of, ready, copy_each, followed, packet_of, packets, fresh, ack, owed_ack, sends, poll, stale, tick, note_of, after_land, arrival, at_once, with_handed, hand_over, deliver, deliver_entry}
-use Rattle.lapi_base.specs.Atomic.{Atomic, Keeps, needs, copy_needs, only_if, to_land, to_follow, has_message, has_statement}
+use Rattle.lapi_base.specs.Record.Below.{least_missing, has_bit, bits_of}
+use Rattle.lapi_base.specs.Record.Names.{Issued, Entered, Copied, Landed, Begun, Ended, happened, message}
+use Rattle.lapi_base.specs.Record.Operations.{numbers_below, statements, statement, sender, receiver, is_data, has_back, has_join, cmpl_counter}
+use Rattle.lapi_base.specs.Record.Handlers.{has_completion, answers}
+use Rattle.lapi_base.specs.Record.Packets.{data_packet}
+use Rattle.lapi_base.specs.Record.Wires.{Run, numbered, is_number, has_number, packet_of, packets, to_send, ack, owed_ack, sends, to_resend}
+use Rattle.lapi_base.specs.Record.Acts.{joins, to_copy_of, ready, copy_each, followed, poll, tick, note_of, after_land, first_delivery, at_once, with_handed, hand_over, deliver, deliver_entry}
+use Rattle.lapi_base.specs.Record.Atomic.{Atomic, Keeps, needs, copy_needs, only_if, to_land, to_follow, has_message, has_statement}
 use Rattle.lapi_base.proofs.BelowLaws.{below-all, least_missing-below}
 use Rattle.lapi_base.proofs.BitLaws.{has_bit-of}
 use Rattle.lapi_base.proofs.ListLaws.{all-flat_map, all-map, all-any, all-append, all-filter, all-get, all-weaker, list_all-at}
-use Rattle.lapi_base.proofs.NameLaws.{done-all-later, done-head}
-use Rattle.lapi_laws.proofs.Out.{out-copied}
+use Rattle.lapi_base.proofs.NameLaws.{happened-all-later, happened-head}
+use Rattle.lapi_laws.proofs.Out.{numbered-copied}
 use Rattle.lapi_laws.proofs.Backward.{closed, there}
 use Rattle.lapi_laws.proofs.Sound.{Lists, Fits, Sound, before, add_copy, add_entries, add_known}
 use Rattle.lapi_laws.proofs.Arrival.{back_no_am, now, head_test, land_test, J1, but-1, once-1, sound-land, sound-none, sound-again}
@@ -47,9 +48,9 @@ module _ (script : Script) (rules : Rules) where
   pub packets-fit : (J : List Event) (handed : Lists) (a b : ℕ) (numbers : List ℕ) → AllByRecursion (Fits script rules J handed a b) (packets script rules J a b numbers)
   unfolding packets data_packet
   packets-fit J handed a b numbers =
-      all-flat_map (λ _. Unit {0}) (Fits script rules J handed a b) (λ n. packet_of script rules J n (slice_get (out script J a b) n)) numbers (all-any numbers) (λ n _. each n (slice_get (out script J a b) n) refl)
+      all-flat_map (λ _. Unit {0}) (Fits script rules J handed a b) (λ n. packet_of script rules J n (slice_get (numbered script J a b) n)) numbers (all-any numbers) (λ n _. each n (slice_get (numbered script J a b) n) refl)
     where
-      each : (n : ℕ) (o : Option (MsgName × ℕ)) → slice_get (out script J a b) n ≡ o → AllByRecursion (Fits script rules J handed a b) (packet_of script rules J n o)
+      each : (n : ℕ) (o : Option (MsgName × ℕ)) → slice_get (numbered script J a b) n ≡ o → AllByRecursion (Fits script rules J handed a b) (packet_of script rules J n o)
       each n None e = tt
       each n (Some pair) e = (e, tt)
 
@@ -57,25 +58,25 @@ module _ (script : Script) (rules : Rules) where
   pub tick-sound : (r : Run) (t : ℕ) → SoundRun r → SoundRun (tick script rules r t)
   unfolding tick
   tick-sound r t s =
-      add_entries script rules r.journal r.wire (λ a b. cond (a == t) (r.wire a b ++ packets script rules r.journal a b (stale script rules r a b)) (r.wire a b)) r.handed
-      (λ a b. cond_both (a == t) (r.wire a b ++ packets script rules r.journal a b (stale script rules r a b)) (r.wire a b) (AllByRecursion (Fits script rules r.journal r.handed a b))
-      (λ _. all-append (Fits script rules r.journal r.handed a b) (r.wire a b) (packets script rules r.journal a b (stale script rules r a b)) (s.wires a b) (packets-fit r.journal r.handed a b (stale script rules r a b)))
+      add_entries script rules r.journal r.wire (λ a b. cond (a == t) (r.wire a b ++ packets script rules r.journal a b (to_resend script rules r a b)) (r.wire a b)) r.handed
+      (λ a b. cond_both (a == t) (r.wire a b ++ packets script rules r.journal a b (to_resend script rules r a b)) (r.wire a b) (AllByRecursion (Fits script rules r.journal r.handed a b))
+      (λ _. all-append (Fits script rules r.journal r.handed a b) (r.wire a b) (packets script rules r.journal a b (to_resend script rules r a b)) (s.wires a b) (packets-fit r.journal r.handed a b (to_resend script rules r a b)))
       (λ _. s.wires a b))
       s
 
   -- Poll.
   abbrev pub Ready : List Event → MsgName → Type 0
-  Ready J m = (has_message script rules m ≡ true) × AllByRecursion (λ d. done d J ≡ true) (copy_needs script rules m.origin m.statement m.leg)
+  Ready J m = (has_message script rules m ≡ true) × AllByRecursion (λ d. happened d J ≡ true) (copy_needs script rules m.origin m.statement m.leg)
 
   ready-later : (e : Event) (J : List Event) (m : MsgName) → Ready J m → Ready (e ∷ J) m
-  ready-later e J m h = (h.0, done-all-later (copy_needs script rules m.origin m.statement m.leg) e J h.1)
+  ready-later e J m h = (h.0, happened-all-later (copy_needs script rules m.origin m.statement m.leg) e J h.1)
 
-  pub keeps-copy : (J : List Event) (m : MsgName) → Ready J m → done (Copied m) J ≡ false → Keeps script rules J (Copy m)
+  pub keeps-copy : (J : List Event) (m : MsgName) → Ready J m → happened (Copied m) J ≡ false → Keeps script rules J (Copy m)
   unfolding needs
   keeps-copy J m h new = record {
     there = h.0;
     once = new;
-    after = list_all-at (λ d. done d J) (copy_needs script rules m.origin m.statement m.leg) h.1;
+    after = list_all-at (λ d. happened d J) (copy_needs script rules m.origin m.statement m.leg) h.1;
     jobs = refl;
     waits = refl;
     order = tt;
@@ -85,27 +86,27 @@ module _ (script : Script) (rules : Rules) where
   unfolding copy_each
   copy_each-sound [] J wire handed h s = s
   copy_each-sound (m ∷ ms) J wire handed h s =
-      elim (done (Copied m) J) as (λ b. done (Copied m) J ≡ b → Sound script rules (copy_each (cond b J (Copy m ∷ J)) ms) wire handed) [
+      elim (happened (Copied m) J) as (λ b. happened (Copied m) J ≡ b → Sound script rules (copy_each (cond b J (Copy m ∷ J)) ms) wire handed) [
         | true ↦ λ e. copy_each-sound ms J wire handed h.1 s
         | false ↦ λ e. copy_each-sound ms (Copy m ∷ J) wire handed (all-weaker (Ready J) (Ready (Copy m ∷ J)) (ready-later (Copy m) J) ms h.1) (add_copy script rules m J wire handed (keeps-copy J m h.0 e) s)
       ] refl
 
   ready-all : (J : List Event) (t : ℕ) → Atomic script rules J → AllByRecursion (Ready J) (ready script J t)
-  unfolding ready upto
-  ready-all J t h = all-flat_map (λ _. Unit {0}) (Ready J) (to_copy_of script J t) (upto (length (statements script t))) (all-any _) (λ i _. each i)
+  unfolding ready numbers_below
+  ready-all J t h = all-flat_map (λ _. Unit {0}) (Ready J) (to_copy_of script J t) (numbers_below (length (statements script t))) (all-any _) (λ i _. each i)
     where
       each : (i : ℕ) → AllByRecursion (Ready J) (to_copy_of script J t i)
       each i =
-          cond_both (is_data (statement script t i) && done (Issued t i) J) (message t i Go ∷ []) (cond (has_join (statement script t i) && done (Entered t i) J) (joins script t i) []) (AllByRecursion (Ready J))
+          cond_both (is_data (statement script t i) && happened (Issued t i) J) (message t i Go ∷ []) (cond (has_join (statement script t i) && happened (Entered t i) J) (joins script t i) []) (AllByRecursion (Ready J))
           (λ e.
-          let both = and_parts (is_data (statement script t i)) (done (Issued t i) J) e in
+          let both = and_parts (is_data (statement script t i)) (happened (Issued t i) J) e in
           ((and_from _ _ (and_parts _ _ (there script rules (Issued t i) J h both.1)).0 both.0, (both.1, tt)), tt))
           (λ _.
-          cond_both (has_join (statement script t i) && done (Entered t i) J) (joins script t i) [] (AllByRecursion (Ready J))
+          cond_both (has_join (statement script t i) && happened (Entered t i) J) (joins script t i) [] (AllByRecursion (Ready J))
           (λ e.
-          let both = and_parts (has_join (statement script t i)) (done (Entered t i) J) e in
-          all-map (λ d. ((d < script.tasks) × (true ≡ true)) × (not (d == t) ≡ true)) (Ready J) (λ d. message t i (Join d)) (filter (λ d. not (d == t)) (upto script.tasks))
-          (all-filter (λ d. (d < script.tasks) × (true ≡ true)) (λ d. not (d == t)) (upto script.tasks) (below-all script.tasks (λ _. true)))
+          let both = and_parts (has_join (statement script t i)) (happened (Entered t i) J) e in
+          all-map (λ d. ((d < script.tasks) × (true ≡ true)) × (not (d == t) ≡ true)) (Ready J) (λ d. message t i (Join d)) (filter (λ d. not (d == t)) (numbers_below script.tasks))
+          (all-filter (λ d. (d < script.tasks) × (true ≡ true)) (λ d. not (d == t)) (numbers_below script.tasks) (below-all script.tasks (λ _. true)))
           (λ d k. (and_from _ _ (there script rules (Entered t i) J h both.1) (and_from _ _ both.0 (and_from _ _ (lt-ltb d script.tasks k.0.0) k.1)), (both.1, tt))))
           (λ _. tt))
 
@@ -114,18 +115,18 @@ module _ (script : Script) (rules : Rules) where
   unfolding ack
   ack-fits J r a b n h =
       let set = has_number (r.handed a b) in
-      let least = least_missing (length (out script r.journal a b)) set in
+      let least = least_missing (length (numbered script r.journal a b)) set in
       ⊎_elim
-      (λ (x : nat_lt n least ≡ true). least_missing-below (length (out script r.journal a b)) set n (ltb-true n least x))
+      (λ (x : nat_lt n least ≡ true). least_missing-below (length (numbered script r.journal a b)) set n (ltb-true n least x))
       (λ (x : has_bit (bits_of (window_of script) (λ i. set (least + i))) (n - least) ≡ true).
       let y = has_bit-of (window_of script) (λ i. set (least + i)) (n - least) x in
       elim (nat_lt n least) as (λ t. nat_lt n least ≡ t → set n ≡ true) [
-        | true ↦ λ e. least_missing-below (length (out script r.journal a b)) set n (ltb-true n least e)
+        | true ↦ λ e. least_missing-below (length (numbered script r.journal a b)) set n (ltb-true n least e)
         | false ↦ λ e. let ge = ltb-false n least e in let same : least + (n - least) ≡ n = omega arith in subst (λ k. set k ≡ true) same y.1
       ] refl)
       (or_cases _ _ h)
 
-  -- so does one that is owed, and one that goes out at once
+  -- so does one that is owed, and one that goes numbered at once
   owed-fits : (J : List Event) (r : Run) (a b : ℕ) → AllByRecursion (Fits script rules J r.handed b a) (owed_ack script rules r a b)
   unfolding owed_ack
   owed-fits J r a b = cond_both (r.owed a b) (ack script rules r a b ∷ []) [] (AllByRecursion (Fits script rules J r.handed b a)) (λ _. (ack-fits J r a b, tt)) (λ _. tt)
@@ -136,7 +137,7 @@ module _ (script : Script) (rules : Rules) where
 
   -- all that a Poll puts on a wire is what it says
   pub sends-fit : (r : Run) (J : List Event) (a b : ℕ) → AllByRecursion (Fits script rules J r.handed a b) (sends script rules r J a b)
-  sends-fit r J a b = all-append (Fits script rules J r.handed a b) (packets script rules J a b (fresh script rules r J a b)) (owed_ack script rules r b a) (packets-fit J r.handed a b (fresh script rules r J a b)) (owed-fits J r b a)
+  sends-fit r J a b = all-append (Fits script rules J r.handed a b) (packets script rules J a b (to_send script rules r J a b)) (owed_ack script rules r b a) (packets-fit J r.handed a b (to_send script rules r J a b)) (owed-fits J r b a)
 
   pub poll-sound : (r : Run) (t : ℕ) → SoundRun r → SoundRun (poll script rules r t)
   unfolding poll
@@ -150,18 +151,18 @@ module _ (script : Script) (rules : Rules) where
       s'
 
   -- What follows the landing of data, or the end of a job.
-  follows : (J : List Event) (a i : ℕ) → AllByRecursion (λ d. done d J ≡ true) (to_follow script rules a i) → done (Landed (message a i Go)) J ≡ true
-  follows J a i h = all-first (λ d. done d J ≡ true) (only_if (has_completion script rules a i) (Begun (message a i Go) ∷ Ended (message a i Go) ∷ [])) (Landed (message a i Go)) (to_land script rules a i) h
+  follows : (J : List Event) (a i : ℕ) → AllByRecursion (λ d. happened d J ≡ true) (to_follow script rules a i) → happened (Landed (message a i Go)) J ≡ true
+  follows J a i h = all-first (λ d. happened d J ≡ true) (only_if (has_completion script rules a i) (Begun (message a i Go) ∷ Ended (message a i Go) ∷ [])) (Landed (message a i Go)) (to_land script rules a i) h
 
-  pub new_back : (J : List Event) (a i : ℕ) → Atomic script rules J → done (Landed (message a i Go)) J ≡ false → done (Copied (message a i Back)) J ≡ false
+  pub new_back : (J : List Event) (a i : ℕ) → Atomic script rules J → happened (Landed (message a i Go)) J ≡ false → happened (Copied (message a i Back)) J ≡ false
   unfolding needs
   new_back J a i h absent = false_from_ne_true _ (λ yes. both_ways _ absent (follows J a i (closed script rules (Copied (message a i Back)) J h yes)))
 
-  new_note : (J : List Event) (a i : ℕ) → Atomic script rules J → done (Landed (message a i Go)) J ≡ false → done (Copied (message a i Note)) J ≡ false
+  new_note : (J : List Event) (a i : ℕ) → Atomic script rules J → happened (Landed (message a i Go)) J ≡ false → happened (Copied (message a i Note)) J ≡ false
   unfolding needs
   new_note J a i h absent = false_from_ne_true _ (λ yes. both_ways _ absent (follows J a i (closed script rules (Copied (message a i Note)) J h yes)))
 
-  pub to-land : (J : List Event) (a i : ℕ) → Atomic script rules J → done (Landed (message a i Go)) J ≡ true → AllByRecursion (λ d. done d J ≡ true) (to_land script rules a i)
+  pub to-land : (J : List Event) (a i : ℕ) → Atomic script rules J → happened (Landed (message a i Go)) J ≡ true → AllByRecursion (λ d. happened d J ≡ true) (to_land script rules a i)
   unfolding needs
   to-land J a i h l = closed script rules (Landed (message a i Go)) J h l
 
@@ -169,9 +170,9 @@ module _ (script : Script) (rules : Rules) where
   unfolding has_completion
   no_completion a i h = and_left _ _ (back_no_am (statement script a i) h)
 
-  to-follow : (J : List Event) (a i : ℕ) → has_completion script rules a i ≡ false → Atomic script rules J → done (Landed (message a i Go)) J ≡ true → AllByRecursion (λ d. done d J ≡ true) (to_follow script rules a i)
+  to-follow : (J : List Event) (a i : ℕ) → has_completion script rules a i ≡ false → Atomic script rules J → happened (Landed (message a i Go)) J ≡ true → AllByRecursion (λ d. happened d J ≡ true) (to_follow script rules a i)
   to-follow J a i absent h l =
-      subst (λ b. AllByRecursion (λ d. done d J ≡ true) (only_if b (Begun (message a i Go) ∷ Ended (message a i Go) ∷ []) ++ Landed (message a i Go) ∷ to_land script rules a i)) (sym absent) (l, to-land J a i h l)
+      subst (λ b. AllByRecursion (λ d. happened d J ≡ true) (only_if b (Begun (message a i Go) ∷ Ended (message a i Go) ∷ []) ++ Landed (message a i Go) ∷ to_land script rules a i)) (sym absent) (l, to-land J a i h l)
 
   -- what answers has a completion
   no-answer : (a i : ℕ) → has_completion script rules a i ≡ false → answers script rules a i ≡ false
@@ -183,7 +184,7 @@ module _ (script : Script) (rules : Rules) where
   answer-completion a i h = (and_parts _ _ (and_parts _ _ (and_parts _ _ h).0).0).1
 
   -- the Note, if there is one
-  pub note-sound : (J : List Event) (wire handed : Lists) (a i : ℕ) → answers script rules a i ≡ false → has_statement script rules a i ≡ true → done (Copied (message a i Note)) J ≡ false → AllByRecursion (λ d. done d J ≡ true) (to_follow script rules a i) → Sound script rules J wire handed → Sound script rules (followed J (note_of script rules (message a i Go))) wire handed
+  pub note-sound : (J : List Event) (wire handed : Lists) (a i : ℕ) → answers script rules a i ≡ false → has_statement script rules a i ≡ true → happened (Copied (message a i Note)) J ≡ false → AllByRecursion (λ d. happened d J ≡ true) (to_follow script rules a i) → Sound script rules J wire handed → Sound script rules (followed J (note_of script rules (message a i Go))) wire handed
   unfolding followed
   note-sound J wire handed a i silent is new needs s =
       cond_both (is_some (cmpl_counter (statement script a i))) (Copy (message a i Note) ∷ []) [] (λ es. Sound script rules (followed J es) wire handed)
@@ -191,11 +192,11 @@ module _ (script : Script) (rules : Rules) where
       (λ _. s)
 
   -- what follows the Land of a message
-  land_follow : (J : List Event) (wire handed : Lists) (a i : ℕ) (leg : Leg) → Atomic script rules J → done (Landed (message a i leg)) J ≡ false → Sound script rules (Land (message a i leg) ∷ J) wire handed → Sound script rules (followed (Land (message a i leg) ∷ J) (after_land script rules (message a i leg))) wire handed
+  land_follow : (J : List Event) (wire handed : Lists) (a i : ℕ) (leg : Leg) → Atomic script rules J → happened (Landed (message a i leg)) J ≡ false → Sound script rules (Land (message a i leg) ∷ J) wire handed → Sound script rules (followed (Land (message a i leg) ∷ J) (after_land script rules (message a i leg))) wire handed
   unfolding followed
   land_follow J wire handed a i Go h absent s =
       let K = Land (message a i Go) ∷ J in
-      let land = done-head (Land (message a i Go)) J in
+      let land = happened-head (Land (message a i Go)) J in
       let is = (and_parts _ _ (there script rules (Landed (message a i Go)) K s.atomic land)).0 in
       cond_both (has_back (statement script a i)) (Copy (message a i Back) ∷ []) (cond (has_completion script rules a i) [] (note_of script rules (message a i Go))) (λ es. Sound script rules (followed K es) wire handed)
       (λ e.
@@ -275,7 +276,7 @@ module _ (script : Script) (rules : Rules) where
         ] refl)
 
   hand_data : (r : Run) (p : DataPacket) → SoundRun r → Fits script rules r.journal r.handed (sender script p.name) (receiver script p.name) (Data p) → SoundRun (hand_over script rules r (sender script p.name) (receiver script p.name) (Data p))
-  unfolding hand_over arrival followed
+  unfolding hand_over first_delivery followed
   hand_data r p s fit =
       let a = sender script p.name in
       let b = receiver script p.name in
@@ -294,10 +295,10 @@ module _ (script : Script) (rules : Rules) where
   hand_over-sound : (r : Run) (a b : ℕ) (p : Packet) → SoundRun r → Fits script rules r.journal r.handed a b p → SoundRun (hand_over script rules r a b p)
   hand_over-sound r a b (Ack from to least bits) s fit = hand_ack r a b from to least bits fit s
   hand_over-sound r a b (Data p) s fit =
-      let ends = out-copied script r.journal a b p.seq (p.name, p.fragment) fit in
+      let ends = numbered-copied script r.journal a b p.seq (p.name, p.fragment) fit in
       subst (λ y. SoundRun (hand_over script rules r a y (Data p))) ends.2
       (subst (λ x. SoundRun (hand_over script rules r x (receiver script p.name) (Data p))) ends.1
-      (hand_data r p s (subst (λ y. slice_get (out script r.journal (sender script p.name) y) p.seq ≡ Some (p.name, p.fragment)) (sym ends.2) (subst (λ x. slice_get (out script r.journal x b) p.seq ≡ Some (p.name, p.fragment)) (sym ends.1) fit))))
+      (hand_data r p s (subst (λ y. slice_get (numbered script r.journal (sender script p.name) y) p.seq ≡ Some (p.name, p.fragment)) (sym ends.2) (subst (λ x. slice_get (numbered script r.journal x b) p.seq ≡ Some (p.name, p.fragment)) (sym ends.1) fit))))
 
   pub deliver-sound : (r : Run) (a b k : ℕ) → SoundRun r → SoundRun (deliver script rules r a b k)
   unfolding deliver

@@ -1,4 +1,4 @@
--- In an atomic journal each deed stands once, and what an event needs stands before it.
+-- In an atomic journal each key_of stands once, and what an event needs stands before it.
 use Rattle.std.proofs.Common.{◌≡◌, ℕ, ◌+◌, ◌≤◌, true, false, cond, List, [], ◌∷◌, ◌++◌, refl, sym, ap, ◌∙◌, subst, arith}
 use Rattle.std.specs.List.{AllByRecursion}
 use Rattle.std.proofs.lemmas.Bool.{or_parts}
@@ -7,25 +7,25 @@ use Rattle.lapi_base.specs.declared.script.Script.{Script}
 use Rattle.lapi_base.specs.declared.rule.Rules.{Rules}
 use Rattle.lapi_base.specs.declared.message.Leg.TheVariants.{Go}
 use Rattle.lapi_base.specs.declared.event.Event.{Event}
-use Rattle.lapi_base.specs.Names.{message, Deed, Headed, Landed, Begun, Ended, deed, deed_eq, done}
-use Rattle.lapi_base.specs.Operations.{statement, is_am}
-use Rattle.lapi_base.specs.Atomic.{Atomic, Keeps, needs, land_needs, only_if}
-use Rattle.lapi_base.specs.Headline.{times, StandsAfter, LandsOnce, HandlersOnce, HandlersInOrder, HoldsOfAtomic, HoldsOfJournals}
+use Rattle.lapi_base.specs.Record.Names.{message, EventKey, Headed, Landed, Begun, Ended, key_of, key_eq, happened}
+use Rattle.lapi_base.specs.Record.Operations.{statement, is_am}
+use Rattle.lapi_base.specs.Record.Atomic.{Atomic, Keeps, needs, land_needs, only_if}
+use Rattle.lapi_base.specs.Laws.Headline.{times, StandsAfter, LandsOnce, HandlersOnce, HandlersInOrder, HoldsOfAtomic, HoldsOfJournals}
 use Rattle.lapi_base.proofs.ListLaws.{list_all-each}
-use Rattle.lapi_base.proofs.NameLaws.{deed_eq-true, done-cons}
+use Rattle.lapi_base.proofs.NameLaws.{deed_eq-true, happened-cons}
 use Rattle.lapi_laws.proofs.Backward.{Atomic-head, Atomic-tail}
 use Rattle.lapi_laws.proofs.Runs.{run-sound}
 use Rattle.lapi_laws.proofs.Workers.{begun-of}
 
--- how often a deed stands, with one more event
-times-cons : (d : Deed) (e : Event) (J : List Event) → times d (e ∷ J) ≡ cond (deed_eq d (deed e)) 1 0 + times d J
-times-cons d e J = sum_by-cons (λ x. cond (deed_eq d (deed x)) 1 0) e J
+-- how often a key_of stands, with one more event
+times-cons : (d : EventKey) (e : Event) (J : List Event) → times d (e ∷ J) ≡ cond (key_eq d (key_of e)) 1 0 + times d J
+times-cons d e J = sum_by-cons (λ x. cond (key_eq d (key_of x)) 1 0) e J
 
 -- what doesn't stand stands no time
-times-none : (d : Deed) (J : List Event) → done d J ≡ false → times d J ≡ 0
+times-none : (d : EventKey) (J : List Event) → happened d J ≡ false → times d J ≡ 0
 times-none d [] h = refl
 times-none d (e ∷ J) h =
-    let parts = or_parts (deed_eq d (deed e)) (done d J) (sym (done-cons d e J) ∙ h) in
+    let parts = or_parts (key_eq d (key_of e)) (happened d J) (sym (happened-cons d e J) ∙ h) in
     times-cons d e J ∙ ap (λ b. cond b 1 0 + times d J) parts.0 ∙ ap (λ n. 0 + n) (times-none d J parts.1)
 
 -- what holds of every atomic journal holds of every run's
@@ -42,24 +42,24 @@ module _ (script : Script) (rules : Rules) where
   pub keeps-at : (J before : List Event) (e : Event) → Atomic script rules J → StandsAfter before e J → Keeps script rules before e
   keeps-at J before e h at = Atomic-head script rules e before (atomic-end at.0 (e ∷ before) (subst (Atomic script rules) at.1 h))
 
-  -- each deed stands at most once
-  times-one : (d : Deed) (J : List Event) → Atomic script rules J → times d J ≤ 1
+  -- each key_of stands at most once
+  times-one : (d : EventKey) (J : List Event) → Atomic script rules J → times d J ≤ 1
   times-one d [] h = omega arith
   times-one d (e ∷ J) h =
-      elim (deed_eq d (deed e)) as (λ b. deed_eq d (deed e) ≡ b → times d (e ∷ J) ≡ cond b 1 0 + times d J → times d (e ∷ J) ≤ 1) [
+      elim (key_eq d (key_of e)) as (λ b. key_eq d (key_of e) ≡ b → times d (e ∷ J) ≡ cond b 1 0 + times d J → times d (e ∷ J) ≤ 1) [
         | true ↦ λ same sum.
-            let none = times-none d J (subst (λ x. done x J ≡ false) (sym (deed_eq-true d (deed e) same)) (Atomic-head script rules e J h).once) in
+            let none = times-none d J (subst (λ x. happened x J ≡ false) (sym (deed_eq-true d (key_of e) same)) (Atomic-head script rules e J h).once) in
             omega arith
         | false ↦ λ _ sum. let rest = times-one d J (Atomic-tail script rules e J h) in omega arith
       ] refl (times-cons d e J)
 
   -- what an event needs stands before it
-  needed : (J before : List Event) (e : Event) (d : Deed) → Atomic script rules J → deed e ≡ d → StandsAfter before e J → AllByRecursion (λ x. done x before ≡ true) (needs script rules d)
-  needed J before e d h same at = subst (λ x. AllByRecursion (λ y. done y before ≡ true) (needs script rules x)) same (list_all-each (λ y. done y before) (needs script rules (deed e)) (keeps-at J before e h at).after)
+  needed : (J before : List Event) (e : Event) (d : EventKey) → Atomic script rules J → key_of e ≡ d → StandsAfter before e J → AllByRecursion (λ x. happened x before ≡ true) (needs script rules d)
+  needed J before e d h same at = subst (λ x. AllByRecursion (λ y. happened y before ≡ true) (needs script rules x)) same (list_all-each (λ y. happened y before) (needs script rules (key_of e)) (keeps-at J before e h at).after)
 
   -- an active message needs its head to land
-  head-needed : (a i : ℕ) (before : List Event) → is_am (statement script a i) ≡ true → AllByRecursion (λ x. done x before ≡ true) (land_needs script rules a i Go) → done (Headed (message a i Go)) before ≡ true
-  head-needed a i before am all = (subst (λ b. AllByRecursion (λ x. done x before ≡ true) (only_if b (Headed (message a i Go) ∷ []))) am all.1.1).0
+  head-needed : (a i : ℕ) (before : List Event) → is_am (statement script a i) ≡ true → AllByRecursion (λ x. happened x before ≡ true) (land_needs script rules a i Go) → happened (Headed (message a i Go)) before ≡ true
+  head-needed a i before am all = (subst (λ b. AllByRecursion (λ x. happened x before ≡ true) (only_if b (Headed (message a i Go) ∷ []))) am all.1.1).0
 
   -- what each handler needs stands before it
   in-order : (J : List Event) → Atomic script rules J → HandlersInOrder script rules J

@@ -11,14 +11,15 @@ use Rattle.lapi_base.specs.declared.reply.Reply.TheVariants.{Idle}
 use Rattle.lapi_base.specs.declared.reply.Bad.{Bad}
 use Rattle.lapi_base.specs.declared.packet.Packet.{Packet}
 use Rattle.lapi_base.specs.declared.packet.Packet.TheVariants.{Data, Ack}
-use Rattle.lapi_base.specs.Layout.{holds_back}
-use Rattle.lapi_base.specs.Operations.{statements}
-use Rattle.lapi_base.specs.Refusals.{next, why}
-use Rattle.lapi_base.specs.Jobs.{queue, runs}
-use Rattle.lapi_base.specs.Valid.{ValidAct}
-use Rattle.lapi_base.specs.Record.{Run, start, packets, fresh, ack, owed_ack, at_once, poll, tick, hand_over, deliver, deliver_entry, unless_refused, add_event, reply_with, step, begin_first, begin_at, begin, end_at, end, cut_entry, perform, run_of}
-use Rattle.lapi_base.specs.Headline.{HoldsOfRuns}
-use Rattle.lapi_base.specs.Links.{OwedAreHeldBack, TellsAtOnce}
+use Rattle.lapi_base.specs.Packet.Layout.{holds_back}
+use Rattle.lapi_base.specs.Record.Operations.{statements}
+use Rattle.lapi_base.specs.Record.Refusals.{next, refusal_of}
+use Rattle.lapi_base.specs.Record.Jobs.{queue, runs}
+use Rattle.lapi_base.specs.Record.Valid.{ValidAct}
+use Rattle.lapi_base.specs.Record.Wires.{Run, start, packets, to_send, ack, owed_ack}
+use Rattle.lapi_base.specs.Record.Acts.{at_once, poll, tick, hand_over, deliver, deliver_entry, unless_refused, add_event, reply_with, step, begin_first, begin_at, begin, end_at, end, cut_entry, perform, run_of}
+use Rattle.lapi_base.specs.Laws.Headline.{HoldsOfRuns}
+use Rattle.lapi_base.specs.Laws.Links.{OwedAreHeldBack, TellsAtOnce}
 use Rattle.lapi_base.proofs.EveryRun.{after-keeps}
 
 module _ (script : Script) (rules : Rules) where
@@ -39,8 +40,8 @@ module _ (script : Script) (rules : Rules) where
     pub perform-owed : (r : Run) (act : Act) → ValidAct script spells act → OwedAreHeldBack script rules r → OwedAreHeldBack script rules (perform script rules size refusal r act)
     unfolding perform step poll tick deliver begin end
     perform-owed r (Step a) v h =
-        cond_both (nat_lt (next r.journal a) (length (statements script a))) (add_event script rules r (unless_refused script rules r a (next r.journal a) (why script rules r.journal a (next r.journal a)))) (reply_with script rules r Idle) (OwedAreHeldBack script rules)
-        (λ _. elim (unless_refused script rules r a (next r.journal a) (why script rules r.journal a (next r.journal a))) as (λ o. OwedAreHeldBack script rules (add_event script rules r o)) [ None ↦ h | Some e ↦ h ])
+        cond_both (nat_lt (next r.journal a) (length (statements script a))) (add_event script rules r (unless_refused script rules r a (next r.journal a) (refusal_of script rules r.journal a (next r.journal a)))) (reply_with script rules r Idle) (OwedAreHeldBack script rules)
+        (λ _. elim (unless_refused script rules r a (next r.journal a) (refusal_of script rules r.journal a (next r.journal a))) as (λ o. OwedAreHeldBack script rules (add_event script rules r o)) [ None ↦ h | Some e ↦ h ])
         (λ _. h)
     perform-owed r (Poll t) v h = λ a b e. h a b (and_parts _ _ e).1
     perform-owed r (Tick t) v h = h
@@ -65,7 +66,7 @@ unfolding owed_ack at_once
 owed-told script rules r held now = (
   none,
   λ told. cond-false (holds_back script) [] (told ∷ []) now,
-  λ J a b. ap (λ ps. packets script rules J a b (fresh script rules r J a b) ++ ps) (cond-false (r.owed b a) (ack script rules r b a ∷ []) [] (none b a)) ∙ append-nil (packets script rules J a b (fresh script rules r J a b)),
+  λ J a b. ap (λ ps. packets script rules J a b (to_send script rules r J a b) ++ ps) (cond-false (r.owed b a) (ack script rules r b a ∷ []) [] (none b a)) ∙ append-nil (packets script rules J a b (to_send script rules r J a b)),
 )
   where
     none : (a b : ℕ) → r.owed a b ≡ false

@@ -9,18 +9,19 @@ use Rattle.lapi_base.specs.declared.rule.Rules.{Rules}
 use Rattle.lapi_base.specs.declared.message.MsgName.{MsgName}
 use Rattle.lapi_base.specs.declared.event.Event.{Event}
 use Rattle.lapi_base.specs.declared.event.Event.TheVariants.{Copy}
-use Rattle.lapi_base.specs.Names.{name_eq, Copied, done}
-use Rattle.lapi_base.specs.Operations.{sender, receiver, fragments, fragment_count}
-use Rattle.lapi_base.specs.Record.{Run, out, is_delivered, run_of, least_undelivered}
-use Rattle.lapi_base.specs.Atomic.{Atomic}
-use Rattle.lapi_base.specs.Headline.{HoldsOfRuns}
-use Rattle.lapi_base.specs.Layout.{window_of}
-use Rattle.lapi_base.specs.Links.{IsNumberOf, IsPartlyDelivered, FewArePartial}
+use Rattle.lapi_base.specs.Record.Names.{name_eq, Copied, happened}
+use Rattle.lapi_base.specs.Record.Operations.{sender, receiver, fragments, fragment_count}
+use Rattle.lapi_base.specs.Record.Wires.{Run, numbered, is_delivered, least_undelivered}
+use Rattle.lapi_base.specs.Record.Acts.{run_of}
+use Rattle.lapi_base.specs.Record.Atomic.{Atomic}
+use Rattle.lapi_base.specs.Laws.Headline.{HoldsOfRuns}
+use Rattle.lapi_base.specs.Packet.Layout.{window_of}
+use Rattle.lapi_base.specs.Laws.Links.{IsNumberOf, IsPartlyDelivered, FewArePartial}
 use Rattle.lapi_base.proofs.BelowLaws.{least_missing-below}
 use Rattle.lapi_base.proofs.LayoutLaws.{window-positive}
 use Rattle.lapi_base.proofs.ListLaws.{any-all, get-front, get-places, get-right, some-same}
 use Rattle.lapi_base.proofs.NameLaws.{name_eq-refl}
-use Rattle.lapi_laws.proofs.Out.{out-copied}
+use Rattle.lapi_laws.proofs.Out.{numbered-copied}
 use Rattle.lapi_laws.proofs.Backward.{Atomic-head, Atomic-tail}
 use Rattle.lapi_laws.proofs.Runs.{run-sound}
 use Rattle.lapi_laws.proofs.Places.{fragments-at, fragments-get}
@@ -28,24 +29,24 @@ use Rattle.lapi_laws.proofs.Reach.{delivered-reach}
 
 module _ (script : Script) (rules : Rules) where
   -- the numbers of a message stand together
-  between : (J : List Event) (a b n i k : ℕ) (m : MsgName) (f g : ℕ) → Atomic script rules J → slice_get (out script J a b) n ≡ Some (m, f) → slice_get (out script J a b) k ≡ Some (m, g) → n ≤ i → i ≤ k → (j : ℕ) × (slice_get (out script J a b) i ≡ Some (m, j))
-  unfolding out
+  between : (J : List Event) (a b n i k : ℕ) (m : MsgName) (f g : ℕ) → Atomic script rules J → slice_get (numbered script J a b) n ≡ Some (m, f) → slice_get (numbered script J a b) k ≡ Some (m, g) → n ≤ i → i ≤ k → (j : ℕ) × (slice_get (numbered script J a b) i ≡ Some (m, j))
+  unfolding numbered
   between [] a b n i k m f g h p q low high = absurd (cc)
   between (Copy c ∷ J) a b n i k m f g h p q low high =
       let tail = Atomic-tail script rules (Copy c) J h in
       let new = (Atomic-head script rules (Copy c) J h).once in
-      let old = out script J a b in
+      let old = numbered script J a b in
       cond_both (sender script c == a && receiver script c == b) (old ++ fragments script c) old (λ xs. slice_get xs n ≡ Some (m, f) → slice_get xs k ≡ Some (m, g) → (j : ℕ) × (slice_get xs i ≡ Some (m, j)))
       (λ _ p' q'.
       ⊎_elim
       (λ (u : slice_get old n ≡ Some (m, f)).
       ⊎_elim
       (λ (v : slice_get old k ≡ Some (m, g)). let r = between J a b n i k m f g tail u v low high in (r.0, get-front old (fragments script c) i (m, r.0) r.1))
-      (λ (v : (y : ℕ) × ((k ≡ length old + y) × (slice_get (fragments script c) y ≡ Some (m, g)))). absurd (both_ways _ new (subst (λ z. done (Copied z) J ≡ true) (sym (fragments-at script c v.0 (m, g) v.1.1).0) (out-copied script J a b n (m, f) u).0)))
+      (λ (v : (y : ℕ) × ((k ≡ length old + y) × (slice_get (fragments script c) y ≡ Some (m, g)))). absurd (both_ways _ new (subst (λ z. happened (Copied z) J ≡ true) (sym (fragments-at script c v.0 (m, g) v.1.1).0) (numbered-copied script J a b n (m, f) u).0)))
       (get-places old (fragments script c) k (m, g) q'))
       (λ (u : (y : ℕ) × ((n ≡ length old + y) × (slice_get (fragments script c) y ≡ Some (m, f)))).
       ⊎_elim
-      (λ (v : slice_get old k ≡ Some (m, g)). absurd (both_ways _ new (subst (λ z. done (Copied z) J ≡ true) (sym (fragments-at script c u.0 (m, f) u.1.1).0) (out-copied script J a b k (m, g) v).0)))
+      (λ (v : slice_get old k ≡ Some (m, g)). absurd (both_ways _ new (subst (λ z. happened (Copied z) J ≡ true) (sym (fragments-at script c u.0 (m, f) u.1.1).0) (numbered-copied script J a b k (m, g) v).0)))
       (λ (v : (y : ℕ) × ((k ≡ length old + y) × (slice_get (fragments script c) y ≡ Some (m, g)))).
       let last = fragments-at script c v.0 (m, g) v.1.1 in
       let j = i - length old in
@@ -69,10 +70,10 @@ module _ (script : Script) (rules : Rules) where
     inside m (n, k, at, got, other, lacks) =
         ⊎_elim
         (λ (low : n < least).
-        let high : least ≤ k = ⊎_elim (λ (x : k < least). absurd (both_ways _ lacks (least_missing-below (length (out script r.journal a b)) (is_delivered r a b) k x))) (λ (x : least ≤ k). x) (cases_lt k least) in
+        let high : least ≤ k = ⊎_elim (λ (x : k < least). absurd (both_ways _ lacks (least_missing-below (length (numbered script r.journal a b)) (is_delivered r a b) k x))) (λ (x : least ≤ k). x) (cases_lt k least) in
         let s = between r.journal a b n least k m at.0 other.0 h at.1 other.1 (let l : n ≤ least = omega arith in l) high in
-        (0, window-positive script, (s.0, subst (λ z. slice_get (out script r.journal a b) z ≡ Some (m, s.0)) (let e : least ≡ least + 0 = omega arith in e) s.1)))
-        (λ (ge : least ≤ n). (n - least, omega (arith, reach n got), (at.0, subst (λ z. slice_get (out script r.journal a b) z ≡ Some (m, at.0)) (let e : n ≡ least + (n - least) = omega arith in e) at.1)))
+        (0, window-positive script, (s.0, subst (λ z. slice_get (numbered script r.journal a b) z ≡ Some (m, s.0)) (let e : least ≡ least + 0 = omega arith in e) s.1)))
+        (λ (ge : least ≤ n). (n - least, omega (arith, reach n got), (at.0, subst (λ z. slice_get (numbered script r.journal a b) z ≡ Some (m, at.0)) (let e : n ≡ least + (n - least) = omega arith in e) at.1)))
         (cases_lt n least)
 
     -- such a number of each message: they are as many, below the window, and different
@@ -99,7 +100,7 @@ module _ (script : Script) (rules : Rules) where
     offsets-new m i at (c ∷ ms) x d =
         let other = inside c x.0 in (
           false_from_ne_true _ (λ same.
-              let pairs = some-same (m, at.0) (c, other.2.0) (sym at.1 ∙ subst (λ z. slice_get (out script r.journal a b) (least + z) ≡ Some (c, other.2.0)) (sym (eqb-true i other.0 same)) other.2.1) in
+              let pairs = some-same (m, at.0) (c, other.2.0) (sym at.1 ∙ subst (λ z. slice_get (numbered script r.journal a b) (least + z) ≡ Some (c, other.2.0)) (sym (eqb-true i other.0 same)) other.2.1) in
               both_ways _ d.0 (subst (λ z. name_eq m z ≡ true) (ap (λ (y : MsgName × ℕ). y.0) pairs) (name_eq-refl m))),
           offsets-new m i at ms x.1 d.1,
         )

@@ -5,11 +5,11 @@ use Rattle.std.proofs.lemmas.Bool.{cond_both, lt-ltb}
 use Rattle.std.proofs.lemmas.List.{length-map}
 use Rattle.lapi_base.specs.declared.script.Script.{Script}
 use Rattle.lapi_base.specs.declared.message.MsgName.{MsgName}
-use Rattle.lapi_base.specs.Below.{below}
-use Rattle.lapi_base.specs.Operations.{upto, fragment_count, fragments}
+use Rattle.lapi_base.specs.Record.Below.{below}
+use Rattle.lapi_base.specs.Record.Operations.{numbers_below, fragment_count, fragments}
 use Rattle.lapi_base.proofs.BelowLaws.{below-all}
 use Rattle.lapi_base.proofs.ListLaws.{get-places, get-right, all-get, all-weaker, filter-all, filter-push, some-same}
-use Rattle.lapi_base.proofs.UptoLaws.{upto-length, upto-at, upto-get}
+use Rattle.lapi_base.proofs.UptoLaws.{numbers_below-length, numbers_below-at, numbers_below-get}
 
 -- what stands in a list of pairs with one name
 map-at : (m : MsgName) (js : List ℕ) (k : ℕ) (x : MsgName × ℕ) → slice_get (map (λ j. (m, j)) js) k ≡ Some x → (m ≡ x.0) × (slice_get js k ≡ Some x.1)
@@ -26,17 +26,17 @@ map-get m (i ∷ js) (suc k) j h = map-get m js k j h
 -- fragment j of a message stands at place j, and is below their count
 pub fragments-at : (script : Script) (m : MsgName) (k : ℕ) (x : MsgName × ℕ) → slice_get (fragments script m) k ≡ Some x → (m ≡ x.0) × (k ≡ x.1) × (x.1 < fragment_count script m)
 unfolding fragments
-fragments-at script m k x h = let r = map-at m (upto (fragment_count script m)) k x h in let s = upto-at (fragment_count script m) k x.1 r.1 in (r.0, s.0, s.1)
+fragments-at script m k x h = let r = map-at m (numbers_below (fragment_count script m)) k x h in let s = numbers_below-at (fragment_count script m) k x.1 r.1 in (r.0, s.0, s.1)
 
 -- and each below their count stands there
 pub fragments-get : (script : Script) (m : MsgName) (j : ℕ) → j < fragment_count script m → slice_get (fragments script m) j ≡ Some (m, j)
 unfolding fragments
-fragments-get script m j l = map-get m (upto (fragment_count script m)) j j (upto-get (fragment_count script m) j l)
+fragments-get script m j l = map-get m (numbers_below (fragment_count script m)) j j (numbers_below-get (fragment_count script m) j l)
 
 -- how many fragments a message has
 pub fragments-length : (script : Script) (m : MsgName) → length (fragments script m) ≡ fragment_count script m
 unfolding fragments
-fragments-length script m = length-map (upto (fragment_count script m)) (λ j. (m, j)) ∙ upto-length (fragment_count script m)
+fragments-length script m = length-map (numbers_below (fragment_count script m)) (λ j. (m, j)) ∙ numbers_below-length (fragment_count script m)
 
 -- the numbers below n are below n
 all-below : (n : ℕ) (p : ℕ → Bool) → filter (λ j. nat_lt j n) (below n p) ≡ below n p

@@ -12,14 +12,15 @@ use Rattle.lapi_base.specs.declared.reply.Reply.TheVariants.{Idle}
 use Rattle.lapi_base.specs.declared.reply.Bad.{Bad}
 use Rattle.lapi_base.specs.declared.packet.Packet.{Packet}
 use Rattle.lapi_base.specs.declared.packet.Packet.TheVariants.{Data, Ack}
-use Rattle.lapi_base.specs.Operations.{statements}
-use Rattle.lapi_base.specs.Refusals.{next, why}
-use Rattle.lapi_base.specs.Jobs.{queue, runs}
-use Rattle.lapi_base.specs.Valid.{ValidAct}
-use Rattle.lapi_base.specs.Record.{Run, start, out, is_number, has_number, is_delivered, is_acked, ready, copy_each, packets, sends, poll, stale, tick, with_handed, hand_over, deliver, deliver_entry, unless_refused, add_event, reply_with, step, begin_first, begin_at, begin, end_at, end, cut_entry, perform, run_of, least_undelivered}
-use Rattle.lapi_base.specs.Headline.{HoldsOfRuns}
-use Rattle.lapi_base.specs.Layout.{window_of}
-use Rattle.lapi_base.specs.Links.{StaysInWindow}
+use Rattle.lapi_base.specs.Record.Operations.{statements}
+use Rattle.lapi_base.specs.Record.Refusals.{next, refusal_of}
+use Rattle.lapi_base.specs.Record.Jobs.{queue, runs}
+use Rattle.lapi_base.specs.Record.Valid.{ValidAct}
+use Rattle.lapi_base.specs.Record.Wires.{Run, start, numbered, is_number, has_number, is_delivered, is_acked, packets, sends, to_resend, least_undelivered}
+use Rattle.lapi_base.specs.Record.Acts.{ready, copy_each, poll, tick, with_handed, hand_over, deliver, deliver_entry, unless_refused, add_event, reply_with, step, begin_first, begin_at, begin, end_at, end, cut_entry, perform, run_of}
+use Rattle.lapi_base.specs.Laws.Headline.{HoldsOfRuns}
+use Rattle.lapi_base.specs.Packet.Layout.{window_of}
+use Rattle.lapi_base.specs.Laws.Links.{StaysInWindow}
 use Rattle.lapi_base.proofs.BelowLaws.{least_missing-grows}
 use Rattle.lapi_base.proofs.ListLaws.{any-get}
 use Rattle.lapi_base.proofs.EveryRun.{after-any}
@@ -36,7 +37,7 @@ number-front xs ys n h = list_any-append (is_number n) xs ys ∙ or_left _ _ h
 pub sent-reach : HoldsOfRuns StaysInWindow
 sent-reach script rules spells size refusal acts v = λ a b n h.
     let r = run_of script rules size refusal acts in
-    let count = length (out script r.journal a b) in
+    let count = length (numbered script r.journal a b) in
     omega (arith, run-window script rules size refusal acts a b n h, least_missing-grows count count (is_acked r a b) (is_delivered r a b) (omega arith) (λ k e. acked-delivered script rules r.journal r.wire r.handed (run-sound script rules spells size refusal acts v) a b k e))
 
 module _ (script : Script) (rules : Rules) where
@@ -78,11 +79,11 @@ module _ (script : Script) (rules : Rules) where
     perform-sent : (r : Run) (act : Act) → SentRun r → SentRun (perform script rules size refusal r act)
     unfolding perform step poll tick deliver begin end
     perform-sent r (Step a) h =
-        cond_both (nat_lt (next r.journal a) (length (statements script a))) (add_event script rules r (unless_refused script rules r a (next r.journal a) (why script rules r.journal a (next r.journal a)))) (reply_with script rules r Idle) SentRun
-        (λ _. elim (unless_refused script rules r a (next r.journal a) (why script rules r.journal a (next r.journal a))) as (λ o. SentRun (add_event script rules r o)) [ None ↦ h | Some e ↦ h ])
+        cond_both (nat_lt (next r.journal a) (length (statements script a))) (add_event script rules r (unless_refused script rules r a (next r.journal a) (refusal_of script rules r.journal a (next r.journal a)))) (reply_with script rules r Idle) SentRun
+        (λ _. elim (unless_refused script rules r a (next r.journal a) (refusal_of script rules r.journal a (next r.journal a))) as (λ o. SentRun (add_event script rules r o)) [ None ↦ h | Some e ↦ h ])
         (λ _. h)
     perform-sent r (Poll t) h = let J = copy_each r.journal (ready script r.journal t) in more-sent r.wire r.handed t (λ a b. sends script rules r J a b) h
-    perform-sent r (Tick t) h = more-sent r.wire r.handed t (λ a b. packets script rules r.journal a b (stale script rules r a b)) h
+    perform-sent r (Tick t) h = more-sent r.wire r.handed t (λ a b. packets script rules r.journal a b (to_resend script rules r a b)) h
     perform-sent r (Deliver a b k) h =
         elim (slice_get (r.wire a b) k) as (λ o. slice_get (r.wire a b) k ≡ o → SentRun (deliver_entry script rules r a b o)) [
           | None ↦ λ e. h

@@ -8,11 +8,12 @@ use Rattle.lapi_base.specs.declared.schedule.Act.{Act}
 use Rattle.lapi_base.specs.declared.schedule.Act.TheVariants.{Step, Poll, Tick, Deliver, Cut, Inject}
 use Rattle.lapi_base.specs.declared.reply.Bad.{Bad}
 use Rattle.lapi_base.specs.declared.packet.Packet.{Packet}
-use Rattle.lapi_base.specs.Names.{Landed, Copied, Headed, Entered}
-use Rattle.lapi_base.specs.Valid.{ValidAct}
-use Rattle.lapi_base.specs.Record.{Run, start, out, cut_entry, perform, run_of}
-use Rattle.lapi_base.specs.Atomic.{Atomic}
-use Rattle.lapi_base.proofs.NameLaws.{done-nil}
+use Rattle.lapi_base.specs.Record.Names.{Landed, Copied, Headed, Entered}
+use Rattle.lapi_base.specs.Record.Valid.{ValidAct}
+use Rattle.lapi_base.specs.Record.Wires.{Run, start, numbered}
+use Rattle.lapi_base.specs.Record.Acts.{cut_entry, perform, run_of}
+use Rattle.lapi_base.specs.Record.Atomic.{Atomic}
+use Rattle.lapi_base.proofs.NameLaws.{happened-nil}
 use Rattle.lapi_base.proofs.EveryRun.{after-keeps}
 use Rattle.lapi_laws.proofs.Lines.{SoundRun, tick-sound, poll-sound, deliver-sound}
 use Rattle.lapi_laws.proofs.Turns.{step-sound, begin-sound, end-sound}
@@ -20,16 +21,16 @@ use Rattle.std.proofs.lemmas.Bool.{both_ways}
 
 module _ (script : Script) (rules : Rules) where
   pub start-sound : SoundRun script rules start
-  unfolding Atomic out
+  unfolding Atomic numbered
   start-sound = record {
     atomic = tt;
     wires = λ a b. tt;
     hands = λ a b. tt;
-    landed = λ m h. absurd (both_ways _ (done-nil (Landed m)) h);
-    arrived = λ m h. absurd (both_ways _ (done-nil (Copied m)) h);
-    headed = λ m h. absurd (both_ways _ (done-nil (Headed m)) h);
+    landed = λ m h. absurd (both_ways _ (happened-nil (Landed m)) h);
+    arrived = λ m h. absurd (both_ways _ (happened-nil (Copied m)) h);
+    headed = λ m h. absurd (both_ways _ (happened-nil (Headed m)) h);
     heads = λ m g n x. absurd (cc);
-    fences = λ a i g h. absurd (both_ways _ (done-nil (Entered a i)) h);
+    fences = λ a i g h. absurd (both_ways _ (happened-nil (Entered a i)) h);
   }
 
   module _ (spells : List ℕ → Bool) (size : Packet → ℕ) (refusal : List ℕ → Bad) where

@@ -8,10 +8,10 @@ use Rattle.lapi_base.specs.declared.script.Script.{Script}
 use Rattle.lapi_base.specs.declared.rule.Rules.{Rules}
 use Rattle.lapi_base.specs.declared.packet.Packet.{Packet}
 use Rattle.lapi_base.specs.declared.packet.Packet.TheVariants.{Data, Ack}
-use Rattle.lapi_base.specs.Below.{every_below}
-use Rattle.lapi_base.specs.Jobs.{runs}
-use Rattle.lapi_base.specs.Record.{Run, is_number, has_number, is_acked, fresh}
-use Rattle.lapi_base.specs.Final.{Quiet, is_empty, is_told, is_settled, is_idle, is_quiet}
+use Rattle.lapi_base.specs.Record.Below.{every_below}
+use Rattle.lapi_base.specs.Record.Jobs.{runs}
+use Rattle.lapi_base.specs.Record.Wires.{Run, is_number, has_number, is_acked, to_send}
+use Rattle.lapi_base.specs.Record.Final.{Quiet, is_empty, is_told, is_settled, is_idle, is_quiet}
 use Rattle.lapi_base.proofs.BelowLaws.{every_below-at, every_below-from}
 use Rattle.lapi_base.proofs.ListLaws.{all-weaker, any-all, list_all-at, list_all-each}
 use Rattle.lapi_base.proofs.TestLaws.{eqb-refl}
@@ -42,7 +42,7 @@ module _ (script : Script) (rules : Rules) where
   told-number r a b n (Data p) e t = subst (λ k. is_acked r a b k ≡ true) (eqb-true p.seq n e) t
   told-number r a b n (Ack from to base bits) e t = absurd (false≢true e)
 
-  settled-parts : (r : Run) (a b : ℕ) → is_settled script rules r a b ≡ true → (list_all (is_told script rules r a b) (r.wire a b) ≡ true) × (is_empty (fresh script rules r r.journal a b) ≡ true) × (not (r.owed a b) ≡ true)
+  settled-parts : (r : Run) (a b : ℕ) → is_settled script rules r a b ≡ true → (list_all (is_told script rules r a b) (r.wire a b) ≡ true) × (is_empty (to_send script rules r r.journal a b) ≡ true) × (not (r.owed a b) ≡ true)
   unfolding is_settled
   settled-parts r a b h = let both = and_parts _ _ h in let first = and_parts _ _ both.0 in (first.0, first.1, both.1)
 

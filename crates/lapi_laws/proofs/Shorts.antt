@@ -6,7 +6,7 @@ use Rattle.std.proofs.lemmas.Bool.{both_ways, and_parts, cond_both, eqb-true, lt
 use Rattle.std.proofs.lemmas.List.{length-append}
 use Rattle.std.proofs.lemmas.Map.Steps.{length-le_from_distinct_below}
 use Rattle.std.proofs.lemmas.Option.{slice_get_within}
-use Rattle.lapi_base.specs.Layout.{Layout, First, Second, layout_of, unit, longest, longest_active, unit_of, longest_of, longest_active_of}
+use Rattle.lapi_base.specs.Packet.Layout.{Layout, First, Second, layout_of, unit, longest, longest_active, unit_of, longest_of, longest_active_of}
 use Rattle.lapi_base.specs.declared.script.Script.{Script}
 use Rattle.lapi_base.specs.declared.statement.Statement.{Statement}
 use Rattle.lapi_base.specs.declared.statement.Statement.TheVariants.{Put, Get, Putv, Getv, Am}
@@ -17,18 +17,18 @@ use Rattle.lapi_base.specs.declared.message.MsgName.{MsgName}
 use Rattle.lapi_base.specs.declared.refusal.Refusal.{Refusal}
 use Rattle.lapi_base.specs.declared.event.Event.{Event}
 use Rattle.lapi_base.specs.declared.event.Event.TheVariants.{Issue, Copy}
-use Rattle.lapi_base.specs.Names.{Deed, Issued, Copied, Landed, Begun, Ended, deed, done, message}
-use Rattle.lapi_base.specs.Operations.{statements, statement, sender, receiver, has_leg, has_join, total, pieces_of, length_by, message_length, fragment_count, fragments}
-use Rattle.lapi_base.specs.Fragments.{fragments_in}
-use Rattle.lapi_base.specs.Handlers.{has_completion}
-use Rattle.lapi_base.specs.Refusals.{too_long, first_reason, why_by, why}
-use Rattle.lapi_base.specs.Record.{out, is_number, has_number}
-use Rattle.lapi_base.specs.Atomic.{Atomic, Keeps, has_message, needs, copy_needs, only_if, to_land}
-use Rattle.lapi_base.specs.Valid.{ValidScript, ValidStatement}
-use Rattle.lapi_base.specs.Headline.{HoldsOfRuns}
-use Rattle.lapi_base.specs.Links.{NumbersAreFew, NumbersAreSmall}
+use Rattle.lapi_base.specs.Record.Names.{EventKey, Issued, Copied, Landed, Begun, Ended, key_of, happened, message}
+use Rattle.lapi_base.specs.Record.Operations.{statements, statement, sender, receiver, has_leg, has_join, total, pieces_of, length_by, message_length, fragment_count, fragments}
+use Rattle.lapi_base.specs.Record.Fragments.{fragments_in}
+use Rattle.lapi_base.specs.Record.Handlers.{has_completion}
+use Rattle.lapi_base.specs.Record.Refusals.{too_long, first_reason, refusal_by, refusal_of}
+use Rattle.lapi_base.specs.Record.Wires.{numbered, is_number, has_number}
+use Rattle.lapi_base.specs.Record.Atomic.{Atomic, Keeps, has_message, needs, copy_needs, only_if, to_land}
+use Rattle.lapi_base.specs.Record.Valid.{ValidScript, ValidStatement}
+use Rattle.lapi_base.specs.Laws.Headline.{HoldsOfRuns}
+use Rattle.lapi_base.specs.Laws.Links.{NumbersAreFew, NumbersAreSmall}
 use Rattle.lapi_base.proofs.ListLaws.{any-all}
-use Rattle.lapi_base.proofs.NameLaws.{done-head, done-later}
+use Rattle.lapi_base.proofs.NameLaws.{happened-head, happened-later}
 use Rattle.lapi_laws.proofs.Places.{fragments-length}
 use Rattle.lapi_laws.proofs.Backward.{Atomic-head, Atomic-tail, closed, shown}
 use Rattle.lapi_laws.proofs.Sound.{Lists, Fits, Sound, number-known}
@@ -115,25 +115,25 @@ module _ (script : Script) (rules : Rules) (valid : ValidScript script) where
 
   -- this is the code of a message that was copied
   abbrev Known : List Event → ℕ → Type 0
-  Known J c = (m : MsgName) × (c ≡ code m) × InRange m × (done (Copied m) J ≡ true)
+  Known J c = (m : MsgName) × (c ≡ code m) × InRange m × (happened (Copied m) J ≡ true)
 
   -- what is known stays so
   known-later : (e : Event) (J : List Event) (cs : List ℕ) → AllByRecursion (Known J) cs → AllByRecursion (Known (e ∷ J)) cs
   known-later e J [] h = tt
-  known-later e J (c ∷ cs) h = ((h.0.0, h.0.1, h.0.2, done-later (Copied h.0.0) e J h.0.3), known-later e J cs h.1)
+  known-later e J (c ∷ cs) h = ((h.0.0, h.0.1, h.0.2, happened-later (Copied h.0.0) e J h.0.3), known-later e J cs h.1)
 
   -- each code is of a message that was copied
   known : (J : List Event) → Atomic script rules J → AllByRecursion (Known J) (copies J)
   unfolding copies
   known [] h = tt
-  known (Copy m ∷ J) h = ((m, refl, in-range m (Atomic-head script rules (Copy m) J h).there, done-head (Copy m) J), known-later (Copy m) J (copies J) (known J (Atomic-tail script rules (Copy m) J h)))
+  known (Copy m ∷ J) h = ((m, refl, in-range m (Atomic-head script rules (Copy m) J h).there, happened-head (Copy m) J), known-later (Copy m) J (copies J) (known J (Atomic-tail script rules (Copy m) J h)))
   known (e ∷ J) h = known-later e J (copies J) (known J (Atomic-tail script rules e J h))
 
   -- of a message that isn't copied yet, the code is new
-  new-code : (m : MsgName) (J : List Event) (cs : List ℕ) → InRange m → done (Copied m) J ≡ false → AllByRecursion (Known J) cs → AllByRecursion (λ c. eqb (code m) c ≡ false) cs
+  new-code : (m : MsgName) (J : List Event) (cs : List ℕ) → InRange m → happened (Copied m) J ≡ false → AllByRecursion (Known J) cs → AllByRecursion (λ c. eqb (code m) c ≡ false) cs
   new-code m J [] r d h = tt
   new-code m J (c ∷ cs) r d h =
-      (false_from_ne_true _ (λ same. both_ways _ d (subst (λ (v : MsgName). done (Copied v) J ≡ true) (sym (code-one m h.0.0 r h.0.2 (eqb-true (code m) c same ∙ h.0.1))) h.0.3)), new-code m J cs r d h.1)
+      (false_from_ne_true _ (λ same. both_ways _ d (subst (λ (v : MsgName). happened (Copied v) J ≡ true) (sym (code-one m h.0.0 r h.0.2 (eqb-true (code m) c same ∙ h.0.1))) h.0.3)), new-code m J cs r d h.1)
 
   -- so no code stands twice
   distinct : (J : List Event) → Atomic script rules J → IsDistinct eqb (copies J)
@@ -150,21 +150,21 @@ module _ (script : Script) (rules : Rules) (valid : ValidScript script) where
       subst (λ c. c < 65536) (sym same) (code-below r.1.0 r.1.2))
 
   -- Where each message has at most 64 fragments, the numbers of a link are at most 64 for each message that was copied.
-  out-few : (J : List Event) (a b : ℕ) → ((m : MsgName) → done (Copied m) J ≡ true → fragment_count script m ≤ 64) → length (out script J a b) ≤ 64 * length (copies J)
-  unfolding out copies
-  out-few [] a b h = omega arith
-  out-few (Copy m ∷ J) a b h =
-      let old : length (out script J a b) ≤ 64 * length (copies J) = out-few J a b (λ n d. h n (done-later (Copied n) (Copy m) J d)) in
-      let own : fragment_count script m ≤ 64 = h m (done-head (Copy m) J) in
-      cond_both (sender script m == a && receiver script m == b) (out script J a b ++ fragments script m) (out script J a b) (λ xs. length xs ≤ 64 * suc (length (copies J)))
-      (λ _. let e : length (out script J a b ++ fragments script m) ≡ length (out script J a b) + fragment_count script m = length-append (out script J a b) (fragments script m) ∙ ap (λ n. length (out script J a b) + n) (fragments-length script m) in omega arith)
+  numbered-few : (J : List Event) (a b : ℕ) → ((m : MsgName) → happened (Copied m) J ≡ true → fragment_count script m ≤ 64) → length (numbered script J a b) ≤ 64 * length (copies J)
+  unfolding numbered copies
+  numbered-few [] a b h = omega arith
+  numbered-few (Copy m ∷ J) a b h =
+      let old : length (numbered script J a b) ≤ 64 * length (copies J) = numbered-few J a b (λ n d. h n (happened-later (Copied n) (Copy m) J d)) in
+      let own : fragment_count script m ≤ 64 = h m (happened-head (Copy m) J) in
+      cond_both (sender script m == a && receiver script m == b) (numbered script J a b ++ fragments script m) (numbered script J a b) (λ xs. length xs ≤ 64 * suc (length (copies J)))
+      (λ _. let e : length (numbered script J a b ++ fragments script m) ≡ length (numbered script J a b) + fragment_count script m = length-append (numbered script J a b) (fragments script m) ∙ ap (λ n. length (numbered script J a b) + n) (fragments-length script m) in omega arith)
       (λ _. omega arith)
-  out-few (e ∷ J) a b h = out-few J a b (λ n d. h n (done-later (Copied n) e J d))
+  numbered-few (e ∷ J) a b h = numbered-few J a b (λ n d. h n (happened-later (Copied n) e J d))
 
   -- The numbers of a link stay far below 2^32.
-  pub numbers-few : (J : List Event) (a b : ℕ) → Atomic script rules J → ((m : MsgName) → done (Copied m) J ≡ true → fragment_count script m ≤ 64) → length (out script J a b) ≤ 4194304
+  pub numbers-few : (J : List Event) (a b : ℕ) → Atomic script rules J → ((m : MsgName) → happened (Copied m) J ≡ true → fragment_count script m ≤ 64) → length (numbered script J a b) ≤ 4194304
   numbers-few J a b h small =
-      let one : length (out script J a b) ≤ 64 * length (copies J) = out-few J a b small in
+      let one : length (numbered script J a b) ≤ 64 * length (copies J) = numbered-few J a b small in
       let two : length (copies J) ≤ 65536 = few-copies J h in
       omega arith
 
@@ -210,40 +210,40 @@ module _ (script : Script) (rules : Rules) where
   length-short _ _ h = omega (arith, longest-least script)
 
   -- An issued operation isn't too long.
-  abbrev IsShort : Deed → Type 0
+  abbrev IsShort : EventKey → Type 0
   IsShort (Issued a i) = too_long script (statement script a i) ≡ false
   IsShort _ = Unit {0}
 
   -- what isn't refused isn't too long
-  why-short : (J : List Event) (a i : ℕ) → why script rules J a i ≡ None → too_long script (statement script a i) ≡ false
-  unfolding why why_by
+  why-short : (J : List Event) (a i : ℕ) → refusal_of script rules J a i ≡ None → too_long script (statement script a i) ≡ false
+  unfolding refusal_of refusal_by
   why-short J a i h = (none-tests _ h).1.1.1.1.0
 
   -- what is issued isn't refused
-  short-now : (e : Event) (J : List Event) → Keeps script rules J e → IsShort (deed e)
+  short-now : (e : Event) (J : List Event) → Keeps script rules J e → IsShort (key_of e)
   short-now (Issue a i) J k = why-short J a i k.order.1
   short-now e J k = tt
 
   -- what holds of all of two lists holds of the second's
-  pub last-of : (P : Deed → Type 0) (xs ys : List Deed) → AllByRecursion P (xs ++ ys) → AllByRecursion P ys
+  pub last-of : (P : EventKey → Type 0) (xs ys : List EventKey) → AllByRecursion P (xs ++ ys) → AllByRecursion P ys
   last-of P [] ys h = h
   last-of P (x ∷ xs) ys h = last-of P xs ys h.1
 
   -- Go and Back come after an Issue; an Echo carries a word, and a Note and a Join nothing.
-  needs-short : (J : List Event) (a i : ℕ) (leg : Leg) → Atomic script rules J → AllByRecursion (λ d. done d J ≡ true) (copy_needs script rules a i leg) → length_by leg (statement script a i) ≤ longest_of script
+  needs-short : (J : List Event) (a i : ℕ) (leg : Leg) → Atomic script rules J → AllByRecursion (λ d. happened d J ≡ true) (copy_needs script rules a i leg) → length_by leg (statement script a i) ≤ longest_of script
   needs-short J a i Go h n = length-short Go (statement script a i) (shown script rules IsShort short-now (Issued a i) J h n.0)
   needs-short J a i Back h n =
-      let rest = last-of (λ d. done d J ≡ true) (only_if (has_completion script rules a i) (Begun (message a i Go) ∷ Ended (message a i Go) ∷ [])) (Landed (message a i Go) ∷ to_land script rules a i) n in
+      let rest = last-of (λ d. happened d J ≡ true) (only_if (has_completion script rules a i) (Begun (message a i Go) ∷ Ended (message a i Go) ∷ [])) (Landed (message a i Go) ∷ to_land script rules a i) n in
       length-short Back (statement script a i) (shown script rules IsShort short-now (Issued a i) J h rest.1.0)
   needs-short J a i _ h n = omega (arith, longest-least script)
 
   -- so every message that was copied is short
-  pub copied-short : (J : List Event) (m : MsgName) → Atomic script rules J → done (Copied m) J ≡ true → message_length script m ≤ longest_of script
+  pub copied-short : (J : List Event) (m : MsgName) → Atomic script rules J → happened (Copied m) J ≡ true → message_length script m ≤ longest_of script
   unfolding message_length needs
   copied-short J m h d = needs-short J m.origin m.statement m.leg h (closed script rules (Copied m) J h d)
 
   -- and has few fragments
-  pub copied-few : (J : List Event) (m : MsgName) → Atomic script rules J → done (Copied m) J ≡ true → fragment_count script m ≤ 64
+  pub copied-few : (J : List Event) (m : MsgName) → Atomic script rules J → happened (Copied m) J ≡ true → fragment_count script m ≤ 64
   unfolding fragment_count unit_of longest_of
   copied-few J m h d = few-units (layout_of script.layout) (message_length script m) (copied-short J m h d)
 
@@ -253,7 +253,7 @@ module _ (script : Script) (rules : Rules) where
   sent-small J wire handed valid s a b n h =
       let p = any-all (is_number n) (Fits script rules J handed a b) (wire a b) (s.wires a b) h in
       let x = number-known script rules J handed a b n p.0 p.1 p.2 in
-      let room : n < length (out script J a b) = slice_get_within (out script J a b) n x.0 x.1 in
+      let room : n < length (numbered script J a b) = slice_get_within (numbered script J a b) n x.0 x.1 in
       let few = numbers-few script rules valid J a b s.atomic (λ m d. copied-few J m s.atomic d) in
       omega arith
 

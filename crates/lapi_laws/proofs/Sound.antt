@@ -13,14 +13,14 @@ use Rattle.lapi_base.specs.declared.event.Event.{Event}
 use Rattle.lapi_base.specs.declared.event.Event.TheVariants.{Issue, Refuse, Enter, Pass, Copy, Head, Land, Begin, End}
 use Rattle.lapi_base.specs.declared.packet.Packet.{Packet}
 use Rattle.lapi_base.specs.declared.packet.Packet.TheVariants.{Data, Ack}
-use Rattle.lapi_base.specs.Names.{leg_eq, Deed, Issued, Entered, Copied, Headed, Landed, deed, done, message}
-use Rattle.lapi_base.specs.Operations.{statement, sender, receiver, is_data, is_am, is_gfence}
-use Rattle.lapi_base.specs.Record.{out, is_number, covers, has_number, has_ack}
-use Rattle.lapi_base.specs.Atomic.{Atomic, Keeps, needs, land_needs, landed_before, data_landed}
+use Rattle.lapi_base.specs.Record.Names.{leg_eq, EventKey, Issued, Entered, Copied, Headed, Landed, key_of, happened, message}
+use Rattle.lapi_base.specs.Record.Operations.{statement, sender, receiver, is_data, is_am, is_gfence}
+use Rattle.lapi_base.specs.Record.Wires.{numbered, is_number, covers, has_number, has_ack}
+use Rattle.lapi_base.specs.Record.Atomic.{Atomic, Keeps, needs, land_needs, landed_before, data_landed}
 use Rattle.lapi_base.proofs.BelowLaws.{every_below-at, every_below-from}
 use Rattle.lapi_base.proofs.ListLaws.{all-weaker, any-all}
-use Rattle.lapi_base.proofs.NameLaws.{done-cases, done-later}
-use Rattle.lapi_laws.proofs.Out.{out-later, out-added, out-new}
+use Rattle.lapi_base.proofs.NameLaws.{happened-cases, happened-later}
+use Rattle.lapi_laws.proofs.Out.{numbered-later, numbered-added, numbered-new}
 use Rattle.lapi_laws.proofs.Backward.{Atomic-cons, closed}
 
 abbrev pub Lists : Type 0
@@ -40,12 +40,12 @@ implied-from false y z f = refl
 module _ (script : Script) (rules : Rules) where
   -- An entry of the wire from a to b: a data packet has the pair of its number, an acknowledgement tells of what was delivered the other way.
   abbrev pub Fits : List Event → Lists → (a b : ℕ) → Packet → Type 0
-  Fits J handed a b (Data p) = slice_get (out script J a b) p.seq ≡ Some (p.name, p.fragment)
+  Fits J handed a b (Data p) = slice_get (numbered script J a b) p.seq ≡ Some (p.name, p.fragment)
   Fits J handed a b (Ack from to least bits) = (n : ℕ) → covers n (Ack from to least bits) ≡ true → has_number (handed b a) n ≡ true
 
   -- number n is of message m; number n of message m was delivered
   abbrev pub IsOf : List Event → MsgName → ℕ → Type 0
-  IsOf J m n = (j : ℕ) × (slice_get (out script J (sender script m) (receiver script m)) n ≡ Some (m, j))
+  IsOf J m n = (j : ℕ) × (slice_get (numbered script J (sender script m) (receiver script m)) n ≡ Some (m, j))
 
   abbrev pub Got : Lists → MsgName → ℕ → Type 0
   Got handed m n = has_number (handed (sender script m) (receiver script m)) n ≡ true
@@ -58,16 +58,16 @@ module _ (script : Script) (rules : Rules) where
     pub wires : (a b : ℕ) → AllByRecursion (Fits J handed a b) (wire a b)
     pub hands : (a b : ℕ) → AllByRecursion (Fits J handed a b) (handed a b)
     -- a message has landed exactly where all its numbers were delivered
-    pub landed : (m : MsgName) → done (Landed m) J ≡ true → (n : ℕ) → IsOf J m n → Got handed m n
-    pub arrived : (m : MsgName) → done (Copied m) J ≡ true → ((n : ℕ) → IsOf J m n → Got handed m n) → done (Landed m) J ≡ true
+    pub landed : (m : MsgName) → happened (Landed m) J ≡ true → (n : ℕ) → IsOf J m n → Got handed m n
+    pub arrived : (m : MsgName) → happened (Copied m) J ≡ true → ((n : ℕ) → IsOf J m n → Got handed m n) → happened (Landed m) J ≡ true
     -- an active message has its head exactly where some number was delivered
-    pub headed : (m : MsgName) → done (Headed m) J ≡ true → (n : ℕ) × (IsOf J m n × Got handed m n)
-    pub heads : (m : MsgName) → IsHeadGo m ≡ true → (n : ℕ) → IsOf J m n → Got handed m n → done (Headed m) J ≡ true
+    pub headed : (m : MsgName) → happened (Headed m) J ≡ true → (n : ℕ) × (IsOf J m n × Got handed m n)
+    pub heads : (m : MsgName) → IsHeadGo m ≡ true → (n : ℕ) → IsOf J m n → Got handed m n → happened (Headed m) J ≡ true
     -- a fence over all tasks is entered with all earlier data landed
-    pub fences : (a i : ℕ) → is_gfence (statement script a i) ≡ true → done (Entered a i) J ≡ true → landed_before script rules J a i ≡ true
+    pub fences : (a i : ℕ) → is_gfence (statement script a i) ≡ true → happened (Entered a i) J ≡ true → landed_before script rules J a i ≡ true
 
   fits-later : (e : Event) (J : List Event) (handed : Lists) (a b : ℕ) (p : Packet) → Fits J handed a b p → Fits (e ∷ J) handed a b p
-  fits-later e J handed a b (Data p) h = out-later script e J a b p.seq (p.name, p.fragment) h
+  fits-later e J handed a b (Data p) h = numbered-later script e J a b p.seq (p.name, p.fragment) h
   fits-later e J handed a b (Ack from to least bits) h = h
 
   pub fits-more : (J : List Event) (old new : Lists) → ((x y n : ℕ) → has_number (old x y) n ≡ true → has_number (new x y) n ≡ true) → (a b : ℕ) (p : Packet) → Fits J old a b p → Fits J new a b p
@@ -78,11 +78,11 @@ module _ (script : Script) (rules : Rules) where
   all-later e J handed wire h a b = all-weaker (Fits J handed a b) (Fits (e ∷ J) handed a b) (fits-later e J handed a b) (wire a b) (h a b)
 
   -- a number that was delivered is one of the link
-  pub number-known : (J : List Event) (handed : Lists) (a b n : ℕ) (p : Packet) → Fits J handed a b p → is_number n p ≡ true → (x : MsgName × ℕ) × (slice_get (out script J a b) n ≡ Some x)
-  number-known J handed a b n (Data p) f h = ((p.name, p.fragment), subst (λ k. slice_get (out script J a b) k ≡ Some (p.name, p.fragment)) (eqb-true p.seq n h) f)
+  pub number-known : (J : List Event) (handed : Lists) (a b n : ℕ) (p : Packet) → Fits J handed a b p → is_number n p ≡ true → (x : MsgName × ℕ) × (slice_get (numbered script J a b) n ≡ Some x)
+  number-known J handed a b n (Data p) f h = ((p.name, p.fragment), subst (λ k. slice_get (numbered script J a b) k ≡ Some (p.name, p.fragment)) (eqb-true p.seq n h) f)
   number-known J handed a b n (Ack from to least bits) f h = absurd (false≢true h)
 
-  pub known : (J : List Event) (wire handed : Lists) → Sound J wire handed → (a b n : ℕ) → has_number (handed a b) n ≡ true → (x : MsgName × ℕ) × (slice_get (out script J a b) n ≡ Some x)
+  pub known : (J : List Event) (wire handed : Lists) → Sound J wire handed → (a b n : ℕ) → has_number (handed a b) n ≡ true → (x : MsgName × ℕ) × (slice_get (numbered script J a b) n ≡ Some x)
   unfolding has_number
   known J wire handed s a b n h =
       let r = any-all (is_number n) (Fits J handed a b) (handed a b) (s.hands a b) h in
@@ -100,21 +100,21 @@ module _ (script : Script) (rules : Rules) where
       acked-known J handed a b n r.0 r.1 r.2
 
   -- Data that landed before a statement.
-  pub landed_before-at : (J : List Event) (a i j : ℕ) → landed_before script rules J a i ≡ true → j < i → is_data (statement script a j) ≡ true → done (Issued a j) J ≡ true → data_landed script rules J a j ≡ true
+  pub landed_before-at : (J : List Event) (a i j : ℕ) → landed_before script rules J a i ≡ true → j < i → is_data (statement script a j) ≡ true → happened (Issued a j) J ≡ true → data_landed script rules J a j ≡ true
   unfolding landed_before
-  landed_before-at J a i j h l d s = implied-at (is_data (statement script a j)) (done (Issued a j) J) (data_landed script rules J a j) (every_below-at i (λ k. not (is_data (statement script a k) && done (Issued a k) J) || data_landed script rules J a k) j h l) d s
+  landed_before-at J a i j h l d s = implied-at (is_data (statement script a j)) (happened (Issued a j) J) (data_landed script rules J a j) (every_below-at i (λ k. not (is_data (statement script a k) && happened (Issued a k) J) || data_landed script rules J a k) j h l) d s
 
-  pub landed_before-from : (J : List Event) (a i : ℕ) → ((j : ℕ) → j < i → is_data (statement script a j) ≡ true → done (Issued a j) J ≡ true → data_landed script rules J a j ≡ true) → landed_before script rules J a i ≡ true
+  pub landed_before-from : (J : List Event) (a i : ℕ) → ((j : ℕ) → j < i → is_data (statement script a j) ≡ true → happened (Issued a j) J ≡ true → data_landed script rules J a j ≡ true) → landed_before script rules J a i ≡ true
   unfolding landed_before
-  landed_before-from J a i f = every_below-from i (λ k. not (is_data (statement script a k) && done (Issued a k) J) || data_landed script rules J a k) (λ j l. implied-from (is_data (statement script a j)) (done (Issued a j) J) (data_landed script rules J a j) (f j l))
+  landed_before-from J a i f = every_below-from i (λ k. not (is_data (statement script a k) && happened (Issued a k) J) || data_landed script rules J a k) (λ j l. implied-from (is_data (statement script a j)) (happened (Issued a j) J) (data_landed script rules J a j) (f j l))
 
-  pub landed_before-later : (e : Event) (J : List Event) (a i : ℕ) → ((j : ℕ) → j < i → Issued a j ≡ deed e → ⊥) → landed_before script rules J a i ≡ true → landed_before script rules (e ∷ J) a i ≡ true
+  pub landed_before-later : (e : Event) (J : List Event) (a i : ℕ) → ((j : ℕ) → j < i → Issued a j ≡ key_of e → ⊥) → landed_before script rules J a i ≡ true → landed_before script rules (e ∷ J) a i ≡ true
   landed_before-later e J a i apart h =
       landed_before-from (e ∷ J) a i (λ j l d s.
       ⊎_elim
-      (λ (x : Issued a j ≡ deed e). absurd (apart j l x))
-      (λ (x : done (Issued a j) J ≡ true). done-later _ e J (landed_before-at J a i j h l d x))
-      (done-cases (Issued a j) e J s))
+      (λ (x : Issued a j ≡ key_of e). absurd (apart j l x))
+      (λ (x : happened (Issued a j) J ≡ true). happened-later _ e J (landed_before-at J a i j h l d x))
+      (happened-cases (Issued a j) e J s))
 
   -- An event that is neither Copy, Head nor Land.
   abbrev pub IsSilent : Event → Type 0
@@ -123,8 +123,8 @@ module _ (script : Script) (rules : Rules) where
   IsSilent (Land m) = ⊥
   IsSilent _ = Unit {0}
 
-  silent-out : (e : Event) (J : List Event) (a b : ℕ) → IsSilent e → out script (e ∷ J) a b ≡ out script J a b
-  unfolding out
+  silent-out : (e : Event) (J : List Event) (a b : ℕ) → IsSilent e → numbered script (e ∷ J) a b ≡ numbered script J a b
+  unfolding numbered
   silent-out (Issue t i) J a b h = refl
   silent-out (Refuse t i y) J a b h = refl
   silent-out (Enter t i) J a b h = refl
@@ -135,13 +135,13 @@ module _ (script : Script) (rules : Rules) where
   silent-out (Begin m t w) J a b h = refl
   silent-out (End m t w) J a b h = refl
 
-  abbrev pub IsMessageDeed : Deed → Type 0
+  abbrev pub IsMessageDeed : EventKey → Type 0
   IsMessageDeed (Copied m) = Unit {0}
   IsMessageDeed (Headed m) = Unit {0}
   IsMessageDeed (Landed m) = Unit {0}
   IsMessageDeed _ = ⊥
 
-  silent-not : (e : Event) (d : Deed) → IsSilent e → IsMessageDeed d → d ≡ deed e → ⊥
+  silent-not : (e : Event) (d : EventKey) → IsSilent e → IsMessageDeed d → d ≡ key_of e → ⊥
   silent-not (Issue t i) d h g x = subst IsMessageDeed x g
   silent-not (Refuse t i y) d h g x = subst IsMessageDeed x g
   silent-not (Enter t i) d h g x = subst IsMessageDeed x g
@@ -152,39 +152,39 @@ module _ (script : Script) (rules : Rules) where
   silent-not (Begin m t w) d h g x = subst IsMessageDeed x g
   silent-not (End m t w) d h g x = subst IsMessageDeed x g
 
-  silent-done : (e : Event) (d : Deed) (J : List Event) → IsSilent e → IsMessageDeed d → done d (e ∷ J) ≡ true → done d J ≡ true
-  silent-done e d J h g s = ⊎_elim (λ (x : d ≡ deed e). absurd (silent-not e d h g x)) (λ (x : done d J ≡ true). x) (done-cases d e J s)
+  silent-done : (e : Event) (d : EventKey) (J : List Event) → IsSilent e → IsMessageDeed d → happened d (e ∷ J) ≡ true → happened d J ≡ true
+  silent-done e d J h g s = ⊎_elim (λ (x : d ≡ key_of e). absurd (silent-not e d h g x)) (λ (x : happened d J ≡ true). x) (happened-cases d e J s)
 
   silent-of : (e : Event) (J : List Event) (m : MsgName) (n : ℕ) → IsSilent e → IsOf (e ∷ J) m n → IsOf J m n
   silent-of e J m n h x = (x.0, subst (λ xs. slice_get xs n ≡ Some (m, x.0)) (silent-out e J (sender script m) (receiver script m) h) x.1)
 
   pub of-later : (e : Event) (J : List Event) (m : MsgName) (n : ℕ) → IsOf J m n → IsOf (e ∷ J) m n
-  of-later e J m n x = (x.0, out-later script e J (sender script m) (receiver script m) n (m, x.0) x.1)
+  of-later e J m n x = (x.0, numbered-later script e J (sender script m) (receiver script m) n (m, x.0) x.1)
 
-  pub add_silent : (e : Event) (J : List Event) (wire handed : Lists) → IsSilent e → Keeps script rules J e → ((a i : ℕ) → is_gfence (statement script a i) ≡ true → done (Entered a i) (e ∷ J) ≡ true → landed_before script rules (e ∷ J) a i ≡ true) → Sound J wire handed → Sound (e ∷ J) wire handed
+  pub add_silent : (e : Event) (J : List Event) (wire handed : Lists) → IsSilent e → Keeps script rules J e → ((a i : ℕ) → is_gfence (statement script a i) ≡ true → happened (Entered a i) (e ∷ J) ≡ true → landed_before script rules (e ∷ J) a i ≡ true) → Sound J wire handed → Sound (e ∷ J) wire handed
   add_silent e J wire handed quiet keeps fence s = record {
     atomic = Atomic-cons script rules e J keeps s.atomic;
     wires = all-later e J handed wire s.wires;
     hands = all-later e J handed handed s.hands;
     landed = λ m l n x. s.landed m (silent-done e (Landed m) J quiet tt l) n (silent-of e J m n quiet x);
-    arrived = λ m c all. done-later (Landed m) e J (s.arrived m (silent-done e (Copied m) J quiet tt c) (λ n x. all n (of-later e J m n x)));
+    arrived = λ m c all. happened-later (Landed m) e J (s.arrived m (silent-done e (Copied m) J quiet tt c) (λ n x. all n (of-later e J m n x)));
     headed = λ m h. let r = s.headed m (silent-done e (Headed m) J quiet tt h) in (r.0, (of-later e J m r.0 r.1.0, r.1.1));
-    heads = λ m g n x got. done-later (Headed m) e J (s.heads m g n (silent-of e J m n quiet x) got);
+    heads = λ m g n x got. happened-later (Headed m) e J (s.heads m g n (silent-of e J m n quiet x) got);
     fences = fence;
   }
 
-  pub before : (d : Deed) (e : Event) (J : List Event) → (d ≡ deed e → ⊥) → done d (e ∷ J) ≡ true → done d J ≡ true
-  before d e J apart s = ⊎_elim (λ (x : d ≡ deed e). absurd (apart x)) (λ (x : done d J ≡ true). x) (done-cases d e J s)
+  pub before : (d : EventKey) (e : Event) (J : List Event) → (d ≡ key_of e → ⊥) → happened d (e ∷ J) ≡ true → happened d J ≡ true
+  before d e J apart s = ⊎_elim (λ (x : d ≡ key_of e). absurd (apart x)) (λ (x : happened d J ≡ true). x) (happened-cases d e J s)
 
   -- a number of a later journal that was delivered is an earlier one
   pub of-known : (e : Event) (J : List Event) (wire handed : Lists) → Sound J wire handed → (m : MsgName) (n : ℕ) → Got handed m n → IsOf (e ∷ J) m n → IsOf J m n
   of-known e J wire handed s m n got x =
       let k = known J wire handed s (sender script m) (receiver script m) n got in
-      let later = out-later script e J (sender script m) (receiver script m) n k.0 k.1 in
+      let later = numbered-later script e J (sender script m) (receiver script m) n k.0 k.1 in
       let same : k.0 ≡ (m, x.0) = let both : Some k.0 ≡ Some (m, x.0) = sym later ∙ x.1 in cc in
       (x.0, k.1 ∙ ap Some same)
 
-  land-copied : (J : List Event) (a i : ℕ) (leg : Leg) → AllByRecursion (λ d. done d J ≡ true) (land_needs script rules a i leg) → done (Copied (message a i leg)) J ≡ true
+  land-copied : (J : List Event) (a i : ℕ) (leg : Leg) → AllByRecursion (λ d. happened d J ≡ true) (land_needs script rules a i leg) → happened (Copied (message a i leg)) J ≡ true
   land-copied J a i Go h = h.1.0
   land-copied J a i Back h = h.0
   land-copied J a i Note h = h.0
@@ -192,7 +192,7 @@ module _ (script : Script) (rules : Rules) where
   land-copied J a i (Join d) h = h.0
 
   -- what landed was copied
-  pub landed-copied : (J : List Event) (m : MsgName) → Atomic script rules J → done (Landed m) J ≡ true → done (Copied m) J ≡ true
+  pub landed-copied : (J : List Event) (m : MsgName) → Atomic script rules J → happened (Landed m) J ≡ true → happened (Copied m) J ≡ true
   unfolding needs
   landed-copied J m h s = land-copied J m.origin m.statement m.leg (closed script rules (Landed m) J h s)
 
@@ -205,23 +205,23 @@ module _ (script : Script) (rules : Rules) where
     landed = λ n l k x.
         let old = before (Landed n) (Copy m) J (λ y. cc) l in
         ⊎_elim
-        (λ (y : slice_get (out script J (sender script n) (receiver script n)) k ≡ Some (n, x.0)). s.landed n old k (x.0, y))
-        (λ (y : m ≡ n). absurd (both_ways _ keeps.once (subst (λ z. done (Copied z) J ≡ true) (sym y) (landed-copied J n s.atomic old))))
-        (out-added script m J (sender script n) (receiver script n) k (n, x.0) x.1);
+        (λ (y : slice_get (numbered script J (sender script n) (receiver script n)) k ≡ Some (n, x.0)). s.landed n old k (x.0, y))
+        (λ (y : m ≡ n). absurd (both_ways _ keeps.once (subst (λ z. happened (Copied z) J ≡ true) (sym y) (landed-copied J n s.atomic old))))
+        (numbered-added script m J (sender script n) (receiver script n) k (n, x.0) x.1);
     arrived = λ n c all.
         ⊎_elim
         (λ (y : Copied n ≡ Copied m).
         let same : n ≡ m = cc in
         let whole = subst (λ z. (k : ℕ) → IsOf (Copy m ∷ J) z k → Got handed z k) same all in
-        let new = out-new script m J in
-        let number = length (out script J (sender script m) (receiver script m)) in
+        let new = numbered-new script m J in
+        let number = length (numbered script J (sender script m) (receiver script m)) in
         let k = known J wire handed s (sender script m) (receiver script m) number (whole number new) in
-        let below : number < number = slice_get_within (out script J (sender script m) (receiver script m)) number k.0 k.1 in
+        let below : number < number = slice_get_within (numbered script J (sender script m) (receiver script m)) number k.0 k.1 in
         absurd (omega (arith, below)))
-        (λ (y : done (Copied n) J ≡ true). done-later (Landed n) (Copy m) J (s.arrived n y (λ k x. all k (of-later (Copy m) J n k x))))
-        (done-cases (Copied n) (Copy m) J c);
+        (λ (y : happened (Copied n) J ≡ true). happened-later (Landed n) (Copy m) J (s.arrived n y (λ k x. all k (of-later (Copy m) J n k x))))
+        (happened-cases (Copied n) (Copy m) J c);
     headed = λ n h. let r = s.headed n (before (Headed n) (Copy m) J (λ y. cc) h) in (r.0, (of-later (Copy m) J n r.0 r.1.0, r.1.1));
-    heads = λ n g k x got. done-later (Headed n) (Copy m) J (s.heads n g k (of-known (Copy m) J wire handed s n k got x) got);
+    heads = λ n g k x got. happened-later (Headed n) (Copy m) J (s.heads n g k (of-known (Copy m) J wire handed s n k got x) got);
     fences = λ a i g h. landed_before-later (Copy m) J a i (λ j l x. cc) (s.fences a i g (before (Entered a i) (Copy m) J (λ y. cc) h));
   }
 

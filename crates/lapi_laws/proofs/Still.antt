@@ -5,7 +5,7 @@ use Rattle.std.specs.List.{AllByRecursion, list_all}
 use Rattle.std.proofs.lemmas.Bool.{false≢true, and_parts, and_from, cond_both, cond-true, eq-eqb, ltb-true, lt-ltb, true_from_ne_false, and_left, and_right, not_from_true, not_from_false}
 use Rattle.std.proofs.lemmas.List.{append-nil}
 use Rattle.std.proofs.lemmas.List.Folds.{list_any-append}
-use Rattle.lapi_base.specs.Layout.{window_of, holds_back}
+use Rattle.lapi_base.specs.Packet.Layout.{window_of, holds_back}
 use Rattle.lapi_base.specs.declared.script.Script.{Script}
 use Rattle.lapi_base.specs.declared.statement.Statement.{Statement}
 use Rattle.lapi_base.specs.declared.statement.Statement.TheVariants.{Put, Get, Putv, Getv, Rmw, Am}
@@ -22,17 +22,18 @@ use Rattle.lapi_base.specs.declared.reply.Reply.TheVariants.{Did, Idle}
 use Rattle.lapi_base.specs.declared.reply.Bad.{Bad}
 use Rattle.lapi_base.specs.declared.packet.Packet.{Packet}
 use Rattle.lapi_base.specs.declared.packet.Packet.TheVariants.{Data, Ack}
-use Rattle.lapi_base.specs.Below.{least_missing}
-use Rattle.lapi_base.specs.Names.{Deed, Issued, Entered, Copied, Landed, done, message}
-use Rattle.lapi_base.specs.Operations.{statement, is_data, is_am, has_back, has_leg, cmpl_counter, target, from_by, to_by, sender, receiver}
-use Rattle.lapi_base.specs.Handlers.{has_completion, answers}
-use Rattle.lapi_base.specs.Record.{Run, out, is_number, has_number, has_ack, is_sent, is_acked, base, ready, copy_each, followed, packets, fresh, ack, sends, poll, stale, tick, arrival, at_once, reply_with, with_handed, hand_over, deliver, deliver_entry, begin_first, begin_at, begin, end_at, end, cut_entry, perform, after}
-use Rattle.lapi_base.specs.Valid.{ValidAct, IsNoStep}
-use Rattle.lapi_base.specs.Atomic.{Atomic, needs, copy_needs, only_if, to_land, to_follow}
-use Rattle.lapi_base.specs.Final.{Quiet}
+use Rattle.lapi_base.specs.Record.Below.{least_missing}
+use Rattle.lapi_base.specs.Record.Names.{EventKey, Issued, Entered, Copied, Landed, happened, message}
+use Rattle.lapi_base.specs.Record.Operations.{statement, is_data, is_am, has_back, has_leg, cmpl_counter, target, from_by, to_by, sender, receiver}
+use Rattle.lapi_base.specs.Record.Handlers.{has_completion, answers}
+use Rattle.lapi_base.specs.Record.Wires.{Run, numbered, is_number, has_number, has_ack, is_sent, is_acked, base, packets, to_send, ack, sends, to_resend}
+use Rattle.lapi_base.specs.Record.Acts.{ready, copy_each, followed, poll, tick, first_delivery, at_once, reply_with, with_handed, hand_over, deliver, deliver_entry, begin_first, begin_at, begin, end_at, end, cut_entry, perform, after}
+use Rattle.lapi_base.specs.Record.Valid.{ValidAct, IsNoStep}
+use Rattle.lapi_base.specs.Record.Atomic.{Atomic, needs, copy_needs, only_if, to_land, to_follow}
+use Rattle.lapi_base.specs.Record.Final.{Quiet}
 use Rattle.lapi_base.proofs.BelowLaws.{below-lacks, below-none, every_below-from, least_missing-whole}
 use Rattle.lapi_base.proofs.ListLaws.{any-get}
-use Rattle.lapi_laws.proofs.Out.{out-copied}
+use Rattle.lapi_laws.proofs.Out.{numbered-copied}
 use Rattle.lapi_laws.proofs.Backward.{closed, there}
 use Rattle.lapi_laws.proofs.Lines.{SoundRun, answer-completion}
 use Rattle.lapi_laws.proofs.Sound.{Lists, acked-delivered}
@@ -56,19 +57,19 @@ cmpl-data (Putv target to from tgt org cmpl) h = refl
 cmpl-data (Am target handler header from len tgt org cmpl) h = refl
 cmpl-data _ h = absurd (false≢true h)
 
-copy_each-same : (ms : List MsgName) (J : List Event) → list_all (λ m. done (Copied m) J) ms ≡ true → copy_each J ms ≡ J
+copy_each-same : (ms : List MsgName) (J : List Event) → list_all (λ m. happened (Copied m) J) ms ≡ true → copy_each J ms ≡ J
 unfolding copy_each
 copy_each-same [] J h = refl
 copy_each-same (m ∷ ms) J h =
     let both = and_parts _ _ h in
-    ap (λ K. copy_each K ms) (cond-true (done (Copied m) J) J (Copy m ∷ J) both.0) ∙ copy_each-same ms J both.1
+    ap (λ K. copy_each K ms) (cond-true (happened (Copied m) J) J (Copy m ∷ J) both.0) ∙ copy_each-same ms J both.1
 
 module _ (script : Script) (rules : Rules) where
   -- the ends of a message that was copied are there
-  issued-of : (J : List Event) (a i : ℕ) → AllByRecursion (λ d. done d J ≡ true) (to_follow script rules a i) → done (Issued a i) J ≡ true
+  issued-of : (J : List Event) (a i : ℕ) → AllByRecursion (λ d. happened d J ≡ true) (to_follow script rules a i) → happened (Issued a i) J ≡ true
   issued-of J a i h = (drop-front (has_completion script rules a i) h).1.0
     where
-      drop-front : (b : Bool) → AllByRecursion (λ d. done d J ≡ true) (only_if b (Rattle.lapi_base.specs.Names.Begun (message a i Go) ∷ Rattle.lapi_base.specs.Names.Ended (message a i Go) ∷ []) ++ Landed (message a i Go) ∷ to_land script rules a i) → AllByRecursion (λ d. done d J ≡ true) (Landed (message a i Go) ∷ to_land script rules a i)
+      drop-front : (b : Bool) → AllByRecursion (λ d. happened d J ≡ true) (only_if b (Rattle.lapi_base.specs.Record.Names.Begun (message a i Go) ∷ Rattle.lapi_base.specs.Record.Names.Ended (message a i Go) ∷ []) ++ Landed (message a i Go) ∷ to_land script rules a i) → AllByRecursion (λ d. happened d J ≡ true) (Landed (message a i Go) ∷ to_land script rules a i)
       drop-front true x = x.1.1
       drop-front false x = x
 
@@ -76,24 +77,24 @@ module _ (script : Script) (rules : Rules) where
   unfolding has_completion
   completion-data a i h = am-data (statement script a i) (and_parts _ _ h).0
 
-  ends-by : (J : List Event) (a i : ℕ) (leg : Leg) → Atomic script rules J → a < script.tasks → has_leg script (answers script rules a i) a leg (statement script a i) ≡ true → AllByRecursion (λ d. done d J ≡ true) (copy_needs script rules a i leg) → (from_by a (target script a i) leg < script.tasks) × (to_by a (target script a i) leg < script.tasks)
+  ends-by : (J : List Event) (a i : ℕ) (leg : Leg) → Atomic script rules J → a < script.tasks → has_leg script (answers script rules a i) a leg (statement script a i) ≡ true → AllByRecursion (λ d. happened d J ≡ true) (copy_needs script rules a i leg) → (from_by a (target script a i) leg < script.tasks) × (to_by a (target script a i) leg < script.tasks)
   ends-by J a i Go h room leg n = (room, target-room script rules J a i h n.0 leg)
   ends-by J a i Back h room leg n = (target-room script rules J a i h (issued-of J a i n) (back-data (statement script a i) leg), room)
   ends-by J a i Note h room leg n = (target-room script rules J a i h (issued-of J a i n) (cmpl-data (statement script a i) (and_parts _ _ leg).0), room)
   ends-by J a i Echo h room leg n = (target-room script rules J a i h (issued-of J a i n) (completion-data a i (answer-completion script rules a i leg)), room)
   ends-by J a i (Join d) h room leg n = (room, ltb-true _ _ (and_parts _ _ (and_parts _ _ leg).1).0)
 
-  pub copied-ends : (J : List Event) (m : MsgName) → Atomic script rules J → done (Copied m) J ≡ true → (sender script m < script.tasks) × (receiver script m < script.tasks)
+  pub copied-ends : (J : List Event) (m : MsgName) → Atomic script rules J → happened (Copied m) J ≡ true → (sender script m < script.tasks) × (receiver script m < script.tasks)
   unfolding needs
   copied-ends J m h s =
       let is = and_parts _ _ (there script rules (Copied m) J h s) in
       ends-by J m.origin m.statement m.leg h (ltb-true _ _ (and_parts _ _ is.0).0) is.1 (closed script rules (Copied m) J h s)
 
   -- a number of a link is between two tasks
-  pub linked : (J : List Event) → Atomic script rules J → (a b n : ℕ) → n < length (out script J a b) → (a < script.tasks) × (b < script.tasks)
+  pub linked : (J : List Event) → Atomic script rules J → (a b n : ℕ) → n < length (numbered script J a b) → (a < script.tasks) × (b < script.tasks)
   linked J h a b n l =
-      let x = first (out script J a b) n l in
-      let c = out-copied script J a b 0 x.0 x.1 in
+      let x = first (numbered script J a b) n l in
+      let c = numbered-copied script J a b 0 x.0 x.1 in
       let e = copied-ends J x.0.0 h c.0 in
       (subst (λ y. y < script.tasks) c.1 e.0, subst (λ y. y < script.tasks) c.2 e.1)
     where
@@ -102,11 +103,11 @@ module _ (script : Script) (rules : Rules) where
       first (x ∷ xs) k r = (x, refl)
 
   -- in a quiet record every number was sent
-  all-sent : (r : Run) → SoundRun script rules r → Calm script rules r → (a b n : ℕ) → n < length (out script r.journal a b) → is_sent r a b n ≡ true
-  unfolding fresh base
+  all-sent : (r : Run) → SoundRun script rules r → Calm script rules r → (a b n : ℕ) → n < length (numbered script r.journal a b) → is_sent r a b n ≡ true
+  unfolding to_send base
   all-sent r s q a b n l =
       let ends = linked r.journal s.atomic a b n l in
-      let size = length (out script r.journal a b) in
+      let size = length (numbered script r.journal a b) in
       let acked = has_ack (r.handed b a) in
       let top : least_missing size acked ≡ size = least_missing-whole size acked (every_below-from size acked (all-acked script rules r q a b ends.0 ends.1)) in
       true_from_ne_false _ (λ unsent.
@@ -115,7 +116,7 @@ module _ (script : Script) (rules : Rules) where
 
   -- a record with the same journal, the same numbers on its wires, and no acknowledgement less
   still : (r : Run) (replies : List Reply) (wire handed : Lists) (owed : (from to : ℕ) → Bool) → SoundRun script rules r → Calm script rules r → ((a b n : ℕ) → has_number (wire a b) n ≡ has_number (r.wire a b) n) → ((a b n : ℕ) → has_ack (r.handed a b) n ≡ true → has_ack (handed a b) n ≡ true) → Calm script rules (record { replies = replies; wire = wire; handed = handed; owed = owed; journal = r.journal })
-  unfolding fresh
+  unfolding to_send
   still r replies wire handed owed s q same more = record {
     acked = λ a b n h. more b a n (q.acked a b n (sym (same a b n) ∙ h));
     resting = record {
@@ -140,17 +141,17 @@ module _ (script : Script) (rules : Rules) where
       (λ _. refl)
 
   tick-still : (r : Run) (t : ℕ) → SoundRun script rules r → Calm script rules r → Kept r (tick script rules r t)
-  unfolding tick stale
+  unfolding tick to_resend
   tick-still r t s q =
-      let same = same-wires r.wire r.journal t (stale script rules r) (λ a b. below-none (length (out script r.journal a b)) (λ n. is_sent r a b n && not (is_acked r a b n)) (λ k l. and_right _ _ (not_from_true _ (q.acked a b k (all-sent r s q a b k l))))) in
-      (refl, still r (r.replies ++ Did ∷ []) (λ a b. cond (a == t) (r.wire a b ++ packets script rules r.journal a b (stale script rules r a b)) (r.wire a b)) r.handed r.owed s q (λ a b n. ap (λ xs. has_number xs n) (same a b)) (λ a b n h. h))
+      let same = same-wires r.wire r.journal t (to_resend script rules r) (λ a b. below-none (length (numbered script r.journal a b)) (λ n. is_sent r a b n && not (is_acked r a b n)) (λ k l. and_right _ _ (not_from_true _ (q.acked a b k (all-sent r s q a b k l))))) in
+      (refl, still r (r.replies ++ Did ∷ []) (λ a b. cond (a == t) (r.wire a b ++ packets script rules r.journal a b (to_resend script rules r a b)) (r.wire a b)) r.handed r.owed s q (λ a b n. ap (λ xs. has_number xs n) (same a b)) (λ a b n h. h))
 
   poll-still : (r : Run) (t : ℕ) → t < script.tasks → SoundRun script rules r → Calm script rules r → Kept r (poll script rules r t)
-  unfolding poll fresh packets has_number
+  unfolding poll to_send packets has_number
   poll-still r t room s q =
       let e = copy_each-same (ready script r.journal t) r.journal (q.resting.no_copy t room) in
       let owed = λ (a b : ℕ). not (b == t) && r.owed a b in
-      let none : (a b : ℕ) → fresh script rules r r.journal a b ≡ [] = λ x y. below-none _ _ (λ k l. and_left _ _ (not_from_true _ (all-sent r s q x y k l))) in
+      let none : (a b : ℕ) → to_send script rules r r.journal a b ≡ [] = λ x y. below-none _ _ (λ k l. and_left _ _ (not_from_true _ (all-sent r s q x y k l))) in
       let same : (a b n : ℕ) → has_number (cond (a == t) (r.wire a b ++ sends script rules r r.journal a b) (r.wire a b)) n ≡ has_number (r.wire a b) n =
       λ a b n.
       cond_both (a == t) (r.wire a b ++ sends script rules r r.journal a b) (r.wire a b) (λ ps. has_number ps n ≡ has_number (r.wire a b) n)
@@ -173,7 +174,7 @@ module _ (script : Script) (rules : Rules) where
       let t = with_handed script rules r a b (Data p) in
       let wire = λ (x y : ℕ). cond (x == b && y == a) (r.wire x y ++ at_once script rules (ack script rules t a b)) (r.wire x y) in
       let owed = λ (x y : ℕ). (holds_back script && (x == a && y == b)) || r.owed x y in
-      subst (λ c. Kept r (record { replies = r.replies ++ Did ∷ []; wire = wire; handed = t.handed; owed = owed; journal = followed r.journal (cond c [] (arrival script rules r a b p.name p.seq)) })) (sym known)
+      subst (λ c. Kept r (record { replies = r.replies ++ Did ∷ []; wire = wire; handed = t.handed; owed = owed; journal = followed r.journal (cond c [] (first_delivery script rules r a b p.name p.seq)) })) (sym known)
       (refl, still r (r.replies ++ Did ∷ []) wire t.handed owed s q (ack-entry script rules r.wire t a b) (more-acks r a b (Data p)))
 
   deliver-still : (r : Run) (a b k : ℕ) → SoundRun script rules r → Calm script rules r → Kept r (deliver script rules r a b k)

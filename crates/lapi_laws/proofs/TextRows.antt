@@ -10,21 +10,21 @@ use Rattle.lapi_base.specs.declared.statement.Statement.{Statement}
 use Rattle.lapi_base.specs.declared.statement.Statement.TheVariants.{Store, Put, Putv, Am, Wait, Set, Read, Fence}
 use Rattle.lapi_base.specs.declared.schedule.Act.{Act}
 use Rattle.lapi_base.specs.declared.schedule.Act.TheVariants.{Step, Poll, Deliver}
-use Rattle.lapi_base.specs.Operations.{upto}
-use Rattle.lapi_base.specs.Below.{below}
-use Rattle.lapi_base.specs.Refusals.{refusals}
-use Rattle.lapi_base.specs.Values.{memory_bytes}
-use Rattle.lapi_base.specs.Jobs.{busy}
-use Rattle.lapi_base.specs.Final.{is_quiet, is_idle, is_settled}
-use Rattle.lapi_base.specs.JournalText.{journal_text}
-use Rattle.lapi_base.specs.WireText.{wire_text}
-use Rattle.lapi_base.specs.ReportText.{report_text, task_text}
-use Rattle.lapi_base.specs.TraceText.{trace_text}
-use Rattle.lapi_laws.proofs.Rows.{builtin, Row, run, two_tasks, piece, smallest_run, no_bytes_three_counters}
+use Rattle.lapi_base.specs.Record.Operations.{numbers_below}
+use Rattle.lapi_base.specs.Record.Below.{below}
+use Rattle.lapi_base.specs.Record.Refusals.{refusals}
+use Rattle.lapi_base.specs.Record.Values.{memory_bytes}
+use Rattle.lapi_base.specs.Record.Jobs.{busy}
+use Rattle.lapi_base.specs.Record.Final.{is_quiet, is_idle, is_settled}
+use Rattle.lapi_base.specs.Output.JournalText.{journal_text}
+use Rattle.lapi_base.specs.Output.WireText.{wire_text}
+use Rattle.lapi_base.specs.Output.ReportText.{report_text, task_text}
+use Rattle.lapi_base.specs.Output.TraceText.{trace_text}
+use Rattle.lapi_laws.proofs.WorkedRuns.{builtin, Row, run, two_tasks, piece, smallest_run, no_bytes_three_counters}
 
 -- the report, journal, wires and trace of all lines of a row
 unfoldable report : Row → List ℕ
-unfolding run report_text task_text upto below encode_with memory_bytes refusals busy is_quiet is_idle is_settled digits
+unfolding run report_text task_text numbers_below below encode_with memory_bytes refusals busy is_quiet is_idle is_settled digits
 report row = report_text row.script builtin (run row) (length row.lines)
 
 unfoldable journal : Row → List ℕ
@@ -32,12 +32,12 @@ unfolding run journal_text digits
 journal row = journal_text (run row)
 
 unfoldable wires : Row → List ℕ
-unfolding run wire_text upto below encode_with digits
+unfolding run wire_text numbers_below below encode_with digits
 wires row = wire_text row.script (run row)
 
 unfoldable trace : Row → List ℕ
-unfolding run trace_text upto below encode_with digits
-trace row = trace_text (map (λ act. record { lane = 0; act = act }) row.lines) (upto (length row.lines)) (run row).replies
+unfolding run trace_text numbers_below below encode_with digits
+trace row = trace_text (map (λ act. record { lane = 0; act = act }) row.lines) (numbers_below (length row.lines)) (run row).replies
 
 smallest-journal : journal smallest_run ≡ codes "issue 0.0\nissue 0.1\ncopy 0.1 go\nland 0.1 go\n"
 unfolding journal
@@ -110,7 +110,7 @@ pending-report = refl
 abbrev vectors : Row
 vectors =
     two_tasks 64
-    (Store 0 (upto 16) ∷ Putv 1 (Stride (Plain 0) 4 4 4) (Stride (Plain 0) 4 4 4) (Some 0) None None
+    (Store 0 (numbers_below 16) ∷ Putv 1 (Stride (Plain 0) 4 4 4) (Stride (Plain 0) 4 4 4) (Some 0) None None
     ∷ Putv 1 (Stride (Plain 32) 2 4 4) (Vector.List (piece 0 2 ∷ piece 2 2 ∷ piece 4 2 ∷ piece 6 2 ∷ [])) None None None
     ∷ Putv 1 (Stride (Plain 0) 8 4 2) (Stride (Plain 0) 8 8 2) None None None ∷ [])
     []

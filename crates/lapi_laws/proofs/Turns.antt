@@ -12,19 +12,20 @@ use Rattle.lapi_base.specs.declared.message.Leg.TheVariants.{Go, Back, Note, Ech
 use Rattle.lapi_base.specs.declared.refusal.Refusal.{Refusal}
 use Rattle.lapi_base.specs.declared.event.Event.{Event}
 use Rattle.lapi_base.specs.declared.event.Event.TheVariants.{Issue, Refuse, Enter, Pass, Copy, Begin, End}
-use Rattle.lapi_base.specs.Below.{below}
-use Rattle.lapi_base.specs.Names.{leg_eq, Issued, Refused, Entered, Passed, Copied, Landed, Begun, Ended, deed, done, message}
-use Rattle.lapi_base.specs.Operations.{statements, statement, receiver, is_data, is_am, is_gfence, has_back, table_rounds, has_join}
-use Rattle.lapi_base.specs.Handlers.{has_completion, answers}
-use Rattle.lapi_base.specs.Counters.{count}
-use Rattle.lapi_base.specs.Refusals.{next, gfence_rounds, round_of, partner, join_landed, joined, why}
+use Rattle.lapi_base.specs.Record.Below.{below}
+use Rattle.lapi_base.specs.Record.Names.{leg_eq, Issued, Refused, Entered, Passed, Copied, Landed, Begun, Ended, key_of, happened, message}
+use Rattle.lapi_base.specs.Record.Operations.{statements, statement, receiver, is_data, is_am, is_gfence, has_back, table_rounds, has_join}
+use Rattle.lapi_base.specs.Record.Handlers.{has_completion, answers}
+use Rattle.lapi_base.specs.Record.Counters.{count}
+use Rattle.lapi_base.specs.Record.Refusals.{next, gfence_rounds, round_of, partner, join_landed, joined, refusal_of}
 use Rattle.lapi_base.specs.declared.reply.Reply.TheVariants.{Idle}
-use Rattle.lapi_base.specs.Jobs.{is_job, queue, runs}
-use Rattle.lapi_base.specs.Record.{Run, out, is_acked, all_numbers, data_done, data_clear, followed, reply_with, event_if, proposed, unless_refused, add_event, step, begin_first, begin_at, begin, end_at, end, note_of}
-use Rattle.lapi_base.specs.Atomic.{Keeps, needs, land_needs, only_if, to_land, to_follow, has_message, has_statement, is_issued, is_passed, is_first, is_run, landed_before, data_landed, partner_cleared, all_cleared, pass_allowed}
+use Rattle.lapi_base.specs.Record.Jobs.{is_job, queue, runs}
+use Rattle.lapi_base.specs.Record.Wires.{Run, numbered, is_acked, all_numbers, data_done, data_clear}
+use Rattle.lapi_base.specs.Record.Acts.{followed, reply_with, event_if, proposed, unless_refused, add_event, step, begin_first, begin_at, begin, end_at, end, note_of}
+use Rattle.lapi_base.specs.Record.Atomic.{Keeps, needs, land_needs, only_if, to_land, to_follow, has_message, has_statement, is_issued, is_passed, is_first, is_run, landed_before, data_landed, partner_cleared, all_cleared, pass_allowed}
 use Rattle.lapi_base.proofs.BelowLaws.{below-all, every_below-at, every_below-from}
 use Rattle.lapi_base.proofs.ListLaws.{all-get, all-weaker, filter-all, filter-push, get-back, get-front, list_all-at}
-use Rattle.lapi_base.proofs.NameLaws.{done-all-later, done-cases, done-head, done-later, leg_eq-true, name_eq-refl}
+use Rattle.lapi_base.proofs.NameLaws.{happened-all-later, happened-cases, happened-head, happened-later, leg_eq-true, name_eq-refl}
 use Rattle.lapi_laws.proofs.Backward.{closed, there, behind}
 use Rattle.lapi_laws.proofs.Workers.{Waiting, queue-waiting, begun, unended}
 use Rattle.lapi_laws.proofs.Sound.{Lists, Sound, before, add_copy, add_silent, acked-delivered, landed_before-from, landed_before-later, implied-at}
@@ -67,26 +68,26 @@ module _ (script : Script) (rules : Rules) where
       (below-all (length (statements script d)) (λ k. is_gfence (statement script d k)))
       (subst (λ b. slice_get (cond b (gfence_rounds script d) (table_rounds script d)) (round_of script a i) ≡ Some j) g e)).1
 
-  -- Data that are done have landed.
-  pub done-landed : (r : Run) (a j : ℕ) → SoundRun script rules r → data_done script r a j ≡ true → data_landed script rules r.journal a j ≡ true
+  -- Data that are happened have landed.
+  pub happened-landed : (r : Run) (a j : ℕ) → SoundRun script rules r → data_done script r a j ≡ true → data_landed script rules r.journal a j ≡ true
   unfolding data_done
-  done-landed r a j s =
-      elim (has_back (statement script a j)) as (λ b. cond b (done (Landed (message a j Back)) r.journal) (done (Copied (message a j Go)) r.journal && all_numbers script (out script r.journal a (receiver script (message a j Go))) (message a j Go) (is_acked r a (receiver script (message a j Go)))) ≡ true → done (Landed (message a j (cond b Back Go))) r.journal ≡ true) [
+  happened-landed r a j s =
+      elim (has_back (statement script a j)) as (λ b. cond b (happened (Landed (message a j Back)) r.journal) (happened (Copied (message a j Go)) r.journal && all_numbers script (numbered script r.journal a (receiver script (message a j Go))) (message a j Go) (is_acked r a (receiver script (message a j Go)))) ≡ true → happened (Landed (message a j (cond b Back Go))) r.journal ≡ true) [
         | true ↦ λ h. h
         | false ↦ λ h.
             let m = message a j Go in
-            let both = and_parts (done (Copied m) r.journal) (all_numbers script (out script r.journal a (receiver script m)) m (is_acked r a (receiver script m))) h in
-            s.arrived m both.0 (λ n x. acked-delivered script rules r.journal r.wire r.handed s a (receiver script m) n (all_numbers-at script (out script r.journal a (receiver script m)) m (is_acked r a (receiver script m)) both.1 n x.0 x.1))
+            let both = and_parts (happened (Copied m) r.journal) (all_numbers script (numbered script r.journal a (receiver script m)) m (is_acked r a (receiver script m))) h in
+            s.arrived m both.0 (λ n x. acked-delivered script rules r.journal r.wire r.handed s a (receiver script m) n (all_numbers-at script (numbered script r.journal a (receiver script m)) m (is_acked r a (receiver script m)) both.1 n x.0 x.1))
       ]
 
   pub clear-landed : (r : Run) (a i : ℕ) → SoundRun script rules r → data_clear script r a i ≡ true → landed_before script rules r.journal a i ≡ true
   unfolding data_clear
   clear-landed r a i s h =
       landed_before-from script rules r.journal a i
-      (λ j l d is. done-landed r a j s (implied-at (is_data (statement script a j)) (done (Issued a j) r.journal) (data_done script r a j) (every_below-at i (λ k. not (is_data (statement script a k) && done (Issued a k) r.journal) || data_done script r a k) j h l) d is))
+      (λ j l d is. happened-landed r a j s (implied-at (is_data (statement script a j)) (happened (Issued a j) r.journal) (data_done script r a j) (every_below-at i (λ k. not (is_data (statement script a k) && happened (Issued a k) r.journal) || data_done script r a k) j h l) d is))
 
   -- A fence over all tasks that is joined has every task's earlier data landed.
-  joined-cleared : (r : Run) (a i : ℕ) → SoundRun script rules r → i < length (statements script a) → is_gfence (statement script a i) ≡ true → done (Entered a i) r.journal ≡ true → joined script r.journal a i ≡ true → all_cleared script rules r.journal a i ≡ true
+  joined-cleared : (r : Run) (a i : ℕ) → SoundRun script rules r → i < length (statements script a) → is_gfence (statement script a i) ≡ true → happened (Entered a i) r.journal ≡ true → joined script r.journal a i ≡ true → all_cleared script rules r.journal a i ≡ true
   unfolding joined all_cleared needs
   joined-cleared r a i s l g entered h =
       every_below-from script.tasks (λ d. partner_cleared script rules r.journal d (partner script a i d))
@@ -105,7 +106,7 @@ module _ (script : Script) (rules : Rules) where
       (or_cases (d == a) (join_landed r.journal a d (partner script a i d)) (every_below-at script.tasks (λ k. k == a || join_landed r.journal a k (partner script a i k)) d h room)))
 
   -- Statements.
-  quiet-fences : (e : Event) (J : List Event) (wire handed : Lists) → ((a j : ℕ) → Issued a j ≡ deed e → ⊥) → ((a i : ℕ) → Entered a i ≡ deed e → ⊥) → Sound script rules J wire handed → (a i : ℕ) → is_gfence (statement script a i) ≡ true → done (Entered a i) (e ∷ J) ≡ true → landed_before script rules (e ∷ J) a i ≡ true
+  quiet-fences : (e : Event) (J : List Event) (wire handed : Lists) → ((a j : ℕ) → Issued a j ≡ key_of e → ⊥) → ((a i : ℕ) → Entered a i ≡ key_of e → ⊥) → Sound script rules J wire handed → (a i : ℕ) → is_gfence (statement script a i) ≡ true → happened (Entered a i) (e ∷ J) ≡ true → landed_before script rules (e ∷ J) a i ≡ true
   quiet-fences e J wire handed issue enter s a i g h = landed_before-later script rules e J a i (λ j l x. issue a j x) (s.fences a i g (before script rules (Entered a i) e J (enter a i) h))
 
   -- the task's next statement
@@ -116,23 +117,23 @@ module _ (script : Script) (rules : Rules) where
     is : has_statement script rules a (next r.journal a) ≡ true
     is = and_from _ _ (lt-ltb a script.tasks task) (lt-ltb (next r.journal a) (length (statements script a)) room)
 
-    new-issue : done (Issued a (next r.journal a)) r.journal ≡ false
+    new-issue : happened (Issued a (next r.journal a)) r.journal ≡ false
     new-issue = false_from_ne_true _ (λ yes. let b : next r.journal a < next r.journal a = behind script rules (Issued a (next r.journal a)) r.journal s.atomic yes in absurd (omega arith))
 
-    new-refuse : done (Refused a (next r.journal a)) r.journal ≡ false
+    new-refuse : happened (Refused a (next r.journal a)) r.journal ≡ false
     new-refuse = false_from_ne_true _ (λ yes. let b : next r.journal a < next r.journal a = behind script rules (Refused a (next r.journal a)) r.journal s.atomic yes in absurd (omega arith))
 
-    new-pass : done (Passed a (next r.journal a)) r.journal ≡ false
+    new-pass : happened (Passed a (next r.journal a)) r.journal ≡ false
     new-pass = false_from_ne_true _ (λ yes. let b : next r.journal a < next r.journal a = behind script rules (Passed a (next r.journal a)) r.journal s.atomic yes in absurd (omega arith))
 
-    refuse-sound : (reason : Refusal) → why script rules r.journal a i ≡ Some reason → Sound script rules (Refuse a i reason ∷ r.journal) r.wire r.handed
+    refuse-sound : (reason : Refusal) → refusal_of script rules r.journal a i ≡ Some reason → Sound script rules (Refuse a i reason ∷ r.journal) r.wire r.handed
     unfolding needs
     refuse-sound reason e =
         add_silent script rules (Refuse a i reason) r.journal r.wire r.handed tt
         (record { there = is; once = new-refuse; after = refl; jobs = refl; waits = refl; order = (refl, e) })
         (quiet-fences (Refuse a i reason) r.journal r.wire r.handed (λ b j x. cc) (λ b j x. cc) s) s
 
-    issue-sound : is_issued (statement script a i) ≡ true → why script rules r.journal a i ≡ None → Sound script rules (Issue a i ∷ r.journal) r.wire r.handed
+    issue-sound : is_issued (statement script a i) ≡ true → refusal_of script rules r.journal a i ≡ None → Sound script rules (Issue a i ∷ r.journal) r.wire r.handed
     unfolding needs
     issue-sound kind e =
         add_silent script rules (Issue a i) r.journal r.wire r.handed tt
@@ -149,14 +150,14 @@ module _ (script : Script) (rules : Rules) where
         (s.fences b k g old))
         s
 
-    pass-sound : is_passed (statement script a i) ≡ true → pass_allowed script rules r.journal a i (statement script a i) ≡ true → cond (has_join (statement script a i)) (done (Entered a i) r.journal ≡ true) (why script rules r.journal a i ≡ None) → Sound script rules (Pass a i ∷ r.journal) r.wire r.handed
+    pass-sound : is_passed (statement script a i) ≡ true → pass_allowed script rules r.journal a i (statement script a i) ≡ true → cond (has_join (statement script a i)) (happened (Entered a i) r.journal ≡ true) (refusal_of script rules r.journal a i ≡ None) → Sound script rules (Pass a i ∷ r.journal) r.wire r.handed
     unfolding needs
     pass-sound kind allowed order =
         add_silent script rules (Pass a i) r.journal r.wire r.handed tt
         (record { there = and_from _ _ is kind; once = new-pass; after = refl; jobs = refl; waits = allowed; order = (refl, order) })
         (quiet-fences (Pass a i) r.journal r.wire r.handed (λ b j x. cc) (λ b j x. cc) s) s
 
-    enter-sound : has_join (statement script a i) ≡ true → done (Entered a i) r.journal ≡ false → why script rules r.journal a i ≡ None → (is_gfence (statement script a i) ≡ true → landed_before script rules r.journal a i ≡ true) → Sound script rules (Enter a i ∷ r.journal) r.wire r.handed
+    enter-sound : has_join (statement script a i) ≡ true → happened (Entered a i) r.journal ≡ false → refusal_of script rules r.journal a i ≡ None → (is_gfence (statement script a i) ≡ true → landed_before script rules r.journal a i ≡ true) → Sound script rules (Enter a i ∷ r.journal) r.wire r.handed
     unfolding needs
     enter-sound kind new e clear =
         add_silent script rules (Enter a i) r.journal r.wire r.handed tt
@@ -168,14 +169,14 @@ module _ (script : Script) (rules : Rules) where
         let tasks : a ≡ b = cc in
         let numbers : next r.journal a ≡ k = cc in
         subst (λ (y : ℕ × ℕ). is_gfence (statement script y.0 y.1) ≡ true → landed_before script rules r.journal y.0 y.1 ≡ true) (λ t. (tasks t, numbers t)) clear g)
-        (λ (x : done (Entered b k) r.journal ≡ true). s.fences b k g x)
-        (done-cases (Entered b k) (Enter a i) r.journal h)))
+        (λ (x : happened (Entered b k) r.journal ≡ true). s.fences b k g x)
+        (happened-cases (Entered b k) (Enter a i) r.journal h)))
         s
 
     abbrev Goal : Statement → Type 0
     Goal st = SoundRun script rules (add_event script rules r (proposed script rules r a i st))
 
-    module _ (none : why script rules r.journal (a) (next r.journal a) ≡ None) where
+    module _ (none : refusal_of script rules r.journal (a) (next r.journal a) ≡ None) where
       plain : (st : Statement) → statement script a i ≡ st → is_issued st ≡ true → Sound script rules (Issue a i ∷ r.journal) r.wire r.handed
       plain st e kind = issue-sound (subst (λ x. is_issued x ≡ true) (sym e) kind) none
 
@@ -196,7 +197,7 @@ module _ (script : Script) (rules : Rules) where
                 pass-sound
                 (subst (λ x. is_passed x ≡ true) (sym e) refl)
                 (subst (λ x. pass_allowed script rules r.journal a i x ≡ true) (sym e) t)
-                (subst (λ x. cond (has_join x) (done (Entered a i) r.journal ≡ true) (why script rules r.journal a i ≡ None)) (sym e) none)
+                (subst (λ x. cond (has_join x) (happened (Entered a i) r.journal ≡ true) (refusal_of script rules r.journal a i ≡ None)) (sym e) none)
             | false ↦ λ t. s
           ] refl
       proposed-sound Fence e =
@@ -205,19 +206,19 @@ module _ (script : Script) (rules : Rules) where
                 pass-sound
                 (subst (λ x. is_passed x ≡ true) (sym e) refl)
                 (subst (λ x. pass_allowed script rules r.journal a i x ≡ true) (sym e) (clear-landed r a i s t))
-                (subst (λ x. cond (has_join x) (done (Entered a i) r.journal ≡ true) (why script rules r.journal a i ≡ None)) (sym e) none)
+                (subst (λ x. cond (has_join x) (happened (Entered a i) r.journal ≡ true) (refusal_of script rules r.journal a i ≡ None)) (sym e) none)
             | false ↦ λ t. s
           ] refl
       proposed-sound Gfence e =
           let g = subst (λ x. is_gfence x ≡ true) (sym e) refl in
-          elim (done (Entered a i) r.journal) as (λ b. done (Entered a i) r.journal ≡ b → SoundRun script rules (add_event script rules r (cond b (event_if script rules (joined script r.journal a i) (Pass a i)) (event_if script rules (data_clear script r a i) (Enter a i))))) [
+          elim (happened (Entered a i) r.journal) as (λ b. happened (Entered a i) r.journal ≡ b → SoundRun script rules (add_event script rules r (cond b (event_if script rules (joined script r.journal a i) (Pass a i)) (event_if script rules (data_clear script r a i) (Enter a i))))) [
             | true ↦ λ entered.
                 elim (joined script r.journal a i) as (λ b. joined script r.journal a i ≡ b → SoundRun script rules (add_event script rules r (event_if script rules b (Pass a i)))) [
                   | true ↦ λ t.
                       pass-sound
                       (subst (λ x. is_passed x ≡ true) (sym e) refl)
                       (subst (λ x. pass_allowed script rules r.journal a i x ≡ true) (sym e) (joined-cleared r a i s room g entered t))
-                      (subst (λ x. cond (has_join x) (done (Entered a i) r.journal ≡ true) (why script rules r.journal a i ≡ None)) (sym e) entered)
+                      (subst (λ x. cond (has_join x) (happened (Entered a i) r.journal ≡ true) (refusal_of script rules r.journal a i ≡ None)) (sym e) entered)
                   | false ↦ λ t. s
                 ] refl
             | false ↦ λ entered.
@@ -227,23 +228,23 @@ module _ (script : Script) (rules : Rules) where
                 ] refl
           ] refl
       proposed-sound (Statement.Addr at) e =
-          elim (done (Entered a i) r.journal) as (λ b. done (Entered a i) r.journal ≡ b → SoundRun script rules (add_event script rules r (cond b (event_if script rules (joined script r.journal a i) (Pass a i)) (Some (Enter a i))))) [
+          elim (happened (Entered a i) r.journal) as (λ b. happened (Entered a i) r.journal ≡ b → SoundRun script rules (add_event script rules r (cond b (event_if script rules (joined script r.journal a i) (Pass a i)) (Some (Enter a i))))) [
             | true ↦ λ entered.
                 elim (joined script r.journal a i) as (λ b. joined script r.journal a i ≡ b → SoundRun script rules (add_event script rules r (event_if script rules b (Pass a i)))) [
                   | true ↦ λ t.
                       pass-sound
                       (subst (λ x. is_passed x ≡ true) (sym e) refl)
                       (subst (λ x. pass_allowed script rules r.journal a i x ≡ true) (sym e) (or_right (not (nat_le at script.memory)) _ t))
-                      (subst (λ x. cond (has_join x) (done (Entered a i) r.journal ≡ true) (why script rules r.journal a i ≡ None)) (sym e) entered)
+                      (subst (λ x. cond (has_join x) (happened (Entered a i) r.journal ≡ true) (refusal_of script rules r.journal a i ≡ None)) (sym e) entered)
                   | false ↦ λ t. s
                 ] refl
             | false ↦ λ entered. enter-sound (subst (λ x. has_join x ≡ true) (sym e) refl) entered none (λ g. absurd (false≢true (subst (λ x. is_gfence x ≡ true) e g)))
           ] refl
 
-    stepped : SoundRun script rules (add_event script rules r (unless_refused script rules r a i (why script rules r.journal a i)))
+    stepped : SoundRun script rules (add_event script rules r (unless_refused script rules r a i (refusal_of script rules r.journal a i)))
     unfolding followed
     stepped =
-        elim (why script rules r.journal a i) as (λ o. why script rules r.journal a i ≡ o → SoundRun script rules (add_event script rules r (unless_refused script rules r a i o))) [
+        elim (refusal_of script rules r.journal a i) as (λ o. refusal_of script rules r.journal a i ≡ o → SoundRun script rules (add_event script rules r (unless_refused script rules r a i o))) [
           | Some reason ↦ λ e. refuse-sound reason e
           | None ↦ λ e. proposed-sound e (statement script a i) refl
         ] refl
@@ -251,13 +252,13 @@ module _ (script : Script) (rules : Rules) where
   pub step-sound : (r : Run) (a : ℕ) → a < script.tasks → SoundRun script rules r → SoundRun script rules (step script rules r a)
   unfolding step
   step-sound r a task s =
-      elim (nat_lt (next r.journal a) (length (statements script a))) as (λ b. nat_lt (next r.journal a) (length (statements script a)) ≡ b → SoundRun script rules (cond b (add_event script rules r (unless_refused script rules r a (next r.journal a) (why script rules r.journal a (next r.journal a)))) (reply_with script rules r Idle))) [
+      elim (nat_lt (next r.journal a) (length (statements script a))) as (λ b. nat_lt (next r.journal a) (length (statements script a)) ≡ b → SoundRun script rules (cond b (add_event script rules r (unless_refused script rules r a (next r.journal a) (refusal_of script rules r.journal a (next r.journal a)))) (reply_with script rules r Idle))) [
         | true ↦ λ e. stepped r a s task (ltb-true _ _ e)
         | false ↦ λ e. s
       ] refl
 
   -- Jobs.
-  to-land-by : (J : List Event) (a i : ℕ) (leg : Leg) → leg ≡ Go → AllByRecursion (λ d. done d J ≡ true) (land_needs script rules a i leg) → AllByRecursion (λ d. done d J ≡ true) (to_land script rules a i)
+  to-land-by : (J : List Event) (a i : ℕ) (leg : Leg) → leg ≡ Go → AllByRecursion (λ d. happened d J ≡ true) (land_needs script rules a i leg) → AllByRecursion (λ d. happened d J ≡ true) (to_land script rules a i)
   to-land-by J a i Go e h = h
   to-land-by J a i Back e h = absurd (cc)
   to-land-by J a i Note e h = absurd (cc)
@@ -273,7 +274,7 @@ module _ (script : Script) (rules : Rules) where
             elim (queue script rules r.journal t) as (λ ms. queue script rules r.journal t ≡ ms → SoundRun script rules (begin_first script rules r t w ms)) [
               | [] ↦ λ e. s
               | m ∷ ms ↦ λ e.
-                  let first = (subst (λ ns. AllByRecursion (λ n. Waiting script rules r.journal t n × (not (done (Begun n) r.journal) ≡ true)) ns) e (queue-waiting script rules r.journal t)).0 in
+                  let first = (subst (λ ns. AllByRecursion (λ n. Waiting script rules r.journal t n × (not (happened (Begun n) r.journal) ≡ true)) ns) e (queue-waiting script rules r.journal t)).0 in
                   let job = and_parts (leg_eq m.leg Go) (has_completion script rules m.origin m.statement && receiver script m == t) first.0.0 in
                   let ends = and_parts (has_completion script rules m.origin m.statement) (receiver script m == t) job.1 in
                   let landed = first.0.1 in
@@ -281,7 +282,7 @@ module _ (script : Script) (rules : Rules) where
                   (record {
                     there = and_from _ _ (and_from _ _ (there script rules (Landed m) r.journal s.atomic landed) (and_from _ _ job.0 (and_parts _ _ ends.0).0)) (and_from _ _ ends.1 (and_from _ _ (lt-ltb t script.tasks task) (lt-ltb w script.workers room)));
                     once = not-true _ first.1;
-                    after = list_all-at (λ d. done d r.journal) (Landed m ∷ to_land script rules m.origin m.statement) (landed, to-land-by r.journal m.origin m.statement m.leg (leg_eq-true m.leg Go job.0) (closed script rules (Landed m) r.journal s.atomic landed));
+                    after = list_all-at (λ d. happened d r.journal) (Landed m ∷ to_land script rules m.origin m.statement) (landed, to-land-by r.journal m.origin m.statement m.leg (leg_eq-true m.leg Go job.0) (closed script rules (Landed m) r.journal s.atomic landed));
                     jobs =
                         and_from _ _
                         (subst (λ ns. is_first script rules m ns ≡ true) (sym e) (name_eq-refl m))
@@ -309,16 +310,16 @@ module _ (script : Script) (rules : Rules) where
       let keeps : Keeps script rules r.journal (End m t w) = record {
         there = b.1;
         once = unended';
-        after = subst (λ c. list_all (λ d. done d r.journal) (only_if c (Begun m ∷ []) ++ Landed m ∷ to_land script rules a i) ≡ true) (sym b.2) (list_all-at (λ d. done d r.journal) (Begun m ∷ Landed m ∷ to_land script rules a i) (b.0, stood));
+        after = subst (λ c. list_all (λ d. happened d r.journal) (only_if c (Begun m ∷ []) ++ Landed m ∷ to_land script rules a i) ≡ true) (sym b.2) (list_all-at (λ d. happened d r.journal) (Begun m ∷ Landed m ∷ to_land script rules a i) (b.0, stood));
         jobs = subst (λ o. is_run script rules m o ≡ true) (sym e) (name_eq-refl m);
         waits = refl;
         order = tt;
       } in
       let s' = add_silent script rules (End m t w) r.journal r.wire r.handed tt keeps (quiet-fences (End m t w) r.journal r.wire r.handed (λ c j x. cc) (λ c j x. cc) s) s in
-      let follow = subst (λ c. AllByRecursion (λ d. done d K ≡ true) (only_if c (Begun m ∷ Ended m ∷ []) ++ Landed m ∷ to_land script rules a i)) (sym b.2)
-      (done-later (Begun m) (End m t w) r.journal b.0, (done-head (End m t w) r.journal, done-all-later (Landed m ∷ to_land script rules a i) (End m t w) r.journal stood)) in
-      let unsent : AllByRecursion (λ d. done d r.journal ≡ true) (to_follow script rules a i) → ⊥ =
-      λ old. let known = subst (λ c. AllByRecursion (λ d. done d r.journal ≡ true) (only_if c (Begun m ∷ Ended m ∷ []) ++ Landed m ∷ to_land script rules a i)) b.2 old in both_ways _ unended' known.1.0
+      let follow = subst (λ c. AllByRecursion (λ d. happened d K ≡ true) (only_if c (Begun m ∷ Ended m ∷ []) ++ Landed m ∷ to_land script rules a i)) (sym b.2)
+      (happened-later (Begun m) (End m t w) r.journal b.0, (happened-head (End m t w) r.journal, happened-all-later (Landed m ∷ to_land script rules a i) (End m t w) r.journal stood)) in
+      let unsent : AllByRecursion (λ d. happened d r.journal ≡ true) (to_follow script rules a i) → ⊥ =
+      λ old. let known = subst (λ c. AllByRecursion (λ d. happened d r.journal ≡ true) (only_if c (Begun m ∷ Ended m ∷ []) ++ Landed m ∷ to_land script rules a i)) b.2 old in both_ways _ unended' known.1.0
       in
       cond_both (answers script rules a i) (Copy (message a i Echo) ∷ []) (note_of script rules m) (λ es. Sound script rules (followed K es) r.wire r.handed)
       (λ answered.

@@ -1,6 +1,6 @@
 //! The end of a record.
-ghost use Rattle.lapi_base.specs.Final.{DeliveredIsQuiet, QuietIsFinal, QuietStays, QuietIsTested};
-ghost use Rattle.lapi_base.specs.Headline.{HoldsOfRuns};
+ghost use Rattle.lapi_base.specs.Record.Final.{DeliveredIsQuiet, QuietIsFinal, QuietStays, QuietIsTested};
+ghost use Rattle.lapi_base.specs.Laws.Headline.{HoldsOfRuns};
 
 /// Once everything is delivered the record is quiet, a quiet record's journal is final, and it stays as it is.
 pub fn delivered_is_final()

@@ -1,5 +1,5 @@
 //! What a record lists as handed over.
-ghost use Rattle.lapi_base.specs.Headline.{HandedAreDeliveries, OwedByDeliveries};
+ghost use Rattle.lapi_base.specs.Laws.Headline.{HandedAreDeliveries, OwedByDeliveries};
 
 /// It is the entries of the lines that delivered one, in order.
 pub fn handed_are_deliveries()

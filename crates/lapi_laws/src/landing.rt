@@ -1,6 +1,6 @@
 //! What the numbers that were delivered and acknowledged say of the messages of a record.
-ghost use Rattle.lapi_base.specs.Headline.{HoldsOfRuns};
-ghost use Rattle.lapi_base.specs.Links.{LandsWhenAllCame, HeadsWhenOneCame, DoneHaveLanded, ClearHaveLanded};
+ghost use Rattle.lapi_base.specs.Laws.Headline.{HoldsOfRuns};
+ghost use Rattle.lapi_base.specs.Laws.Links.{LandsWhenAllCame, HeadsWhenOneCame, DoneHaveLanded, ClearHaveLanded};
 
 /// A message lands with the delivery of the last of its numbers, and its header handler is called with that of the
 /// first: each exactly there.

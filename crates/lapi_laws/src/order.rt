@@ -1,5 +1,5 @@
 //! What holds of the messages and the handlers of an atomic journal, and so of every run's.
-ghost use Rattle.lapi_base.specs.Headline.{LandsOnce, HandlersOnce, HandlersInOrder, HoldsOfAtomic, HoldsOfJournals};
+ghost use Rattle.lapi_base.specs.Laws.Headline.{LandsOnce, HandlersOnce, HandlersInOrder, HoldsOfAtomic, HoldsOfJournals};
 
 /// A message lands at most once.
 pub fn messages_land_once()

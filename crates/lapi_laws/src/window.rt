@@ -1,6 +1,6 @@
 //! What is bounded on every link.
-ghost use Rattle.lapi_base.specs.Headline.{HoldsOfRuns};
-ghost use Rattle.lapi_base.specs.Links.{AckedAreDelivered, SentAreInWindow, StaysInWindow, OwedAreHeldBack, TellsAtOnce, FewArePartial, NumbersAreFew, NumbersAreSmall};
+ghost use Rattle.lapi_base.specs.Laws.Headline.{HoldsOfRuns};
+ghost use Rattle.lapi_base.specs.Laws.Links.{AckedAreDelivered, SentAreInWindow, StaysInWindow, OwedAreHeldBack, TellsAtOnce, FewArePartial, NumbersAreFew, NumbersAreSmall};
 
 /// What is acknowledged was delivered, and what was sent lies in the window of the sender, and of the receiver.
 pub fn window_is_kept()

@@ -9,19 +9,19 @@ use Rattle.lapi_base.specs.declared.head.Head.{Head}
 use Rattle.lapi_base.specs.declared.packet.Packet.{Packet}
 use Rattle.lapi_base.specs.declared.packet.Packet.TheVariants.{Data}
 use Rattle.lapi_base.specs.declared.packet.DataPacket.{DataPacket}
-use Rattle.lapi_base.specs.Fragments.{fragments_in, IsPayload}
-use Rattle.lapi_base.specs.Layout.{unit_of, window_of}
-use Rattle.lapi_base.specs.Names.{name_eq}
-use Rattle.lapi_base.specs.Operations.{upto}
-use Rattle.lapi_base.specs.Record.{has_number}
-use Rattle.lapi_base.specs.Arrived.{is_fragment, has_fragment, whole_by, payload_of, assembled, count_of}
+use Rattle.lapi_base.specs.Record.Fragments.{fragments_in, IsPayload}
+use Rattle.lapi_base.specs.Packet.Layout.{unit_of, window_of}
+use Rattle.lapi_base.specs.Record.Names.{name_eq}
+use Rattle.lapi_base.specs.Record.Operations.{numbers_below}
+use Rattle.lapi_base.specs.Record.Wires.{has_number}
+use Rattle.lapi_base.specs.Record.Arrived.{is_fragment, has_fragment, whole_by, payload_of, assembled, count_of}
 use Rattle.lapi_base.proofs.NameLaws.{name_eq-refl, name_eq-true}
 use Rattle.lapi_base.proofs.PacketNumbers.{some-there}
 use Rattle.lapi_window.specs.RecvWindow.{Receiving, is_taken, base_of}
 use Rattle.lapi_reassembly.specs.Partial.{Gathered, nothing_of, with_fragment, is_whole, message, fragment}
 use Rattle.lapi_reassembly.specs.Partials.{Gathering, partial, is_there, HasRoom, Agrees, IsMissing, kept_of}
 use Rattle.lapi_link.specs.declared.arrival.Arrival.TheVariants.{Repeat, Part, Whole}
-use Rattle.lapi_link.specs.Receiver.{ReceivingEnd, packet_of, is_complete, fragment_at, gathered_by, partial_by, partial_of, ReceivesFor, IsPartOnly, Fits, message_of, arrival_of, gathered_with, arrival_with}
+use Rattle.lapi_link.specs.Receiver.{ReceivingEnd, packet_of, is_complete, fragment_at, gathered_by, partial_by, partial_of, ReceivesFor, IsPartOnly, MayArrive, message_of, arrival_of, gathered_with, arrival_with}
 use Rattle.lapi_link.proofs.FragmentLists.{every-all, joined-map, told-at, none-yet, one-more}
 use Rattle.lapi_link.proofs.HeldPackets.{number-more, number-known, packet-found, none-found, no-fragment, fragment-there, is_some-at, bytes-at, missing-at, first-at, later-at, held-at}
 use Rattle.lapi_link.proofs.LeastNumbers.{base-is}
@@ -39,20 +39,20 @@ module _ (script : Script) where
     -- packets with one head and length tell the same
     same-head : (p q : DataPacket) → (q.head ≡ p.head) × (q.length ≡ p.length) → partial_by script ps m (Some q) ≡ partial_by script ps m (Some p)
     same-head p q same =
-        let by : Head → ℕ → Option Gathered = λ head len. cond (is_complete script ps m len) None (Some (record { name = m; head = head; unit = unit_of script; length = len; fragments = map (fragment_at script ps m) (upto (fragments_in (unit_of script) len)); out = None })) in
+        let by : Head → ℕ → Option Gathered = λ head len. cond (is_complete script ps m len) None (Some (record { name = m; head = head; unit = unit_of script; length = len; fragments = map (fragment_at script ps m) (numbers_below (fragments_in (unit_of script) len)); out = None })) in
         λ i. by (same.0 i) (same.1 i)
 
   same-fragments : (ps now : List Packet) (m : MsgName) (o : Option DataPacket) → ((j : ℕ) → fragment_at script now m j ≡ fragment_at script ps m j) → partial_by script now m o ≡ partial_by script ps m o
   same-fragments ps now m None same = refl
   same-fragments ps now m (Some p) same =
-      let by : (ℕ → Option (List ℕ)) → Option Gathered = λ f. kept_of (record { name = m; head = p.head; unit = unit_of script; length = p.length; fragments = map f (upto (fragments_in (unit_of script) p.length)); out = None }) in
+      let by : (ℕ → Option (List ℕ)) → Option Gathered = λ f. kept_of (record { name = m; head = p.head; unit = unit_of script; length = p.length; fragments = map f (numbers_below (fragments_in (unit_of script) p.length)); out = None }) in
       kept-is now m p ∙ ap by (λ i j. same j i) ∙ sym (kept-is ps m p)
 
   message-is : (ps : List Packet) (p : DataPacket) → message (gathered_by script (Data p ∷ ps) p.name p) ≡ message_of script ps p
   unfolding count_of assembled
   message-is ps p =
       let now = Data p ∷ ps in
-      ap (λ bytes. record { name = p.name; head = p.head; bytes = bytes; out = None }) (joined-map (fragment_at script now p.name) (payload_of now p.name) (upto (fragments_in (unit_of script) p.length)) (bytes-at script now p.name))
+      ap (λ bytes. record { name = p.name; head = p.head; bytes = bytes; out = None }) (joined-map (fragment_at script now p.name) (payload_of now p.name) (numbers_below (fragments_in (unit_of script) p.length)) (bytes-at script now p.name))
 
   -- Messages of another name stay.
   module _ (ps : List Packet) (p : DataPacket) (m : MsgName) (other : name_eq m p.name ≡ false) where
@@ -79,7 +79,7 @@ module _ (script : Script) where
   own-partial ps p = ap (λ b. partial_by script (Data p ∷ ps) p.name (cond b (Some p) (packet_of ps p.name))) (name_eq-refl p.name)
 
   -- A packet that may come.
-  module _ (ps : List Packet) (p : DataPacket) (fits : Fits script ps p) where
+  module _ (ps : List Packet) (p : DataPacket) (fits : MayArrive script ps p) where
     -- nothing of its message has come, or a packet with its head and length
     before : ((packet_of ps p.name ≡ None) × (partial_of script ps p.name ≡ None)) ⊎ (partial_of script ps p.name ≡ partial_by script ps p.name (Some p))
     unfolding partial_of
@@ -199,7 +199,7 @@ module _ (script : Script) where
   parts-only ps s told [] all = tt
   parts-only ps s told (m ∷ ms) all = (part-only ps m (sym (ap is_some (told m)) ∙ all.0), parts-only ps s told ms all.1)
 
-  has-room : (ps : List Packet) (p : DataPacket) (s : Gathering) → Fits script ps p → has_number ps p.seq ≡ false → s.names ≡ window_of script → ((m : MsgName) → partial s m ≡ partial_of script ps m) → (is_there s p.name ≡ true) ⊎ HasRoom s
+  has-room : (ps : List Packet) (p : DataPacket) (s : Gathering) → MayArrive script ps p → has_number ps p.seq ≡ false → s.names ≡ window_of script → ((m : MsgName) → partial s m ≡ partial_of script ps m) → (is_there s p.name ≡ true) ⊎ HasRoom s
   has-room ps p s fits fresh names told =
       ⊎_elim
       (λ (x : (packet_of ps p.name ≡ None) × (partial_of script ps p.name ≡ None)).
@@ -209,7 +209,7 @@ module _ (script : Script) where
 
 -- ---- the end
 
-module _ (script : Script) (ps : List Packet) (p : DataPacket) (w : Receiving) (g : Gathering) (s : ReceivingEnd) (is : record { window = w; partials = g } ≡ s) (receives : ReceivesFor script s ps) (fits : Fits script ps p) where
+module _ (script : Script) (ps : List Packet) (p : DataPacket) (w : Receiving) (g : Gathering) (s : ReceivingEnd) (is : record { window = w; partials = g } ≡ s) (receives : ReceivesFor script s ps) (fits : MayArrive script ps p) where
   end : ReceivesFor script (record { window = w; partials = g }) ps
   end = subst (λ x. ReceivesFor script x ps) (sym is) receives
 

@@ -8,9 +8,9 @@ use Rattle.lapi_base.specs.declared.message.MsgName.{MsgName}
 use Rattle.lapi_base.specs.declared.packet.Packet.{Packet}
 use Rattle.lapi_base.specs.declared.packet.Packet.TheVariants.{Data, Ack}
 use Rattle.lapi_base.specs.declared.packet.DataPacket.{DataPacket}
-use Rattle.lapi_base.specs.Names.{name_eq}
-use Rattle.lapi_base.specs.Record.{has_number}
-use Rattle.lapi_base.specs.Arrived.{is_fragment, has_fragment, has_some, payload_of}
+use Rattle.lapi_base.specs.Record.Names.{name_eq}
+use Rattle.lapi_base.specs.Record.Wires.{has_number}
+use Rattle.lapi_base.specs.Record.Arrived.{is_fragment, has_fragment, has_some, payload_of}
 use Rattle.lapi_base.proofs.ListLaws.{any-get}
 use Rattle.lapi_base.proofs.NameLaws.{name_eq-refl, name_eq-true}
 use Rattle.lapi_link.specs.Receiver.{packet_of, fragment_at}

@@ -1,9 +1,9 @@
 -- The least number that was not taken is that of the packets that were handed over.
 use Rattle.std.proofs.Common.{◌≡◌, ℕ, ◌+◌, ◌^◌, ◌<◌, true, List, ap, ◌∙◌, arith}
 use Rattle.lapi_base.specs.declared.packet.Packet.{Packet}
-use Rattle.lapi_base.specs.Below.{least_missing, bits_of}
-use Rattle.lapi_base.specs.Record.{has_number}
-use Rattle.lapi_base.specs.Arrived.{number_bound, least_number}
+use Rattle.lapi_base.specs.Record.Below.{least_missing, bits_of}
+use Rattle.lapi_base.specs.Record.Wires.{has_number}
+use Rattle.lapi_base.specs.Record.Arrived.{number_bound, least_number}
 use Rattle.lapi_base.proofs.BelowLaws.{least_missing-same}
 use Rattle.lapi_base.proofs.PacketNumbers.{bound-above}
 use Rattle.lapi_window.specs.RecvWindow.{Receiving, is_taken, base_of}

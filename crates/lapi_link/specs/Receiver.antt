@@ -6,12 +6,12 @@ use Rattle.lapi_base.specs.declared.message.MsgName.{MsgName}
 use Rattle.lapi_base.specs.declared.packet.Packet.{Packet}
 use Rattle.lapi_base.specs.declared.packet.Packet.TheVariants.{Data, Ack}
 use Rattle.lapi_base.specs.declared.packet.DataPacket.{DataPacket}
-use Rattle.lapi_base.specs.Layout.{unit_of, window_of}
-use Rattle.lapi_base.specs.Names.{name_eq}
-use Rattle.lapi_base.specs.Operations.{upto}
-use Rattle.lapi_base.specs.Fragments.{fragments_in}
-use Rattle.lapi_base.specs.Record.{has_number}
-use Rattle.lapi_base.specs.Arrived.{has_fragment, has_some, whole_by, payload_of, assembled, least_number, count_of, IsKnown}
+use Rattle.lapi_base.specs.Packet.Layout.{unit_of, window_of}
+use Rattle.lapi_base.specs.Record.Names.{name_eq}
+use Rattle.lapi_base.specs.Record.Operations.{numbers_below}
+use Rattle.lapi_base.specs.Record.Fragments.{fragments_in}
+use Rattle.lapi_base.specs.Record.Wires.{has_number}
+use Rattle.lapi_base.specs.Record.Arrived.{has_fragment, has_some, whole_by, payload_of, assembled, least_number, count_of, IsKnown}
 use Rattle.lapi_window.specs.RecvWindow.{Receiving, is_taken}
 use Rattle.lapi_reassembly.specs.Partial.{Gathered, is_whole, message}
 use Rattle.lapi_reassembly.specs.Partials.{Gathering, partial, gathered}
@@ -43,7 +43,7 @@ module _ (script : Script) where
 
   -- what has come of a message of which this is a packet
   abbrev pub gathered_by : List Packet → MsgName → DataPacket → Gathered
-  gathered_by ps m p = record { name = m; head = p.head; unit = unit_of script; length = p.length; fragments = map (fragment_at ps m) (upto (fragments_in (unit_of script) p.length)); out = None }
+  gathered_by ps m p = record { name = m; head = p.head; unit = unit_of script; length = p.length; fragments = map (fragment_at ps m) (numbers_below (fragments_in (unit_of script) p.length)); out = None }
 
   -- what has come of m and is kept: nothing where no packet of it came, and nothing once it is complete
   abbrev pub partial_by : List Packet → MsgName → Option DataPacket → Option Gathered
@@ -66,7 +66,7 @@ module _ (script : Script) where
   IsPartOnly ps m = (p : DataPacket) × (packet_of ps m ≡ Some p) × (is_complete ps m p.length ≡ false)
 
   -- A packet may come to these: its fragment is one of its message, and its head and length are those of the message's packets that came before, and its payload that of those with its fragment;
-  pub record Fits (ps : List Packet) (p : DataPacket) : Type 0 where
+  pub record MayArrive (ps : List Packet) (p : DataPacket) : Type 0 where
     pub number : p.seq < 2 ^ 22
     pub reach : p.seq < least_number ps + window_of script
     pub size : p.length ≤ 64 * unit_of script

@@ -17,7 +17,7 @@ pub record IsSendingEnd (s : SendingEnd) : Type 0 where
   pub short : AllByRecursion (λ (bytes : List ℕ). length bytes ≤ FRAME_ROOM) s.waiting
 
 -- nothing was sent, and nothing waits, with a window of this size
-pub record IsFresh (window : ℕ) (s : SendingEnd) : Type 0 where
+pub record IsNewSender (window : ℕ) (s : SendingEnd) : Type 0 where
   pub size : s.window.window ≡ window
   pub numbers : s.window.numbers ≡ 0
   pub sent : sent_count s.window ≡ 0

@@ -3,14 +3,14 @@ ghost use Rattle.lapi_base.specs.declared.script.Script.{Script};
 ghost use Rattle.lapi_base.specs.declared.packet.Packet.{Packet};
 ghost use Rattle.lapi_base.specs.declared.packet.Packet.TheVariants.{Data};
 ghost use Rattle.lapi_base.specs.declared.message.MsgName.{MsgName};
-ghost use Rattle.lapi_base.specs.Below.{bits_of};
-ghost use Rattle.lapi_base.specs.Fragments.{fragments_in, IsPayload};
-ghost use Rattle.lapi_base.specs.Layout.{window_of};
-ghost use Rattle.lapi_base.specs.Record.{has_number};
-ghost use Rattle.lapi_base.specs.Arrived.{least_number};
+ghost use Rattle.lapi_base.specs.Record.Below.{bits_of};
+ghost use Rattle.lapi_base.specs.Record.Fragments.{fragments_in, IsPayload};
+ghost use Rattle.lapi_base.specs.Packet.Layout.{window_of};
+ghost use Rattle.lapi_base.specs.Record.Wires.{has_number};
+ghost use Rattle.lapi_base.specs.Record.Arrived.{least_number};
 ghost use Rattle.lapi_reassembly.specs.Partial.{IsUnit};
 ghost use Rattle.lapi_reassembly.specs.Partials.{partial, is_there, HasRoom, Agrees, IsMissing, kept_of};
-ghost use Rattle.lapi_link.specs.Receiver.{ReceivesFor, IsBlank, Fits, arrival_of, arrival_by, arrival_with, gathered_with};
+ghost use Rattle.lapi_link.specs.Receiver.{ReceivesFor, IsBlank, MayArrive, arrival_of, arrival_by, arrival_with, gathered_with};
 
 use crate::arrival::Arrival;
 use lapi_base::{DataPacket, Memory};
@@ -48,9 +48,9 @@ impl Receiver {
 
     /// Takes a packet that was handed over. Its number lies in the window: below the least missing one plus the window.
     pub fn arrive(&mut self, alloc: Global, packet: &DataPacket) -> Result<Arrival, Memory>
-        requires { (script : Script) × (ps : List Packet) × ReceivesFor script self.old ps × Fits script ps packet.now }
-        ensures kept { OnOk result ((script : Script) (ps : List Packet) → ReceivesFor script self.old ps → Fits script ps packet.now → ReceivesFor script self.new (Data packet.now ∷ ps)) }
-        ensures arrival { IfOk result (λ arrival. (script : Script) (ps : List Packet) → ReceivesFor script self.old ps → Fits script ps packet.now → arrival ≡ arrival_of script ps packet.now) }
+        requires { (script : Script) × (ps : List Packet) × ReceivesFor script self.old ps × MayArrive script ps packet.now }
+        ensures kept { OnOk result ((script : Script) (ps : List Packet) → ReceivesFor script self.old ps → MayArrive script ps packet.now → ReceivesFor script self.new (Data packet.now ∷ ps)) }
+        ensures arrival { IfOk result (λ arrival. (script : Script) (ps : List Packet) → ReceivesFor script self.old ps → MayArrive script ps packet.now → arrival ≡ arrival_of script ps packet.now) }
     {
         match self.window.take(packet.seq) {
             Took::Fresh => put(&mut self.partials, alloc, packet),

@@ -1,7 +1,7 @@
 ghost use Rattle.std.specs.Prelude.{◌≡◌, ℕ, ◌+◌, ◌<◌, ◌≤◌, ◌==◌, ◌&&◌, true, [], ◌∷◌, ◌++◌, length, take, IfOk, OnOk};
 ghost use Rattle.lapi_window.specs.NumberSet.{is_covered};
 ghost use Rattle.lapi_window.specs.SendWindow.{MaySend, sent_count, unacked};
-ghost use Rattle.lapi_link.specs.Sender.{IsFresh, appended, sendable, sent, kept, entries_to, IsAcked};
+ghost use Rattle.lapi_link.specs.Sender.{IsNewSender, appended, sendable, sent, kept, entries_to, IsAcked};
 
 use lapi_base::{Bytes, Entries, FRAME_ROOM, Frame, Memory, WireEntry};
 use lapi_window::SendWindow;
@@ -31,7 +31,7 @@ impl Sender {
     /// An end that has sent nothing, with a window of that many packets.
     pub fn new(alloc: Global, window: u32) -> Result<Sender, Memory>
         requires { (1 ≤ window) × (window ≤ 64) }
-        ensures { IfOk result (IsFresh window) }
+        ensures { IfOk result (IsNewSender window) }
     {
         let window = SendWindow::sized(alloc, window)?;
         Ok(Sender {

@@ -2,7 +2,7 @@
 use Rattle.std.proofs.Common.{◌≡◌, ℕ, List, [], ◌∷◌, length, drop, arith}
 use Rattle.std.specs.Int.{w32, from_be_bytes}
 use Rattle.std.proofs.lemmas.List.{length-take, length-drop}
-use Rattle.lapi_base.specs.Handlers.{number_of}
+use Rattle.lapi_base.specs.Record.Handlers.{number_of}
 use Rattle.lapi_memory.specs.TaskMemory.{IsWithin, bytes_at}
 
 number_is_word : (bytes : List ℕ) → length bytes ≡ 4 → from_be_bytes w32 bytes ≡ number_of bytes

@@ -1,7 +1,7 @@
 -- A memory as a list of bytes: which places lie within it, the bytes from a place on, and the memory after a
 -- write; and the same memory among those of all tasks.
 use Rattle.std.specs.Prelude.{◌≡◌, ℕ, ◌+◌, ◌≤◌, List, ◌++◌, length, take, drop, slice_index}
-use Rattle.lapi_base.specs.Values.{Memories}
+use Rattle.lapi_base.specs.Record.Values.{Memories}
 
 -- so many bytes from a place on lie within the memory
 abbrev pub IsWithin : (memory : List ℕ) (at len : ℕ) → Type 0

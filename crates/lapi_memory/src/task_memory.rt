@@ -1,7 +1,7 @@
 ghost use Rattle.std.specs.Prelude.{◌≡◌, ℕ, ◌+◌, ◌≤◌, ◌↔◌, IsTrue, IfOk, [], ◌∷◌, length, slice_index, replicate};
 ghost use Rattle.std.specs.Int.{w32, to_be_bytes, from_be_bytes};
-ghost use Rattle.lapi_base.specs.Handlers.{number_of, word_bytes};
-ghost use Rattle.lapi_base.specs.Values.{Memories, gathered, byte_after};
+ghost use Rattle.lapi_base.specs.Record.Handlers.{number_of, word_bytes};
+ghost use Rattle.lapi_base.specs.Record.Values.{Memories, gathered, byte_after};
 ghost use Rattle.lapi_memory.specs.TaskMemory.{bytes_at, written, IsWithin, IsMemoryOf};
 
 use lapi_base::{Memory, Span};
@@ -86,7 +86,7 @@ impl TaskMemory {
     }
 
     /// Writes a word from `at` on, which may be any place.
-    #[tactic(auto, unfolding(lapi_base::specs::Handlers::word_bytes))]
+    #[tactic(auto, unfolding(lapi_base::specs::Record::Handlers::word_bytes))]
     pub fn set_word(&mut self, at: u32, value: u32)
         requires { IsWithin self.old at 4 }
         ensures word { self.new ≡ written self.old at (word_bytes value) }

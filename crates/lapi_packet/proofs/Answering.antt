@@ -3,8 +3,8 @@ use Rattle.std.proofs.Common.{◌≡◌, ℕ, List, Result, Ok, Err, sym, subst,
 use Rattle.std.specs.Prelude.{IfOk, IfErr}
 use Rattle.lapi_base.specs.declared.packet.Packet.{Packet}
 use Rattle.lapi_base.specs.declared.reply.Bad.{Bad}
-use Rattle.lapi_base.specs.Spelling.{packet_form, Spells, HasSpelling, Refuses, decoded}
-use Rattle.lapi_base.specs.Written as written
+use Rattle.lapi_base.specs.Packet.Spelling.{packet_form, Spells, HasSpelling, Refuses, decoded}
+use Rattle.lapi_base.specs.Packet.PacketBytes as written
 use Rattle.lapi_base.proofs.Spellings.{spelling_is, ok, ok_is}
 use Rattle.lapi_base.proofs.FormLaws.{found, refused}
 use Rattle.lapi_base.proofs.FormNumbers.{IsBytes}

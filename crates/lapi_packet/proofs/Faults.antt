@@ -5,7 +5,7 @@ use Rattle.std.proofs.lemmas.List.{length-append, take_at, drop_at, take-append-
 use Rattle.lapi_base.specs.declared.reply.Bad.{Bad}
 use Rattle.lapi_base.specs.declared.reply.Reason.{Reason}
 use Rattle.lapi_base.specs.declared.reply.Reason.TheVariants as reasons
-use Rattle.lapi_base.specs.Form.{Size, byte_count, bytes_of, Form, Done, Field, IsSpelled, IsRefused, number_at, reading, whole, answer}
+use Rattle.lapi_base.specs.Packet.Format.{Size, byte_count, bytes_of, Format, Done, Field, IsSpelled, IsRefused, number_at, reading, whole, answer}
 use Rattle.lapi_base.proofs.FormNumbers.{number_again, length-bytes_of}
 use Rattle.lapi_base.proofs.FormLaws.{taken, broken, missing}
 
@@ -27,7 +27,7 @@ some_left : (front more : List ℕ) → front ++ more ≡ [] → more ≢ [] →
 some_left [] more e some = some e
 some_left (b ∷ front) more e some = cc
 
-pub cut_reading : {A : Type 0} (f : Form A) (x : A) (front more : List ℕ) → IsSpelled f x (front ++ more) → more ≢ [] → reading f front ≡ Err (0, reasons.Short)
+pub cut_reading : {A : Type 0} (f : Format A) (x : A) (front more : List ℕ) → IsSpelled f x (front ++ more) → more ≢ [] → reading f front ≡ Err (0, reasons.Short)
 cut_reading (Done a) x front more s some = absurd (some_left front more s.1 some)
 cut_reading (Field size why keeps next) x front more s some =
     elim (cases_lt (length front) (byte_count size)) [
@@ -40,7 +40,7 @@ cut_reading (Field size why keeps next) x front more s some =
           taken (number_at size front) keeps (λ y. reading (next y.0) y.1) (length front, why) s.0 (drop k front) there s.3 ∙ cut_reading (next s.0) x (drop k front) more later some
     ]
 
-pub cut_answer : {A : Type 0} (f : Form A) (x : A) (front more : List ℕ) → IsSpelled f x (front ++ more) → more ≢ [] → answer f front ≡ Err (record { place = length front; reason = reasons.Short })
+pub cut_answer : {A : Type 0} (f : Format A) (x : A) (front more : List ℕ) → IsSpelled f x (front ++ more) → more ≢ [] → answer f front ≡ Err (record { place = length front; reason = reasons.Short })
 cut_answer f x front more s some =
     let all : length front - 0 ≡ length front = omega arith in
     ap (whole (length front)) (cut_reading f x front more s some) ∙ ap (λ (n : ℕ). Err (record { place = n; reason = reasons.Short })) all
@@ -48,12 +48,12 @@ cut_answer f x front more s some =
 -- ---- refused
 
 -- how reading ends where bytes are refused
-abbrev Ends : {A : Type 0} → Form A → List ℕ → ℕ → Reason → Type 0
+abbrev Ends : {A : Type 0} → Format A → List ℕ → ℕ → Reason → Type 0
 Ends {A = A} f bytes place why =
     ((left : ℕ) × (place + left ≡ length bytes) × (reading f bytes ≡ Err (left, why)))
     ⊎ ((x : A) × (rest : List ℕ) × (0 < length rest) × (place + length rest ≡ length bytes) × (why ≡ reasons.Long) × (reading f bytes ≡ Ok (x, rest)))
 
-refused_reading : {A : Type 0} (f : Form A) (bytes : List ℕ) (place : ℕ) (why : Reason) → IsRefused f bytes place why → Ends f bytes place why
+refused_reading : {A : Type 0} (f : Format A) (bytes : List ℕ) (place : ℕ) (why : Reason) → IsRefused f bytes place why → Ends f bytes place why
 refused_reading (Done a) bytes place why s = inr (a, bytes, s.0, omega (arith, s.1), s.2, refl)
 refused_reading (Field size reason keeps next) bytes place why s =
     elim s [
@@ -87,7 +87,7 @@ over : {A : Type 0} (size : ℕ) (x : A) (rest : List ℕ) → 0 < length rest �
 over size x [] some = absurd (omega arith)
 over size x (b ∷ rest) some = refl
 
-pub refused_answer : {A : Type 0} (f : Form A) (bytes : List ℕ) (bad : Bad) → IsRefused f bytes bad.place bad.reason → answer f bytes ≡ Err bad
+pub refused_answer : {A : Type 0} (f : Format A) (bytes : List ℕ) (bad : Bad) → IsRefused f bytes bad.place bad.reason → answer f bytes ≡ Err bad
 refused_answer f bytes bad s =
     elim (refused_reading f bytes bad.place bad.reason s) [
       | inl e ↦

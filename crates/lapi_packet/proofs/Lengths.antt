@@ -9,12 +9,12 @@ use Rattle.lapi_base.specs.declared.reply.Reason.{Reason}
 use Rattle.lapi_base.specs.declared.message.Leg.{Leg}
 use Rattle.lapi_base.specs.declared.message.Leg.TheVariants.{Go, Back, Note, Echo, Join}
 use Rattle.lapi_base.specs.declared.head.NoteOp.{NoteOp}
-use Rattle.lapi_base.specs.Form.{Form, Done, ◌>>=◌, bytes_form, IsSpelled, reading}
-use Rattle.lapi_base.specs.Fragments.{fragment_length}
-use Rattle.lapi_base.specs.Layout.{Layout, First, longest, unit}
-use Rattle.lapi_base.specs.Parts.{counter_form, range_form, word_form, count_form, span_form, within_span, covering_span, matching_span, left_behind, behind, within_form, covering_form, matching_form}
-use Rattle.lapi_base.specs.Heads.{put_form, get_go_form, get_back_form, putv_form, getv_go_form, getv_back_form, update_form, rmw_go_form, rmw_back_form, header_count_form, am_form, note_of, note_form, echo_form, round_form, gfence_form, addr_form, operation_form, head_form}
-use Rattle.lapi_base.specs.Spelling.{task_form, kind_form, front_form, acknowledgement_form, leg_form, name_form, is_length, length_form, fragment_form, data_form, packet_form}
+use Rattle.lapi_base.specs.Packet.Format.{Format, Done, ◌>>=◌, bytes_form, IsSpelled, reading}
+use Rattle.lapi_base.specs.Record.Fragments.{fragment_length}
+use Rattle.lapi_base.specs.Packet.Layout.{Layout, First, longest, unit}
+use Rattle.lapi_base.specs.Packet.Fields.{counter_form, range_form, word_form, count_form, span_form, within_span, covering_span, matching_span, left_behind, behind, within_form, covering_form, matching_form}
+use Rattle.lapi_base.specs.Packet.Heads.{put_form, get_go_form, get_back_form, putv_form, getv_go_form, getv_back_form, update_form, rmw_go_form, rmw_back_form, header_count_form, am_form, note_op_of, note_form, echo_form, round_form, gfence_form, addr_form, operation_form, head_form}
+use Rattle.lapi_base.specs.Packet.Spelling.{task_form, kind_form, front_form, acknowledgement_form, leg_form, name_form, is_length, length_form, fragment_form, data_form, packet_form}
 use Rattle.lapi_base.proofs.FormLaws.{AtMost, at_most_more, at_most_bind, at_most_spelling, at_most_place, always_spelled, read_cases, done, failed, pair_is}
 use Rattle.lapi_base.proofs.FormNumbers.{IsBytes}
 use Rattle.lapi_base.proofs.FormLists.{at_most_bytes, at_most_repeated, count_repeated}
@@ -31,7 +31,7 @@ at_most_matching [] following = at_most_span 0 0
 at_most_matching (other ∷ others) following = at_most_span other.len other.len
 
 -- a form behind a list of at most 16 spans
-at_most_spans : {A : Type 0} (f : Form (List Span)) (g : List Span → Form A) (count m : ℕ) → AtMost (count * 8) f → count ≤ 16
+at_most_spans : {A : Type 0} (f : Format (List Span)) (g : List Span → Format A) (count m : ℕ) → AtMost (count * 8) f → count ≤ 16
     → ((spans : List Span) (bytes : List ℕ) → IsSpelled f spans bytes → AtMost m (g spans)) → AtMost (128 + m) (f >>= g)
 at_most_spans f g count m h le each = at_most_more (f >>= g) (count * 8 + m) (128 + m) (omega arith) (at_most_bind f g (count * 8) m h each)
 
@@ -177,7 +177,7 @@ at_most_head : (layout : Layout) (leg : Leg) (op size : ℕ) → AtMost (head_mo
 unfolding head_form
 at_most_head layout Go op size = at_most_go layout op size
 at_most_head layout Back op size = at_most_if 131 (op == 2) _ _ (at_most_get_back size) (at_most_if 131 (op == 4) _ _ (at_most_getv_back size) at_most_rmw_back)
-at_most_head layout Note op size = at_most_note (note_of op)
+at_most_head layout Note op size = at_most_note (note_op_of op)
 at_most_head layout Echo op size = at_most_echo
 at_most_head layout (Join _) op size = at_most_if 131 (op == 7) _ _ at_most_gfence at_most_addr
 

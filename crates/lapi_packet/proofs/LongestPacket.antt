@@ -7,11 +7,11 @@ use Rattle.lapi_base.specs.declared.head.Head.TheVariants as heads
 use Rattle.lapi_base.specs.declared.message.Leg.TheVariants.{Go}
 use Rattle.lapi_base.specs.declared.packet.Packet.{Packet}
 use Rattle.lapi_base.specs.declared.packet.Packet.TheVariants as packets
-use Rattle.lapi_base.specs.Form.{bytes_form, repeated}
-use Rattle.lapi_base.specs.Parts.{counter_form, count_form, span_form}
-use Rattle.lapi_base.specs.Heads.{putv_form, operation_form, head_form}
-use Rattle.lapi_base.specs.Spelling.{task_form, kind_form, front_form, leg_form, name_form, length_form, fragment_form, data_form, packet_form, Spells}
-use Rattle.lapi_base.specs.Written as written
+use Rattle.lapi_base.specs.Packet.Format.{bytes_form, repeated}
+use Rattle.lapi_base.specs.Packet.Fields.{counter_form, count_form, span_form}
+use Rattle.lapi_base.specs.Packet.Heads.{putv_form, operation_form, head_form}
+use Rattle.lapi_base.specs.Packet.Spelling.{task_form, kind_form, front_form, leg_form, name_form, length_form, fragment_form, data_form, packet_form, Spells}
+use Rattle.lapi_base.specs.Packet.PacketBytes as written
 use Rattle.lapi_base.proofs.FormNumbers.{IsBytes}
 use Rattle.lapi_base.proofs.FormLaws.{found}
 

@@ -3,8 +3,8 @@ use Rattle.std.proofs.Common.{◌≡◌, ℕ, ◌+◌, ◌<◌, List, length, ge
 use Rattle.std.proofs.lemmas.List.{at_drop_more}
 use Rattle.lapi_base.specs.declared.reply.Reason.{Reason}
 use Rattle.lapi_base.specs.declared.span.Span.{Span}
-use Rattle.lapi_base.specs.Form.{reading}
-use Rattle.lapi_base.specs.Parts.{span_form, matching_span, behind}
+use Rattle.lapi_base.specs.Packet.Format.{reading}
+use Rattle.lapi_base.specs.Packet.Fields.{span_form, matching_span, behind}
 
 pub span_at : (others : List Span) (i following : ℕ) (d : Span) (bytes : List ℕ) (r : Result (Span × List ℕ) (ℕ × Reason)) → i < length others
     → reading (span_form (get_or others i d).len (get_or others i d).len) bytes ≡ r → reading (matching_span (drop i others) following) bytes ≡ r

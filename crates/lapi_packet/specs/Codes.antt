@@ -1,7 +1,7 @@
 -- The numbers of the code's own kinds and operations.
 use Rattle.std.specs.Prelude.{ℕ}
-use Rattle.lapi_base.specs.Layout.{First}
-use Rattle.lapi_base.specs.Spelling as spelling
+use Rattle.lapi_base.specs.Packet.Layout.{First}
+use Rattle.lapi_base.specs.Packet.Spelling as spelling
 use Rattle.lapi_packet.specs.declared.front.Kind.{Kind}
 use Rattle.lapi_packet.specs.declared.front.Kind.TheVariants as kinds
 use Rattle.lapi_packet.specs.declared.front.Front.{Front}

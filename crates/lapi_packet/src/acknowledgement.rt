@@ -7,16 +7,16 @@
 //! ```
 
 ghost use Rattle.std.specs.Prelude.{◌≡◌, ◌≤◌, ◌+◌, ◌++◌, length};
-ghost use Rattle.lapi_base.specs.Layout.{First};
-ghost use Rattle.lapi_base.specs.Spelling.{acknowledgement_form};
+ghost use Rattle.lapi_base.specs.Packet.Layout.{First};
+ghost use Rattle.lapi_base.specs.Packet.Spelling.{acknowledgement_form};
 ghost use Rattle.lapi_packet.specs.Reader.{Reads};
-ghost use Rattle.lapi_base.specs.Written.{acknowledgement};
+ghost use Rattle.lapi_base.specs.Packet.PacketBytes.{acknowledgement};
 
 use crate::fault::{Fault, refused};
 use crate::number::{read_four, write_four};
 use lapi_base::{FRAME_ROOM, Frame, Packet, Reason};
 
-#[tactic(auto, unfolding(lapi_base::specs::Spelling::acknowledgement_form))]
+#[tactic(auto, unfolding(lapi_base::specs::Packet::Spelling::acknowledgement_form))]
 pub(crate) fn read(from: u32, to: u32, bytes: &[u8]) -> Result<(Packet, &[u8]), Fault>
     ensures { Reads (acknowledgement_form First from to) bytes.now result }
 {

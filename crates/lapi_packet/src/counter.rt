@@ -1,7 +1,7 @@
 ghost use Rattle.std.specs.Prelude.{◌≡◌, ◌≤◌, ◌+◌, ◌++◌, length};
-ghost use Rattle.lapi_base.specs.Parts.{counter_form};
+ghost use Rattle.lapi_base.specs.Packet.Fields.{counter_form};
 ghost use Rattle.lapi_packet.specs.Reader.{Reads};
-ghost use Rattle.lapi_base.specs.Written.{counter};
+ghost use Rattle.lapi_base.specs.Packet.PacketBytes.{counter};
 
 use crate::fault::{Fault, refused};
 use crate::number::{read_one, write_one};
@@ -13,7 +13,7 @@ use lapi_base::{FRAME_ROOM, Frame, Reason};
 /// size  field    rule                        reason
 /// 1     counter  below 64, or ff for none    Field
 /// ```
-#[tactic(auto, unfolding(lapi_base::specs::Parts::counter_form))]
+#[tactic(auto, unfolding(lapi_base::specs::Packet::Fields::counter_form))]
 pub(crate) fn read(bytes: &[u8]) -> Result<(Option<u32>, &[u8]), Fault>
     ensures { Reads counter_form bytes.now result }
 {

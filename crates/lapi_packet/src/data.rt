@@ -12,10 +12,10 @@
 //! ```
 
 ghost use Rattle.std.specs.Prelude.{◌≡◌, ◌≤◌, ◌+◌, [], ◌++◌, length};
-ghost use Rattle.lapi_base.specs.Layout.{First};
-ghost use Rattle.lapi_base.specs.Spelling.{data_form};
+ghost use Rattle.lapi_base.specs.Packet.Layout.{First};
+ghost use Rattle.lapi_base.specs.Packet.Spelling.{data_form};
 ghost use Rattle.lapi_packet.specs.Reader.{Reads};
-ghost use Rattle.lapi_base.specs.Written as written;
+ghost use Rattle.lapi_base.specs.Packet.PacketBytes as written;
 
 use crate::fault::Fault;
 use crate::front::{Front, Kind};
@@ -23,7 +23,7 @@ use crate::number::{read_four, write_four, write_one, write_two};
 use crate::{fragment, front, head, name, operation};
 use lapi_base::{DataPacket, Frame, Packet};
 
-#[tactic(auto, using(lapi_base::proofs::FormLaws::read_bind), unfolding(lapi_base::specs::Spelling::data_form))]
+#[tactic(auto, using(lapi_base::proofs::FormLaws::read_bind), unfolding(lapi_base::specs::Packet::Spelling::data_form))]
 pub(crate) fn read(from: u32, to: u32, bytes: &[u8]) -> Result<(Packet, &[u8]), Fault>
     ensures { Reads (data_form First from to) bytes.now result }
 {

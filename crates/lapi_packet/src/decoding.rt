@@ -1,5 +1,5 @@
 ghost use Rattle.std.specs.Prelude.{◌≡◌, ◌-◌, ◌<◌, ◌≤◌, ◌^◌, length, Ok, IfOk, IfErr};
-ghost use Rattle.lapi_base.specs.Spelling.{packet_form, Spells, Refuses, decoded};
+ghost use Rattle.lapi_base.specs.Packet.Spelling.{packet_form, Spells, Refuses, decoded};
 ghost use Rattle.lapi_packet.specs.Reader.{Reads};
 
 use crate::fault::Fault;
@@ -35,7 +35,7 @@ fn answer(bytes: &[u8]) -> Result<Packet, Bad>
     }
 }
 
-#[tactic(auto, using(lapi_base::proofs::FormLaws::read_bind), unfolding(lapi_base::specs::Spelling::packet_form))]
+#[tactic(auto, using(lapi_base::proofs::FormLaws::read_bind), unfolding(lapi_base::specs::Packet::Spelling::packet_form))]
 fn read(bytes: &[u8]) -> Result<(Packet, &[u8]), Fault>
     ensures { Reads packet_form bytes.now result }
 {

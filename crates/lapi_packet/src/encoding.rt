@@ -1,6 +1,6 @@
 ghost use Rattle.std.specs.Prelude.{◌≡◌};
-ghost use Rattle.lapi_base.specs.Spelling.{Spells, HasSpelling};
-ghost use Rattle.lapi_base.specs.Written as written;
+ghost use Rattle.lapi_base.specs.Packet.Spelling.{Spells, HasSpelling};
+ghost use Rattle.lapi_base.specs.Packet.PacketBytes as written;
 
 use crate::front::{Front, Kind};
 use crate::{acknowledgement, data, front};

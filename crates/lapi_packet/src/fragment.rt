@@ -11,10 +11,10 @@
 //! ```
 
 ghost use Rattle.std.specs.Prelude.{◌≡◌, ◌≤◌};
-ghost use Rattle.lapi_base.specs.Form.{bytes_form};
-ghost use Rattle.lapi_base.specs.Fragments.{fragments_in, fragment_length};
-ghost use Rattle.lapi_base.specs.Layout.{First, unit};
-ghost use Rattle.lapi_base.specs.Spelling.{length_form, fragment_form, is_length};
+ghost use Rattle.lapi_base.specs.Packet.Format.{bytes_form};
+ghost use Rattle.lapi_base.specs.Record.Fragments.{fragments_in, fragment_length};
+ghost use Rattle.lapi_base.specs.Packet.Layout.{First, unit};
+ghost use Rattle.lapi_base.specs.Packet.Spelling.{length_form, fragment_form, is_length};
 ghost use Rattle.lapi_packet.specs.Codes.{operation_number};
 ghost use Rattle.lapi_packet.specs.Reader.{Reads};
 
@@ -28,7 +28,7 @@ pub(crate) const LONGEST: u32 = 16_384;
 /// The bytes of each fragment but the last.
 const UNIT: u32 = 256;
 
-#[tactic(auto, unfolding(lapi_base::specs::Spelling::length_form))]
+#[tactic(auto, unfolding(lapi_base::specs::Packet::Spelling::length_form))]
 pub(crate) fn read_length(
     leg: Leg,
     operation: Operation,
@@ -60,7 +60,7 @@ fn is_length(leg: Leg, operation: Operation, length: u32) -> bool
     }
 }
 
-#[tactic(auto, unfolding(lapi_base::specs::Spelling::fragment_form))]
+#[tactic(auto, unfolding(lapi_base::specs::Packet::Spelling::fragment_form))]
 pub(crate) fn read_number(length: u32, bytes: &[u8]) -> Result<(u32, &[u8]), Fault>
     ensures { Reads (fragment_form First length) bytes.now result }
 {

@@ -10,11 +10,11 @@
 //! ```
 
 ghost use Rattle.std.specs.Prelude.{◌≡◌, ◌≤◌, ◌+◌, ◌++◌, length};
-ghost use Rattle.lapi_base.specs.Form.{reading, One, field};
-ghost use Rattle.lapi_base.specs.Spelling.{front_form, task_form, kind_form};
+ghost use Rattle.lapi_base.specs.Packet.Format.{reading, One, field};
+ghost use Rattle.lapi_base.specs.Packet.Spelling.{front_form, task_form, kind_form};
 ghost use Rattle.lapi_packet.specs.Codes.{kind_number, front_of};
-ghost use Rattle.lapi_packet.specs.Reader.{Gives, Reads};
-ghost use Rattle.lapi_base.specs.Written as written;
+ghost use Rattle.lapi_packet.specs.Reader.{ReaderGives, Reads};
+ghost use Rattle.lapi_base.specs.Packet.PacketBytes as written;
 
 use crate::fault::{Fault, refused};
 use crate::number::{read_one, write_one};
@@ -39,9 +39,9 @@ pub(crate) struct Front {
     pub(crate) to: u32,
 }
 
-#[tactic(auto, using(lapi_base::proofs::FormLaws::read_bind), unfolding(lapi_base::specs::Spelling::front_form))]
+#[tactic(auto, using(lapi_base::proofs::FormLaws::read_bind), unfolding(lapi_base::specs::Packet::Spelling::front_form))]
 pub(crate) fn read(bytes: &[u8]) -> Result<(Front, &[u8]), Fault>
-    ensures { Gives (λ x. (front_of x.0, x.1.now)) result (reading front_form bytes.now) }
+    ensures { ReaderGives (λ x. (front_of x.0, x.1.now)) result (reading front_form bytes.now) }
 {
     let (magic, after_magic) = read_one(bytes)?;
     if magic != MAGIC {
@@ -57,9 +57,9 @@ pub(crate) fn read(bytes: &[u8]) -> Result<(Front, &[u8]), Fault>
     Ok((Front { kind, from, to }, rest))
 }
 
-#[tactic(auto, unfolding(lapi_base::specs::Spelling::kind_form))]
+#[tactic(auto, unfolding(lapi_base::specs::Packet::Spelling::kind_form))]
 fn read_kind(bytes: &[u8]) -> Result<(Kind, &[u8]), Fault>
-    ensures { Gives (λ x. (kind_number x.0, x.1.now)) result (reading kind_form bytes.now) }
+    ensures { ReaderGives (λ x. (kind_number x.0, x.1.now)) result (reading kind_form bytes.now) }
 {
     let (number, rest) = read_one(bytes)?;
     match number {
@@ -69,7 +69,7 @@ fn read_kind(bytes: &[u8]) -> Result<(Kind, &[u8]), Fault>
     }
 }
 
-#[tactic(auto, unfolding(lapi_base::specs::Spelling::task_form))]
+#[tactic(auto, unfolding(lapi_base::specs::Packet::Spelling::task_form))]
 fn read_task(bytes: &[u8]) -> Result<(u32, &[u8]), Fault>
     ensures { Reads task_form bytes.now result }
 {

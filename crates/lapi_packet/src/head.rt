@@ -1,11 +1,11 @@
 //! What a message carries before its payload: one form for each leg and operation.
 
 ghost use Rattle.std.specs.Prelude.{◌≡◌, ◌≤◌, ◌+◌, ◌++◌, length};
-ghost use Rattle.lapi_base.specs.Heads.{head_form};
-ghost use Rattle.lapi_base.specs.Layout.{First};
+ghost use Rattle.lapi_base.specs.Packet.Heads.{head_form};
+ghost use Rattle.lapi_base.specs.Packet.Layout.{First};
 ghost use Rattle.lapi_packet.specs.Codes.{operation_number};
 ghost use Rattle.lapi_packet.specs.Reader.{Reads};
-ghost use Rattle.lapi_base.specs.Written as written;
+ghost use Rattle.lapi_base.specs.Packet.PacketBytes as written;
 
 mod addr;
 mod am;
@@ -25,7 +25,7 @@ use crate::fault::Fault;
 use crate::operation::Operation;
 use lapi_base::{FRAME_ROOM, Frame, Head, Leg, NoteOp};
 
-#[tactic(auto, unfolding(lapi_base::specs::Heads::head_form))]
+#[tactic(auto, unfolding(lapi_base::specs::Packet::Heads::head_form))]
 pub(crate) fn read(
     leg: Leg,
     operation: Operation,
@@ -54,7 +54,7 @@ pub(crate) fn read(
     }
 }
 
-#[tactic(auto, unfolding(lapi_base::specs::Heads::head_form))]
+#[tactic(auto, unfolding(lapi_base::specs::Packet::Heads::head_form))]
 fn read_go(operation: Operation, length: u32, bytes: &[u8]) -> Result<(Head, &[u8]), Fault>
     ensures { Reads (head_form First Leg.Go (operation_number operation) length) bytes.now result }
 {

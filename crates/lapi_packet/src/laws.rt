@@ -2,8 +2,8 @@ ghost use Rattle.std.specs.Prelude.{◌≡◌, ◌≢◌, ℕ, ◌≤◌, List, 
 ghost use Rattle.lapi_base.specs.declared.packet.Packet.{Packet};
 ghost use Rattle.lapi_base.specs.declared.reply.Bad.{Bad};
 ghost use Rattle.lapi_base.specs.declared.reply.Reason.TheVariants.{Short};
-ghost use Rattle.lapi_base.specs.Layout.{First, longest_packet};
-ghost use Rattle.lapi_base.specs.Spelling.{Spells, Refuses, decoded};
+ghost use Rattle.lapi_base.specs.Packet.Layout.{First, longest_packet};
+ghost use Rattle.lapi_base.specs.Packet.Spelling.{Spells, Refuses, decoded};
 
 /// The laws of spellings. Nothing runs: a caller takes them from the contract.
 pub fn spelling_laws()

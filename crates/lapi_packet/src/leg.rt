@@ -9,15 +9,15 @@
 //! ```
 
 ghost use Rattle.std.specs.Prelude.{◌≡◌};
-ghost use Rattle.lapi_base.specs.Spelling.{leg_form, is_leg, leg_of};
-ghost use Rattle.lapi_base.specs.Written.{leg_number};
+ghost use Rattle.lapi_base.specs.Packet.Spelling.{leg_form, is_leg, leg_of};
+ghost use Rattle.lapi_base.specs.Packet.PacketBytes.{leg_number};
 ghost use Rattle.lapi_packet.specs.Reader.{Reads};
 
 use crate::fault::{Fault, refused};
 use crate::number::read_one;
 use lapi_base::{Leg, Reason};
 
-#[tactic(auto, unfolding(lapi_base::specs::Spelling::leg_form))]
+#[tactic(auto, unfolding(lapi_base::specs::Packet::Spelling::leg_form))]
 pub(crate) fn read(from: u32, to: u32, origin: u32, bytes: &[u8]) -> Result<(Leg, &[u8]), Fault>
     ensures { Reads (leg_form from to origin) bytes.now result }
 {

@@ -8,9 +8,9 @@
 //! ```
 
 ghost use Rattle.std.specs.Prelude.{◌≡◌, ◌≤◌, ◌+◌, ◌++◌, length};
-ghost use Rattle.lapi_base.specs.Spelling.{name_form};
+ghost use Rattle.lapi_base.specs.Packet.Spelling.{name_form};
 ghost use Rattle.lapi_packet.specs.Reader.{Reads};
-ghost use Rattle.lapi_base.specs.Written as written;
+ghost use Rattle.lapi_base.specs.Packet.PacketBytes as written;
 
 use crate::fault::{Fault, refused};
 use crate::leg;
@@ -19,7 +19,7 @@ use lapi_base::{FRAME_ROOM, Frame, MsgName, Reason};
 
 const LAST_STATEMENT: u32 = 511;
 
-#[tactic(auto, using(lapi_base::proofs::FormLaws::read_bind), unfolding(lapi_base::specs::Spelling::name_form))]
+#[tactic(auto, using(lapi_base::proofs::FormLaws::read_bind), unfolding(lapi_base::specs::Packet::Spelling::name_form))]
 pub(crate) fn read(from: u32, to: u32, bytes: &[u8]) -> Result<(MsgName, &[u8]), Fault>
     ensures { Reads (name_form from to) bytes.now result }
 {

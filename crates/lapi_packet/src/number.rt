@@ -1,14 +1,14 @@
 ghost use Rattle.std.specs.Prelude.{◌≡◌, ◌≤◌, ◌+◌, ◌++◌, length};
-ghost use Rattle.lapi_base.specs.Form.{One, Two, Four, number_at};
-ghost use Rattle.lapi_packet.specs.Reader.{Gives};
-ghost use Rattle.lapi_base.specs.Written.{one, two, four};
+ghost use Rattle.lapi_base.specs.Packet.Format.{One, Two, Four, number_at};
+ghost use Rattle.lapi_packet.specs.Reader.{ReaderGives};
+ghost use Rattle.lapi_base.specs.Packet.PacketBytes.{one, two, four};
 
 use crate::fault::{Fault, cut_short};
 use lapi_base::{FRAME_ROOM, Frame};
 
 /// The number that the first byte is, and the bytes after it.
 pub(crate) fn read_one(bytes: &[u8]) -> Result<(u32, &[u8]), Fault>
-    ensures { Gives (λ x. (x.0, x.1.now)) result (number_at One bytes.now) }
+    ensures { ReaderGives (λ x. (x.0, x.1.now)) result (number_at One bytes.now) }
 {
     if bytes.is_empty() {
         return Err(cut_short());
@@ -19,7 +19,7 @@ pub(crate) fn read_one(bytes: &[u8]) -> Result<(u32, &[u8]), Fault>
 
 /// The number that the first two bytes spell.
 pub(crate) fn read_two(bytes: &[u8]) -> Result<(u32, &[u8]), Fault>
-    ensures { Gives (λ x. (x.0, x.1.now)) result (number_at Two bytes.now) }
+    ensures { ReaderGives (λ x. (x.0, x.1.now)) result (number_at Two bytes.now) }
 {
     if bytes.len() < 2 {
         return Err(cut_short());
@@ -31,7 +31,7 @@ pub(crate) fn read_two(bytes: &[u8]) -> Result<(u32, &[u8]), Fault>
 
 /// The number that the first four bytes spell.
 pub(crate) fn read_four(bytes: &[u8]) -> Result<(u32, &[u8]), Fault>
-    ensures { Gives (λ x. (x.0, x.1.now)) result (number_at Four bytes.now) }
+    ensures { ReaderGives (λ x. (x.0, x.1.now)) result (number_at Four bytes.now) }
 {
     if bytes.len() < 4 {
         return Err(cut_short());

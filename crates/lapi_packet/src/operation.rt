@@ -8,11 +8,11 @@
 //! ```
 
 ghost use Rattle.std.specs.Prelude.{◌≡◌};
-ghost use Rattle.lapi_base.specs.Form.{reading};
-ghost use Rattle.lapi_base.specs.Heads.{operation_form, is_operation};
-ghost use Rattle.lapi_base.specs.Written.{head_number, note_number};
+ghost use Rattle.lapi_base.specs.Packet.Format.{reading};
+ghost use Rattle.lapi_base.specs.Packet.Heads.{operation_form, is_operation};
+ghost use Rattle.lapi_base.specs.Packet.PacketBytes.{head_number, note_number};
 ghost use Rattle.lapi_packet.specs.Codes.{operation_number};
-ghost use Rattle.lapi_packet.specs.Reader.{Gives};
+ghost use Rattle.lapi_packet.specs.Reader.{ReaderGives};
 
 use crate::fault::{Fault, refused};
 use crate::number::read_one;
@@ -30,9 +30,9 @@ pub(crate) enum Operation {
     Addr,
 }
 
-#[tactic(auto, unfolding(lapi_base::specs::Heads::operation_form))]
+#[tactic(auto, unfolding(lapi_base::specs::Packet::Heads::operation_form))]
 pub(crate) fn read(leg: Leg, bytes: &[u8]) -> Result<(Operation, &[u8]), Fault>
-    ensures { Gives (λ x. (operation_number x.0, x.1.now)) result
+    ensures { ReaderGives (λ x. (operation_number x.0, x.1.now)) result
         (reading (operation_form leg) bytes.now) }
 {
     let (number, rest) = read_one(bytes)?;

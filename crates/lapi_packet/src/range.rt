@@ -1,5 +1,5 @@
 ghost use Rattle.std.specs.Prelude.{◌≡◌};
-ghost use Rattle.lapi_base.specs.Parts.{fits, range_form, word_form};
+ghost use Rattle.lapi_base.specs.Packet.Fields.{fits, range_form, word_form};
 ghost use Rattle.lapi_packet.specs.Reader.{Reads};
 
 use crate::fault::{Fault, refused};
@@ -24,7 +24,7 @@ pub(crate) fn fits(at: u32, count: u32) -> bool
 /// size  field    rule                                reason
 /// 4     address  a multiple of 4, at most 65,532     Field
 /// ```
-#[tactic(auto, unfolding(lapi_base::specs::Parts::word_form))]
+#[tactic(auto, unfolding(lapi_base::specs::Packet::Fields::word_form))]
 pub(crate) fn read_word(bytes: &[u8]) -> Result<(u32, &[u8]), Fault>
     ensures { Reads word_form bytes.now result }
 {
@@ -41,7 +41,7 @@ pub(crate) fn read_word(bytes: &[u8]) -> Result<(u32, &[u8]), Fault>
 /// size  field    rule                              reason
 /// 4     address  address + count at most 65,536    Field
 /// ```
-#[tactic(auto, unfolding(lapi_base::specs::Parts::range_form))]
+#[tactic(auto, unfolding(lapi_base::specs::Packet::Fields::range_form))]
 pub(crate) fn read_range(count: u32, bytes: &[u8]) -> Result<(u32, &[u8]), Fault>
     ensures { Reads (range_form count) bytes.now result }
 {

@@ -10,9 +10,9 @@
 //! ```
 
 ghost use Rattle.std.specs.Prelude.{◌≡◌, ◌≤◌, ◌+◌, ◌*◌, ◌++◌, ◌==◌, length, if◌then◌else◌, IfOk};
-ghost use Rattle.lapi_base.specs.Parts.{count_form, span_form, within_form, covering_form, matching_form};
+ghost use Rattle.lapi_base.specs.Packet.Fields.{count_form, span_form, within_form, covering_form, matching_form};
 ghost use Rattle.lapi_packet.specs.Reader.{Reads};
-ghost use Rattle.lapi_base.specs.Written as written;
+ghost use Rattle.lapi_base.specs.Packet.PacketBytes as written;
 
 use crate::fault::{Fault, refused};
 use crate::number::{read_four, read_one, write_four};
@@ -21,7 +21,7 @@ use lapi_base::{FRAME_ROOM, Frame, Reason, Span, Spans};
 
 const MOST: u32 = 16;
 
-#[tactic(auto, unfolding(lapi_base::specs::Parts::count_form))]
+#[tactic(auto, unfolding(lapi_base::specs::Packet::Fields::count_form))]
 pub(crate) fn read_count(bytes: &[u8]) -> Result<(u32, &[u8]), Fault>
     ensures read { Reads count_form bytes.now result }
     ensures most { IfOk result (λ x. x.0 ≤ 16) }
@@ -34,7 +34,7 @@ pub(crate) fn read_count(bytes: &[u8]) -> Result<(u32, &[u8]), Fault>
 }
 
 /// A span whose length is from `least` to `most`.
-#[tactic(auto, unfolding(lapi_base::specs::Parts::span_form))]
+#[tactic(auto, unfolding(lapi_base::specs::Packet::Fields::span_form))]
 fn read_span(least: u32, most: u32, bytes: &[u8]) -> Result<(Span, &[u8]), Fault>
     ensures read { Reads (span_form least most) bytes.now result }
     ensures most { IfOk result (λ x. x.0.len ≤ most) }

@@ -1,5 +1,5 @@
 ghost use Rattle.std.specs.Prelude.{◌↔◌, IsTrue};
-ghost use Rattle.lapi_base.specs.Spelling.{HasSpelling};
+ghost use Rattle.lapi_base.specs.Packet.Spelling.{HasSpelling};
 
 use crate::decoding::decode;
 use crate::encoding::write;

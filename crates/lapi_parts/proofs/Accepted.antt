@@ -13,12 +13,12 @@ use Rattle.lapi_base.specs.declared.message.Leg.TheVariants.{Go, Join}
 use Rattle.lapi_base.specs.declared.message.MsgName.{MsgName}
 use Rattle.lapi_base.specs.declared.event.Event.{Event}
 use Rattle.lapi_base.specs.declared.event.Event.TheVariants.{Issue, Enter}
-use Rattle.lapi_base.specs.Names.{Deed, Issued, Entered, Copied, Landed, Begun, Ended, deed, done, message}
-use Rattle.lapi_base.specs.Operations.{statements, statement, address, target_pieces, origin_pieces, is_rmw, target_of, target, own_counter, tgt_counter, org_counter, cmpl_counter, is_am}
-use Rattle.lapi_base.specs.Handlers.{handler_of, user_header, has_completion}
-use Rattle.lapi_base.specs.Refusals.{option_any, is_known, lies_within, counters_of, is_vector, too_long, is_misaligned, why_by, why}
-use Rattle.lapi_base.specs.Atomic.{Atomic, Keeps, needs, copy_needs, only_if, to_land, has_statement}
-use Rattle.lapi_base.specs.Receiving.{NamesCounter}
+use Rattle.lapi_base.specs.Record.Names.{EventKey, Issued, Entered, Copied, Landed, Begun, Ended, key_of, happened, message}
+use Rattle.lapi_base.specs.Record.Operations.{statements, statement, address, target_pieces, origin_pieces, is_rmw, target_of, target, own_counter, tgt_counter, org_counter, cmpl_counter, is_am}
+use Rattle.lapi_base.specs.Record.Handlers.{handler_of, user_header, has_completion}
+use Rattle.lapi_base.specs.Record.Refusals.{option_any, is_known, lies_within, counters_of, is_vector, too_long, is_misaligned, refusal_by, refusal_of}
+use Rattle.lapi_base.specs.Record.Atomic.{Atomic, Keeps, needs, copy_needs, only_if, to_land, has_statement}
+use Rattle.lapi_base.specs.Laws.Receiving.{NamesCounter}
 use Rattle.lapi_base.proofs.ListLaws.{all-weaker}
 use Rattle.lapi_laws.proofs.Backward.{closed, shown}
 use Rattle.lapi_laws.proofs.Shorts.{none-tests, last-of}
@@ -88,8 +88,8 @@ module _ (script : Script) where
       pub words : is_rmw s ≡ true → AllByRecursion (IsAligned d) (target_pieces s) × AllByRecursion (IsAligned d) (origin_pieces s)
 
     -- what no reason is found for
-    accepted : (known : Addr → Bool) (a i : ℕ) → a < script.tasks → why_by script rules known a i ≡ None → Accepted (target script a i) (statement script a i)
-    unfolding why_by
+    accepted : (known : Addr → Bool) (a i : ℕ) → a < script.tasks → refusal_by script rules known a i ≡ None → Accepted (target script a i) (statement script a i)
+    unfolding refusal_by
     accepted known a i l h =
         let s = statement script a i in
         let d = target script a i in
@@ -133,7 +133,7 @@ module _ (script : Script) where
         }
 
     -- of what was issued or entered
-    abbrev WasAccepted : Deed → Type 0
+    abbrev WasAccepted : EventKey → Type 0
     WasAccepted (Issued a i) = Accepted (target script a i) (statement script a i)
     WasAccepted (Entered a i) = Accepted (target script a i) (statement script a i)
     WasAccepted _ = Unit {0}
@@ -141,20 +141,20 @@ module _ (script : Script) where
     is-task : (a i : ℕ) → has_statement script rules a i ≡ true → a < script.tasks
     is-task a i h = ltb-true a script.tasks (and_parts (nat_lt a script.tasks) (nat_lt i (length (statements script a))) h).0
 
-    accepted-now : (e : Event) (J : List Event) → Keeps script rules J e → WasAccepted (deed e)
-    unfolding why
+    accepted-now : (e : Event) (J : List Event) → Keeps script rules J e → WasAccepted (key_of e)
+    unfolding refusal_of
     accepted-now (Issue a i) J k = accepted (is_known script J a) a i (is-task a i (and_parts _ _ k.there).0) k.order.1
     accepted-now (Enter a i) J k = accepted (is_known script J a) a i (is-task a i (and_parts _ _ k.there).0) k.order.1
     accepted-now e J k = tt
 
-    needs-accepted : (J : List Event) (a i : ℕ) (leg : Leg) → Atomic script rules J → AllByRecursion (λ d. done d J ≡ true) (copy_needs script rules a i leg) → Accepted (target script a i) (statement script a i)
+    needs-accepted : (J : List Event) (a i : ℕ) (leg : Leg) → Atomic script rules J → AllByRecursion (λ d. happened d J ≡ true) (copy_needs script rules a i leg) → Accepted (target script a i) (statement script a i)
     needs-accepted J a i Go h n = shown script rules WasAccepted accepted-now (Issued a i) J h n.0
     needs-accepted J a i (Join d) h n = shown script rules WasAccepted accepted-now (Entered a i) J h n.0
     needs-accepted J a i _ h n =
-        let rest = last-of script rules (λ d. done d J ≡ true) (only_if (has_completion script rules a i) (Begun (message a i Go) ∷ Ended (message a i Go) ∷ [])) (Landed (message a i Go) ∷ to_land script rules a i) n in
+        let rest = last-of script rules (λ d. happened d J ≡ true) (only_if (has_completion script rules a i) (Begun (message a i Go) ∷ Ended (message a i Go) ∷ [])) (Landed (message a i Go) ∷ to_land script rules a i) n in
         shown script rules WasAccepted accepted-now (Issued a i) J h rest.1.0
 
     -- and so of each message that was copied
-    pub copied-accepted : (J : List Event) (m : MsgName) → Atomic script rules J → done (Copied m) J ≡ true → Accepted (target script m.origin m.statement) (statement script m.origin m.statement)
+    pub copied-accepted : (J : List Event) (m : MsgName) → Atomic script rules J → happened (Copied m) J ≡ true → Accepted (target script m.origin m.statement) (statement script m.origin m.statement)
     unfolding needs
     copied-accepted J m h d = needs-accepted J m.origin m.statement m.leg h (closed script rules (Copied m) J h d)

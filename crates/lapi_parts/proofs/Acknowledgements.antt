@@ -15,17 +15,18 @@ use Rattle.lapi_base.specs.declared.reply.Reply.TheVariants.{Idle}
 use Rattle.lapi_base.specs.declared.packet.Packet.{Packet}
 use Rattle.lapi_base.specs.declared.packet.Packet.TheVariants.{Data, Ack}
 use Rattle.lapi_base.specs.declared.packet.DataPacket.{DataPacket}
-use Rattle.lapi_base.specs.Layout.{window_of, holds_back}
-use Rattle.lapi_base.specs.Below.{least_missing}
-use Rattle.lapi_base.specs.Operations.{statements}
-use Rattle.lapi_base.specs.Refusals.{next, why}
-use Rattle.lapi_base.specs.Jobs.{queue, runs}
-use Rattle.lapi_base.specs.Packets.{data_packet}
-use Rattle.lapi_base.specs.Record.{Run, start, out, is_number, has_number, is_delivered, packet_of, packets, ready, fresh, stale, copy_each, ack, owed_ack, sends, at_once, with_handed, hand_over, deliver_entry, deliver, reply_with, unless_refused, add_event, step, poll, tick, begin_first, begin_at, begin, end_at, end, cut_entry, perform, run_of}
-use Rattle.lapi_base.specs.Atomic.{Atomic}
-use Rattle.lapi_base.specs.Links.{OwedAreHeldBack}
-use Rattle.lapi_base.specs.Valid.{ValidAct, ValidScript}
-use Rattle.lapi_base.specs.Seen.{HoldsOfRecords}
+use Rattle.lapi_base.specs.Packet.Layout.{window_of, holds_back}
+use Rattle.lapi_base.specs.Record.Below.{least_missing}
+use Rattle.lapi_base.specs.Record.Operations.{statements}
+use Rattle.lapi_base.specs.Record.Refusals.{next, refusal_of}
+use Rattle.lapi_base.specs.Record.Jobs.{queue, runs}
+use Rattle.lapi_base.specs.Record.Packets.{data_packet}
+use Rattle.lapi_base.specs.Record.Wires.{Run, start, numbered, is_number, has_number, is_delivered, packet_of, packets, to_send, to_resend, ack, owed_ack, sends}
+use Rattle.lapi_base.specs.Record.Acts.{ready, copy_each, at_once, with_handed, hand_over, deliver_entry, deliver, reply_with, unless_refused, add_event, step, poll, tick, begin_first, begin_at, begin, end_at, end, cut_entry, perform, run_of}
+use Rattle.lapi_base.specs.Record.Atomic.{Atomic}
+use Rattle.lapi_base.specs.Laws.Links.{OwedAreHeldBack}
+use Rattle.lapi_base.specs.Record.Valid.{ValidAct, ValidScript}
+use Rattle.lapi_base.specs.Record.WorldView.{HoldsOfRecords}
 use Rattle.lapi_base.proofs.BelowLaws.{least_missing-le, least_missing-not}
 use Rattle.lapi_base.proofs.BitLaws.{bits_of-even, bits_of-lt}
 use Rattle.lapi_base.proofs.ListLaws.{all-any, all-append, all-flat_map, all-get}
@@ -44,34 +45,34 @@ module _ (script : Script) (rules : Rules) where
   IsTold a b (Ack from to base bits) = (from ≡ a) × (to ≡ b) × (a < script.tasks) × (b < script.tasks) × (ValidScript script → base < 2 ^ 32) × (bits < 2 ^ window_of script) × (bits % 2 ≡ 0)
 
   -- the numbers that were delivered are those of the link, also with one more packet
-  delivered-below : (r : Run) (a b : ℕ) (p : DataPacket) (n : ℕ) → SoundRun script rules r → Fits script rules r.journal r.handed a b (Data p) → is_delivered (with_handed script rules r a b (Data p)) a b n ≡ true → n < length (out script r.journal a b)
+  delivered-below : (r : Run) (a b : ℕ) (p : DataPacket) (n : ℕ) → SoundRun script rules r → Fits script rules r.journal r.handed a b (Data p) → is_delivered (with_handed script rules r a b (Data p)) a b n ≡ true → n < length (numbered script r.journal a b)
   unfolding has_number
   delivered-below r a b p n s f =
-      cond_both (a == a && b == b) (Data p ∷ r.handed a b) (r.handed a b) (λ ps. list_any (is_number n) ps ≡ true → n < length (out script r.journal a b))
+      cond_both (a == a && b == b) (Data p ∷ r.handed a b) (r.handed a b) (λ ps. list_any (is_number n) ps ≡ true → n < length (numbered script r.journal a b))
       (λ _ h.
       ⊎_elim
-      (λ (e : (p.seq == n) ≡ true). subst (λ (k : ℕ). k < length (out script r.journal a b)) (eqb-true p.seq n e) (slice_get_within (out script r.journal a b) p.seq (p.name, p.fragment) f))
+      (λ (e : (p.seq == n) ≡ true). subst (λ (k : ℕ). k < length (numbered script r.journal a b)) (eqb-true p.seq n e) (slice_get_within (numbered script r.journal a b) p.seq (p.name, p.fragment) f))
       (λ (e : list_any (is_number n) (r.handed a b) ≡ true). within n e)
       (or_cases _ _ h))
       (λ _ h. within n h)
     where
-      within : (k : ℕ) → list_any (is_number k) (r.handed a b) ≡ true → k < length (out script r.journal a b)
-      within k e = let x = known script rules r.journal r.wire r.handed s a b k e in slice_get_within (out script r.journal a b) k x.0 x.1
+      within : (k : ℕ) → list_any (is_number k) (r.handed a b) ≡ true → k < length (numbered script r.journal a b)
+      within k e = let x = known script rules r.journal r.wire r.handed s a b k e in slice_get_within (numbered script r.journal a b) k x.0 x.1
 
   -- so the least that is missing isn't delivered
-  least-not : (r : Run) (a b : ℕ) → ((n : ℕ) → is_delivered r a b n ≡ true → n < length (out script r.journal a b)) → is_delivered r a b (least_missing (length (out script r.journal a b)) (is_delivered r a b)) ≡ false
+  least-not : (r : Run) (a b : ℕ) → ((n : ℕ) → is_delivered r a b n ≡ true → n < length (numbered script r.journal a b)) → is_delivered r a b (least_missing (length (numbered script r.journal a b)) (is_delivered r a b)) ≡ false
   least-not r a b room =
-      let count = length (out script r.journal a b) in
+      let count = length (numbered script r.journal a b) in
       let q = is_delivered r a b in
       elim (cases_lt (least_missing count q) count) [
         | inl l ↦ least_missing-not count q l
         | inr l ↦ false_from_ne_true (q (least_missing count q)) (λ h. let l' = room (least_missing count q) h in omega arith)
       ]
 
-  ack-told : (r : Run) (a b : ℕ) → a < script.tasks → b < script.tasks → Atomic script rules r.journal → ((n : ℕ) → is_delivered r a b n ≡ true → n < length (out script r.journal a b)) → IsTold b a (ack script rules r a b)
+  ack-told : (r : Run) (a b : ℕ) → a < script.tasks → b < script.tasks → Atomic script rules r.journal → ((n : ℕ) → is_delivered r a b n ≡ true → n < length (numbered script r.journal a b)) → IsTold b a (ack script rules r a b)
   unfolding ack
   ack-told r a b la lb atomic room =
-      let count = length (out script r.journal a b) in
+      let count = length (numbered script r.journal a b) in
       let q = is_delivered r a b in
       let least = least_missing count q in
       let below = least_missing-le count q in
@@ -86,13 +87,13 @@ module _ (script : Script) (rules : Rules) where
   unfolding owed_ack
   owed-told r a b s o =
       cond_both (r.owed a b) (ack script rules r a b ∷ []) [] (AllByRecursion (IsTold b a))
-      (λ e. let held = o a b e in (ack-told r a b held.1 held.2 s.atomic (λ n h. let x = known script rules r.journal r.wire r.handed s a b n h in slice_get_within (out script r.journal a b) n x.0 x.1), tt))
+      (λ e. let held = o a b e in (ack-told r a b held.1 held.2 s.atomic (λ n h. let x = known script rules r.journal r.wire r.handed s a b n h in slice_get_within (numbered script r.journal a b) n x.0 x.1), tt))
       (λ _. tt)
 
   -- what a Poll or a Tick adds are data
   packets-told : (J : List Event) (a b x y : ℕ) (numbers : List ℕ) → AllByRecursion (IsTold x y) (packets script rules J a b numbers)
   unfolding packets data_packet
-  packets-told J a b x y numbers = all-flat_map (λ _. Unit {0}) (IsTold x y) (λ n. packet_of script rules J n (slice_get (out script J a b) n)) numbers (all-any numbers) (λ n _. one n (slice_get (out script J a b) n))
+  packets-told J a b x y numbers = all-flat_map (λ _. Unit {0}) (IsTold x y) (λ n. packet_of script rules J n (slice_get (numbered script J a b) n)) numbers (all-any numbers) (λ n _. one n (slice_get (numbered script J a b) n))
     where
       one : (n : ℕ) (o : Option (MsgName × ℕ)) → AllByRecursion (IsTold x y) (packet_of script rules J n o)
       one n None = tt
@@ -105,7 +106,7 @@ module _ (script : Script) (rules : Rules) where
   unfolding poll
   poll-told r t s o h a b =
       let J = copy_each r.journal (ready script r.journal t) in
-      let numbers = fresh script rules r J a b in
+      let numbers = to_send script rules r J a b in
       cond_both (a == t) (r.wire a b ++ sends script rules r J a b) (r.wire a b) (AllByRecursion (IsTold a b))
       (λ _. all-append (IsTold a b) (r.wire a b) (sends script rules r J a b) (h a b) (all-append (IsTold a b) (packets script rules J a b numbers) (owed_ack script rules r b a) (packets-told J a b a b numbers) (owed-told r b a s o)))
       (λ _. h a b)
@@ -129,11 +130,11 @@ module _ (script : Script) (rules : Rules) where
     unfolding perform step tick deliver begin end
     perform-told r (Step a) v s o h =
         let i = next r.journal a in
-        cond_both (nat_lt i (length (statements script a))) (add_event script rules r (unless_refused script rules r a i (why script rules r.journal a i))) (reply_with script rules r Idle) ToldRun
-        (λ _. elim (unless_refused script rules r a i (why script rules r.journal a i)) as (λ x. ToldRun (add_event script rules r x)) [ None ↦ h | Some e ↦ h ])
+        cond_both (nat_lt i (length (statements script a))) (add_event script rules r (unless_refused script rules r a i (refusal_of script rules r.journal a i))) (reply_with script rules r Idle) ToldRun
+        (λ _. elim (unless_refused script rules r a i (refusal_of script rules r.journal a i)) as (λ x. ToldRun (add_event script rules r x)) [ None ↦ h | Some e ↦ h ])
         (λ _. h)
     perform-told r (Poll t) v s o h = poll-told r t s o h
-    perform-told r (Tick t) v s o h = more-told r.wire t r.journal (λ a b. stale script rules r a b) h
+    perform-told r (Tick t) v s o h = more-told r.wire t r.journal (λ a b. to_resend script rules r a b) h
     perform-told r (Deliver a b k) v s o h =
         elim (slice_get (r.wire a b) k) as (λ x. slice_get (r.wire a b) k ≡ x → ToldRun (deliver_entry script rules r a b x)) [
           | None ↦ λ e. h

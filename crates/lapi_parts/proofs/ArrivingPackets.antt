@@ -16,20 +16,21 @@ use Rattle.lapi_base.specs.declared.head.Head.{Head as PacketHead}
 use Rattle.lapi_base.specs.declared.packet.Packet.{Packet}
 use Rattle.lapi_base.specs.declared.packet.Packet.TheVariants.{Data, Ack}
 use Rattle.lapi_base.specs.declared.packet.DataPacket.{DataPacket}
-use Rattle.lapi_base.specs.Layout.{window_of}
-use Rattle.lapi_base.specs.Below.{bits_of}
-use Rattle.lapi_base.specs.Names.{message, leg_eq, Copied}
-use Rattle.lapi_base.specs.Operations.{statement, is_am, has_back, has_leg, cmpl_counter, message_length, fragment_count}
-use Rattle.lapi_base.specs.Handlers.{completion, has_completion, answers}
-use Rattle.lapi_base.specs.Packets.{head_by, data_packet}
-use Rattle.lapi_base.specs.Record.{Run, out, is_number, has_number, after_land, ack, with_handed}
-use Rattle.lapi_base.specs.Seen.{HoldsOfRecords}
-use Rattle.lapi_base.specs.Entries.{carried}
-use Rattle.lapi_base.specs.Arrived.{IsKnown, ack_of, arrival_of, has_some, whole_by, is_whole, count_of, is_active, noted, answered, follows, comes}
-use Rattle.lapi_base.specs.Receiving.{AcksAreTold, NextAcksAreTold, ArrivalsAreTold, RepeatsAreKnown}
+use Rattle.lapi_base.specs.Packet.Layout.{window_of}
+use Rattle.lapi_base.specs.Record.Below.{bits_of}
+use Rattle.lapi_base.specs.Record.Names.{message, leg_eq, Copied}
+use Rattle.lapi_base.specs.Record.Operations.{statement, is_am, has_back, has_leg, cmpl_counter, message_length, fragment_count}
+use Rattle.lapi_base.specs.Record.Handlers.{completion, has_completion, answers}
+use Rattle.lapi_base.specs.Record.Packets.{head_by, data_packet}
+use Rattle.lapi_base.specs.Record.Wires.{Run, numbered, is_number, has_number, ack}
+use Rattle.lapi_base.specs.Record.Acts.{after_land, with_handed}
+use Rattle.lapi_base.specs.Record.WorldView.{HoldsOfRecords}
+use Rattle.lapi_base.specs.Laws.Entries.{carried}
+use Rattle.lapi_base.specs.Record.Arrived.{IsKnown, ack_of, arrival_of, has_some, whole_by, is_whole, count_of, is_active, noted, answered, follows, comes}
+use Rattle.lapi_base.specs.Laws.Receiving.{AcksAreTold, NextAcksAreTold, ArrivalsAreTold, RepeatsAreKnown}
 use Rattle.lapi_base.proofs.ListLaws.{all-get, some-same}
 use Rattle.lapi_base.proofs.TestLaws.{eqb-refl}
-use Rattle.lapi_laws.proofs.Out.{out-copied}
+use Rattle.lapi_laws.proofs.Out.{numbered-copied}
 use Rattle.lapi_laws.proofs.Backward.{there}
 use Rattle.lapi_laws.proofs.Sound.{Fits}
 use Rattle.lapi_parts.proofs.Records.{record-sound}
@@ -135,7 +136,7 @@ module _ (script : Script) (rules : Rules) where
   -- Two packets of one number are the same packet.
   same-data : (r : Run) (a b : ℕ) (p q : DataPacket) → Fits script rules r.journal r.handed a b (Data p) → Fits script rules r.journal r.handed a b (Data q) → Exact script rules r.journal (Data p) → Exact script rules r.journal (Data q) → p.seq ≡ q.seq → Data q ≡ Data p
   same-data r a b p q f g x y e =
-      let both : Some (p.name, p.fragment) ≡ Some (q.name, q.fragment) = sym f ∙ ap (slice_get (out script r.journal a b)) e ∙ g in
+      let both : Some (p.name, p.fragment) ≡ Some (q.name, q.fragment) = sym f ∙ ap (slice_get (numbered script r.journal a b)) e ∙ g in
       let pair = some-same (p.name, p.fragment) (q.name, q.fragment) both in
       let name : p.name ≡ q.name = ap (λ (v : MsgName × ℕ). v.0) pair in
       let fragment : p.fragment ≡ q.fragment = ap (λ (v : MsgName × ℕ). v.1) pair in
@@ -175,7 +176,7 @@ arrivals-told script rules r is = λ a b k p wire.
     let s = record-sound script rules r is in
     let fit = all-get (Fits script rules r.journal r.handed a b) (r.wire a b) k (Data p) (s.wires a b) wire in
     let exact = all-get (Exact script rules r.journal) (r.wire a b) k (Data p) ((record-exact script rules r is).wires a b) wire in
-    let copied = (out-copied script r.journal a b p.seq (p.name, p.fragment) fit).0 in
+    let copied = (numbered-copied script r.journal a b p.seq (p.name, p.fragment) fit).0 in
     let leg = (and_parts _ _ (there script rules (Copied p.name) r.journal s.atomic copied)).1 in
     arrival-local script rules r a b p s.atomic fit (s.hands a b)
     ∙ comes-is script rules (r.handed a b) p leg (head-is script rules r.journal p exact) (length-is script rules r.journal p exact)

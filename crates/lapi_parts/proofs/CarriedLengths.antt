@@ -16,32 +16,32 @@ use Rattle.lapi_base.specs.declared.message.Leg.TheVariants.{Go, Back, Note, Ech
 use Rattle.lapi_base.specs.declared.message.MsgName.{MsgName}
 use Rattle.lapi_base.specs.declared.event.Event.{Event}
 use Rattle.lapi_base.specs.declared.event.Event.TheVariants.{Issue, Refuse, Enter, Pass, Copy, Head, Land, Begin, End}
-use Rattle.lapi_base.specs.Names.{message, name_eq, Copied, Landed, deed, done, Begun, Ended}
-use Rattle.lapi_base.specs.Operations.{upto, statement, target, one_piece, spans, target_pieces, origin_pieces, pieces_of, total, is_data, is_rmw, has_back, has_leg, length_by, message_length}
-use Rattle.lapi_base.specs.Handlers.{has_completion, word_bytes, answers, answer_of, sent_back, completion_answer, rule_named, is_answer, user}
-use Rattle.lapi_base.specs.Values.{Memories, Values, values, gathered, at_target, with_bytes, land_bytes, source_by}
-use Rattle.lapi_base.specs.Atomic.{Atomic, copy_needs, only_if, to_land, needs}
-use Rattle.lapi_base.specs.Entries.{carried}
+use Rattle.lapi_base.specs.Record.Names.{message, name_eq, Copied, Landed, key_of, happened, Begun, Ended}
+use Rattle.lapi_base.specs.Record.Operations.{numbers_below, statement, target, one_piece, spans, target_pieces, origin_pieces, pieces_of, total, is_data, is_rmw, has_back, has_leg, length_by, message_length}
+use Rattle.lapi_base.specs.Record.Handlers.{has_completion, word_bytes, answers, answer_of, sent_back, completion_answer, rule_named, is_answer, user}
+use Rattle.lapi_base.specs.Record.Values.{Memories, Values, values, gathered, at_target, with_bytes, land_bytes, source_by}
+use Rattle.lapi_base.specs.Record.Atomic.{Atomic, copy_needs, only_if, to_land, needs}
+use Rattle.lapi_base.specs.Laws.Entries.{carried}
 use Rattle.lapi_base.specs.declared.rule.CompletionRule.{CompletionRule}
 use Rattle.lapi_base.specs.declared.rule.CompletionRule.TheVariants.{Answer}
 use Rattle.lapi_base.proofs.ListLaws.{list_all-each}
-use Rattle.lapi_base.proofs.NameLaws.{done-cases, done-nil, name_eq-refl, name_eq-true}
-use Rattle.lapi_base.proofs.UptoLaws.{upto-length}
+use Rattle.lapi_base.proofs.NameLaws.{happened-cases, happened-nil, name_eq-refl, name_eq-true}
+use Rattle.lapi_base.proofs.UptoLaws.{numbers_below-length}
 use Rattle.lapi_laws.proofs.Backward.{Atomic-head, Atomic-tail}
 use Rattle.lapi_laws.proofs.Shorts.{last-of}
 use Rattle.lapi_parts.proofs.ExactBytes.{stays}
 
 -- the bytes of pieces are as many as their lengths say
-piece-length : (memory : Memories) (t at len : ℕ) → length (map (λ k. memory t (at + k)) (upto len)) ≡ len
-piece-length memory t at len = length-map (upto len) (λ k. memory t (at + k)) ∙ upto-length len
+piece-length : (memory : Memories) (t at len : ℕ) → length (map (λ k. memory t (at + k)) (numbers_below len)) ≡ len
+piece-length memory t at len = length-map (numbers_below len) (λ k. memory t (at + k)) ∙ numbers_below-length len
 
-sums : (script : Script) (memory : Memories) (t d : ℕ) (ps : List Piece) (acc : ℕ) → fold (λ a (p : Span). a + length (map (λ k. memory t (p.at + k)) (upto p.len))) acc (spans script d ps) ≡ fold (λ a x. a + x) acc (map (λ (p : Piece). p.len) ps)
+sums : (script : Script) (memory : Memories) (t d : ℕ) (ps : List Piece) (acc : ℕ) → fold (λ a (p : Span). a + length (map (λ k. memory t (p.at + k)) (numbers_below p.len))) acc (spans script d ps) ≡ fold (λ a x. a + x) acc (map (λ (p : Piece). p.len) ps)
 sums script memory t d [] acc = refl
-sums script memory t d (p ∷ ps) acc = ap (λ n. fold (λ a (q : Span). a + length (map (λ k. memory t (q.at + k)) (upto q.len))) (acc + n) (spans script d ps)) (piece-length memory t _ p.len) ∙ sums script memory t d ps (acc + p.len)
+sums script memory t d (p ∷ ps) acc = ap (λ n. fold (λ a (q : Span). a + length (map (λ k. memory t (q.at + k)) (numbers_below q.len))) (acc + n) (spans script d ps)) (piece-length memory t _ p.len) ∙ sums script memory t d ps (acc + p.len)
 
 gathered-length : (script : Script) (memory : Memories) (t d : ℕ) (ps : List Piece) → length (gathered memory t (spans script d ps)) ≡ total ps
 unfolding gathered
-gathered-length script memory t d ps = length-flat_map (λ (p : Span). map (λ k. memory t (p.at + k)) (upto p.len)) (spans script d ps) ∙ sums script memory t d ps 0
+gathered-length script memory t d ps = length-flat_map (λ (p : Span). map (λ k. memory t (p.at + k)) (numbers_below p.len)) (spans script d ps) ∙ sums script memory t d ps 0
 
 one-sum : (n : ℕ) → 0 + n ≡ n
 one-sum n = omega arith
@@ -101,10 +101,10 @@ module _ (script : Script) (rules : Rules) where
   land-word v b j (Join x) a i r old = old (and-no (a == b && i == j))
 
   -- so the word that was read stands from then on
-  word-stays : (J : List Event) (a i : ℕ) → is_rmw (statement script a i) ≡ true → done (Landed (message a i Go)) J ≡ true → length (carried script rules J (message a i Back)) ≡ 4
-  unfolding values done
+  word-stays : (J : List Event) (a i : ℕ) → is_rmw (statement script a i) ≡ true → happened (Landed (message a i Go)) J ≡ true → length (carried script rules J (message a i Back)) ≡ 4
+  unfolding values happened
   word-stays [] a i r d = absurd (false≢true d)
-  word-stays (Land n ∷ J) a i r d = land-word (values script rules J) n.origin n.statement n.leg a i r (λ apart. word-stays J a i r (subst (λ b. (b || done (Landed (message a i Go)) J) ≡ true) apart d))
+  word-stays (Land n ∷ J) a i r d = land-word (values script rules J) n.origin n.statement n.leg a i r (λ apart. word-stays J a i r (subst (λ b. (b || happened (Landed (message a i Go)) J) ≡ true) apart d))
   word-stays (Copy n ∷ J) a i r d =
       let m = message a i Back in
       let v = values script rules J in
@@ -133,12 +133,12 @@ module _ (script : Script) (rules : Rules) where
   answer-length a i bytes h = word-sent (rule_named script rules (message a i Go)) (user script (message a i Go)) bytes (and_parts _ _ (and_parts _ _ h).0).1
 
   -- what is copied has its length
-  source-length : (J : List Event) (a i : ℕ) (leg : Leg) → has_leg script (answers script rules a i) a leg (statement script a i) ≡ true → AllByRecursion (λ d. done d J ≡ true) (copy_needs script rules a i leg) → length (source_by script rules (values script rules J) (message a i leg) leg (statement script a i)) ≡ length_by leg (statement script a i)
+  source-length : (J : List Event) (a i : ℕ) (leg : Leg) → has_leg script (answers script rules a i) a leg (statement script a i) ≡ true → AllByRecursion (λ d. happened d J ≡ true) (copy_needs script rules a i leg) → length (source_by script rules (values script rules J) (message a i leg) leg (statement script a i)) ≡ length_by leg (statement script a i)
   source-length J a i Go h n = go-length script (values script rules J).memory a (target script a i) (statement script a i) h
   source-length J a i Back h n =
       let d = target script a i in
       let s = statement script a i in
-      let landed = (last-of script rules (λ d. done d J ≡ true) (only_if (has_completion script rules a i) (Begun (message a i Go) ∷ Ended (message a i Go) ∷ [])) (Landed (message a i Go) ∷ to_land script rules a i) n).0 in
+      let landed = (last-of script rules (λ d. happened d J ≡ true) (only_if (has_completion script rules a i) (Begun (message a i Go) ∷ Ended (message a i Go) ∷ [])) (Landed (message a i Go) ∷ to_land script rules a i) n).0 in
       cond_both (is_rmw s) (carried script rules J (message a i Back)) (gathered (values script rules J).memory d (at_target script rules a i)) (λ l. length l ≡ length_by Back s)
       (λ r. word-stays J a i r landed ∙ sym (rmw-back s r).1)
       (λ _. back-length script (values script rules J).memory d d s h)
@@ -151,18 +151,18 @@ module _ (script : Script) (rules : Rules) where
   copy-length m J h =
       let k = Atomic-head script rules (Copy m) J h in
       ap length (cond-true (name_eq m m) (source_by script rules (values script rules J) m m.leg (statement script m.origin m.statement)) (carried script rules J m) (name_eq-refl m))
-      ∙ source-length J m.origin m.statement m.leg (and_parts _ _ k.there).1 (list_all-each (λ d. done d J) (needs script rules (Copied m)) k.after)
+      ∙ source-length J m.origin m.statement m.leg (and_parts _ _ k.there).1 (list_all-each (λ d. happened d J) (needs script rules (Copied m)) k.after)
 
   -- so each message that was copied carries as many bytes as its length
-  pub carried-length : (J : List Event) (m : MsgName) → Atomic script rules J → done (Copied m) J ≡ true → length (carried script rules J m) ≡ message_length script m
-  carried-length [] m h d = absurd (both_ways _ (done-nil (Copied m)) d)
+  pub carried-length : (J : List Event) (m : MsgName) → Atomic script rules J → happened (Copied m) J ≡ true → length (carried script rules J m) ≡ message_length script m
+  carried-length [] m h d = absurd (both_ways _ (happened-nil (Copied m)) d)
   carried-length (e ∷ J) m h d =
       ⊎_elim
-      (λ (x : Copied m ≡ deed e). now e x h)
-      (λ (x : done (Copied m) J ≡ true). ap length (stays script rules e J m h x) ∙ carried-length J m (Atomic-tail script rules e J h) x)
-      (done-cases (Copied m) e J d)
+      (λ (x : Copied m ≡ key_of e). now e x h)
+      (λ (x : happened (Copied m) J ≡ true). ap length (stays script rules e J m h x) ∙ carried-length J m (Atomic-tail script rules e J h) x)
+      (happened-cases (Copied m) e J d)
     where
-      now : (f : Event) → Copied m ≡ deed f → Atomic script rules (f ∷ J) → length (carried script rules (f ∷ J) m) ≡ message_length script m
+      now : (f : Event) → Copied m ≡ key_of f → Atomic script rules (f ∷ J) → length (carried script rules (f ∷ J) m) ≡ message_length script m
       now (Copy k) x g = let same : m ≡ k = cc in subst (λ (v : MsgName). length (carried script rules (Copy k ∷ J) v) ≡ message_length script v) (sym same) (copy-length k J g)
       now (Issue t i) x g = absurd (let y : ⊥ = cc in y)
       now (Refuse t i r) x g = absurd (let y : ⊥ = cc in y)

@@ -16,22 +16,23 @@ use Rattle.lapi_base.specs.declared.schedule.Act.TheVariants.{Deliver}
 use Rattle.lapi_base.specs.declared.packet.Packet.{Packet}
 use Rattle.lapi_base.specs.declared.packet.Packet.TheVariants.{Data}
 use Rattle.lapi_base.specs.declared.packet.DataPacket.{DataPacket}
-use Rattle.lapi_base.specs.Names.{message, leg_eq, Copied, done}
-use Rattle.lapi_base.specs.Operations.{statement, target, target_pieces, origin_pieces, spans, is_rmw, address, to_by, receiver, is_am, has_back, has_leg, tgt_counter, cmpl_counter, length_by, message_length}
-use Rattle.lapi_base.specs.Handlers.{number_of, word_bytes, buffer, has_completion, answers, answer_pieces}
-use Rattle.lapi_base.specs.Values.{Values, values, Write, gathered, scattered, new_word, byte_after, land_writes}
-use Rattle.lapi_base.specs.Counters.{is_counter, land_tells, tells, count}
-use Rattle.lapi_base.specs.Refusals.{option_any}
-use Rattle.lapi_base.specs.Packets.{head_by}
-use Rattle.lapi_base.specs.Record.{Run, followed, is_delivered, arrival, after_land, note_of, hand_over, deliver_entry, deliver, perform}
-use Rattle.lapi_base.specs.Atomic.{Atomic}
-use Rattle.lapi_base.specs.Seen.{performed, IsRecord, HoldsOfRecords}
-use Rattle.lapi_base.specs.Entries.{carried}
-use Rattle.lapi_base.specs.Arrived.{has_some, whole_by, is_whole, assembled, count_of, is_active, follows, comes}
-use Rattle.lapi_base.specs.Landing.{announces, lands, DeliveriesWrite, DeliveriesAnnounce}
+use Rattle.lapi_base.specs.Record.Names.{message, leg_eq, Copied, happened}
+use Rattle.lapi_base.specs.Record.Operations.{statement, target, target_pieces, origin_pieces, spans, is_rmw, address, to_by, receiver, is_am, has_back, has_leg, tgt_counter, cmpl_counter, length_by, message_length}
+use Rattle.lapi_base.specs.Record.Handlers.{number_of, word_bytes, buffer, has_completion, answers, answer_pieces}
+use Rattle.lapi_base.specs.Record.Values.{Values, values, Write, gathered, scattered, new_word, byte_after, land_writes}
+use Rattle.lapi_base.specs.Record.Counters.{is_counter, land_tells, tells, count}
+use Rattle.lapi_base.specs.Record.Refusals.{option_any}
+use Rattle.lapi_base.specs.Record.Packets.{head_by}
+use Rattle.lapi_base.specs.Record.Wires.{Run, is_delivered}
+use Rattle.lapi_base.specs.Record.Acts.{followed, first_delivery, after_land, note_of, hand_over, deliver_entry, deliver, perform}
+use Rattle.lapi_base.specs.Record.Atomic.{Atomic}
+use Rattle.lapi_base.specs.Record.WorldView.{performed, IsRecord, HoldsOfRecords}
+use Rattle.lapi_base.specs.Laws.Entries.{carried}
+use Rattle.lapi_base.specs.Record.Arrived.{has_some, whole_by, is_whole, assembled, count_of, is_active, follows, comes}
+use Rattle.lapi_base.specs.Laws.Landing.{announces, lands, DeliveriesWrite, DeliveriesAnnounce}
 use Rattle.lapi_base.proofs.ListLaws.{all-get}
 use Rattle.lapi_base.proofs.TestLaws.{eqb-refl}
-use Rattle.lapi_laws.proofs.Out.{out-copied}
+use Rattle.lapi_laws.proofs.Out.{numbered-copied}
 use Rattle.lapi_laws.proofs.Backward.{there}
 use Rattle.lapi_laws.proofs.Sound.{Fits}
 use Rattle.lapi_parts.proofs.Records.{record-sound}
@@ -162,7 +163,7 @@ module _ (script : Script) (rules : Rules) where
   unfolding values
   land-memory J m x = cond-true (receiver script m == receiver script m) _ _ (eqb-refl (receiver script m))
 
-  -- the events of an arrival
+  -- the events of an first_delivery
   abbrev arriving : (first whole : Bool) → MsgName → List Event → List Event
   arriving first whole m after = cond first (Head m ∷ []) [] ++ cond whole (Land m ∷ after) []
 
@@ -240,7 +241,7 @@ module _ (script : Script) (rules : Rules) where
 
   -- ---- a delivery
 
-  delivered : (r : Run) (a b k : ℕ) (p : DataPacket) → slice_get (r.wire a b) k ≡ Some (Data p) → (performed script rules r (Deliver a b k)).journal ≡ followed r.journal (cond (is_delivered r a b p.seq) [] (arrival script rules r a b p.name p.seq))
+  delivered : (r : Run) (a b k : ℕ) (p : DataPacket) → slice_get (r.wire a b) k ≡ Some (Data p) → (performed script rules r (Deliver a b k)).journal ≡ followed r.journal (cond (is_delivered r a b p.seq) [] (first_delivery script rules r a b p.name p.seq))
   unfolding performed perform deliver hand_over
   delivered r a b k p at = ap (λ o. (deliver_entry script rules r a b o).journal) at
 
@@ -256,16 +257,16 @@ module _ (script : Script) (rules : Rules) where
   -- what a record says of a packet on a wire
   pub record Facts (r : Run) (a b : ℕ) (p : DataPacket) : Type 0 where
     pub atomic : Atomic script rules r.journal
-    pub copied : done (Copied p.name) r.journal ≡ true
+    pub copied : happened (Copied p.name) r.journal ≡ true
     pub leg : has_leg script (answers script rules p.name.origin p.name.statement) p.name.origin p.name.leg (statement script p.name.origin p.name.statement) ≡ true
     pub place : receiver script p.name ≡ b
     pub head : p.head ≡ head_by script p.name p.name.leg (statement script p.name.origin p.name.statement)
     pub size : p.length ≡ message_length script p.name
     pub exact : AllByRecursion (Exact script rules r.journal) (Data p ∷ r.handed a b)
-    pub events : arrival script rules r a b p.name p.seq ≡ arriving (is_active p.head && not (has_some (r.handed a b) p.name)) (whole_by (count_of script p.length) (Data p ∷ r.handed a b) p.name) p.name (after_land script rules p.name)
+    pub events : first_delivery script rules r a b p.name p.seq ≡ arriving (is_active p.head && not (has_some (r.handed a b) p.name)) (whole_by (count_of script p.length) (Data p ∷ r.handed a b) p.name) p.name (after_land script rules p.name)
 
   written : (r : Run) (a b x : ℕ) (p : DataPacket) → Facts r a b p → (known : Bool) →
-      (values script rules (followed r.journal (cond known [] (arrival script rules r a b p.name p.seq)))).memory b x
+      (values script rules (followed r.journal (cond known [] (first_delivery script rules r a b p.name p.seq)))).memory b x
       ≡ cond (not known && whole_by (count_of script p.length) (Data p ∷ r.handed a b) p.name) (byte_after (lands script rules (values script rules r.journal).memory b p.name p.head p.length (assembled (count_of script p.length) (Data p ∷ r.handed a b) p.name)) x ((values script rules r.journal).memory b x)) ((values script rules r.journal).memory b x)
   unfolding followed
   written r a b x p f true = refl
@@ -294,7 +295,7 @@ module _ (script : Script) (rules : Rules) where
       ] refl
 
   announced : (r : Run) (a b c : ℕ) (p : DataPacket) → Facts r a b p → (known : Bool) →
-      count script rules (followed r.journal (cond known [] (arrival script rules r a b p.name p.seq))) b c
+      count script rules (followed r.journal (cond known [] (first_delivery script rules r a b p.name p.seq))) b c
       ≡ count script rules r.journal b c + cond ((not known && whole_by (count_of script p.length) (Data p ∷ r.handed a b) p.name) && option_any (λ d. d == c) (announces p.head (has_completion script rules p.name.origin p.name.statement))) 1 0
   unfolding followed named
   announced r a b c p f true = sym (add-zero (count script rules r.journal b c))
@@ -317,7 +318,7 @@ facts script rules r is a b k p at =
     let x = record-exact script rules r is in
     let fit = all-get (Fits script rules r.journal r.handed a b) (r.wire a b) k (Data p) (s.wires a b) at in
     let exact = all-get (Exact script rules r.journal) (r.wire a b) k (Data p) (x.wires a b) at in
-    let out = out-copied script r.journal a b p.seq (p.name, p.fragment) fit in
+    let out = numbered-copied script r.journal a b p.seq (p.name, p.fragment) fit in
     let leg = (and_parts _ _ (there script rules (Copied p.name) r.journal s.atomic out.0)).1 in
     let head = head-is script rules r.journal p exact in
     record {

@@ -17,34 +17,35 @@ use Rattle.lapi_base.specs.declared.schedule.Act.TheVariants.{Step, Poll, Tick, 
 use Rattle.lapi_base.specs.declared.reply.Bad.{Bad}
 use Rattle.lapi_base.specs.declared.reply.Reply.{Reply}
 use Rattle.lapi_base.specs.declared.reply.Reply.TheVariants.{Idle}
-use Rattle.lapi_base.specs.Names.{name_eq, Copied, done, message}
-use Rattle.lapi_base.specs.Operations.{statement, is_rmw, statements}
-use Rattle.lapi_base.specs.Values.{Values, values, land_bytes}
-use Rattle.lapi_base.specs.Refusals.{next, why}
-use Rattle.lapi_base.specs.Jobs.{queue, runs}
-use Rattle.lapi_base.specs.Packets.{data_packet}
-use Rattle.lapi_base.specs.Layout.{holds_back}
-use Rattle.lapi_base.specs.Record.{Run, start, out, has_number, packet_of, packets, ready, fresh, stale, copy_each, followed, arrival, ack, owed_ack, sends, at_once, with_handed, hand_over, deliver_entry, deliver, reply_with, unless_refused, add_event, step, poll, tick, begin_first, begin_at, begin, end_at, end, after_end, cut_entry, perform, run_of}
-use Rattle.lapi_base.specs.Atomic.{Atomic}
-use Rattle.lapi_base.specs.Valid.{ValidAct}
-use Rattle.lapi_base.specs.Headline.{HoldsOfAtomic}
-use Rattle.lapi_base.specs.Seen.{HoldsOfRecords}
-use Rattle.lapi_base.specs.Entries.{carried, CarriedIsFixed, IsOfNumber, PutAreOfNumber, HandedAreOfNumber}
+use Rattle.lapi_base.specs.Record.Names.{name_eq, Copied, happened, message}
+use Rattle.lapi_base.specs.Record.Operations.{statement, is_rmw, statements}
+use Rattle.lapi_base.specs.Record.Values.{Values, values, land_bytes}
+use Rattle.lapi_base.specs.Record.Refusals.{next, refusal_of}
+use Rattle.lapi_base.specs.Record.Jobs.{queue, runs}
+use Rattle.lapi_base.specs.Record.Packets.{data_packet}
+use Rattle.lapi_base.specs.Packet.Layout.{holds_back}
+use Rattle.lapi_base.specs.Record.Wires.{Run, start, numbered, has_number, packet_of, packets, to_send, to_resend, ack, owed_ack, sends}
+use Rattle.lapi_base.specs.Record.Acts.{ready, copy_each, followed, first_delivery, at_once, with_handed, hand_over, deliver_entry, deliver, reply_with, unless_refused, add_event, step, poll, tick, begin_first, begin_at, begin, end_at, end, after_end, cut_entry, perform, run_of}
+use Rattle.lapi_base.specs.Record.Atomic.{Atomic}
+use Rattle.lapi_base.specs.Record.Valid.{ValidAct}
+use Rattle.lapi_base.specs.Laws.Headline.{HoldsOfAtomic}
+use Rattle.lapi_base.specs.Record.WorldView.{HoldsOfRecords}
+use Rattle.lapi_base.specs.Laws.Entries.{carried, CarriedIsFixed, IsOfNumber, PutAreOfNumber, HandedAreOfNumber}
 use Rattle.lapi_base.proofs.ListLaws.{all-any, all-append, all-flat_map, all-get}
-use Rattle.lapi_base.proofs.NameLaws.{name_eq-true, done-grown}
+use Rattle.lapi_base.proofs.NameLaws.{name_eq-true, happened-grown}
 use Rattle.lapi_base.proofs.EveryRun.{after-keeps}
-use Rattle.lapi_laws.proofs.Out.{out-copied}
+use Rattle.lapi_laws.proofs.Out.{numbered-copied}
 use Rattle.lapi_laws.proofs.Backward.{Atomic-head, Atomic-tail}
 use Rattle.lapi_laws.proofs.Sound.{Lists, Fits}
 use Rattle.lapi_laws.proofs.Lines.{SoundRun, new_back}
 use Rattle.lapi_laws.proofs.Runs.{start-sound, perform-sound}
 use Rattle.lapi_parts.proofs.Records.{of-runs, record-sound}
 
-other-name : (n m : MsgName) (J : List Event) → done (Copied n) J ≡ false → done (Copied m) J ≡ true → name_eq n m ≡ false
-other-name n m K absent present = false_from_ne_true _ (λ same. both_ways _ absent (subst (λ (k : MsgName). done (Copied k) K ≡ true) (sym (name_eq-true n m same)) present))
+other-name : (n m : MsgName) (J : List Event) → happened (Copied n) J ≡ false → happened (Copied m) J ≡ true → name_eq n m ≡ false
+other-name n m K absent present = false_from_ne_true _ (λ same. both_ways _ absent (subst (λ (k : MsgName). happened (Copied k) K ≡ true) (sym (name_eq-true n m same)) present))
 
 module _ (script : Script) (rules : Rules) where
-  land-stays : (v : Values) (a i : ℕ) (leg : Leg) (J : List Event) (m : MsgName) → Atomic script rules (Land (message a i leg) ∷ J) → done (Copied m) J ≡ true → land_bytes script rules v (message a i leg) leg (statement script a i) m ≡ v.bytes m
+  land-stays : (v : Values) (a i : ℕ) (leg : Leg) (J : List Event) (m : MsgName) → Atomic script rules (Land (message a i leg) ∷ J) → happened (Copied m) J ≡ true → land_bytes script rules v (message a i leg) leg (statement script a i) m ≡ v.bytes m
   land-stays v a i Go J m h d =
       cond_both (is_rmw (statement script a i)) _ v.bytes (λ f. f m ≡ v.bytes m)
       (λ _. cond-false (name_eq (message a i Back) m) _ (v.bytes m) (other-name (message a i Back) m J (new_back script rules J a i (Atomic-tail script rules (Land (message a i Go)) J h) (Atomic-head script rules (Land (message a i Go)) J h).once) d))
@@ -55,7 +56,7 @@ module _ (script : Script) (rules : Rules) where
   land-stays v a i (Join x) J m h d = refl
 
   -- What a message carries is fixed once it was copied.
-  pub stays : (e : Event) (J : List Event) (m : MsgName) → Atomic script rules (e ∷ J) → done (Copied m) J ≡ true → carried script rules (e ∷ J) m ≡ carried script rules J m
+  pub stays : (e : Event) (J : List Event) (m : MsgName) → Atomic script rules (e ∷ J) → happened (Copied m) J ≡ true → carried script rules (e ∷ J) m ≡ carried script rules J m
   unfolding values
   stays (Copy n) J m h d = cond-false (name_eq n m) _ (carried script rules J m) (other-name n m J (Atomic-head script rules (Copy n) J h).once d)
   stays (Land n) J m h d = land-stays (values script rules J) n.origin n.statement n.leg J m h d
@@ -72,9 +73,9 @@ module _ (script : Script) (rules : Rules) where
   Exact J (Data p) = Data p ≡ data_packet script p.name p.seq p.fragment (carried script rules J p.name)
   Exact J (Ack from to base bits) = Unit {0}
 
-  pub stays-grown : (later J : List Event) (m : MsgName) → Atomic script rules (later ++ J) → done (Copied m) J ≡ true → carried script rules (later ++ J) m ≡ carried script rules J m
+  pub stays-grown : (later J : List Event) (m : MsgName) → Atomic script rules (later ++ J) → happened (Copied m) J ≡ true → carried script rules (later ++ J) m ≡ carried script rules J m
   stays-grown [] J m h d = refl
-  stays-grown (e ∷ later) J m h d = stays e (later ++ J) m h (done-grown later J (Copied m) d) ∙ stays-grown later J m (Atomic-tail script rules e (later ++ J) h) d
+  stays-grown (e ∷ later) J m h d = stays e (later ++ J) m h (happened-grown later J (Copied m) d) ∙ stays-grown later J m (Atomic-tail script rules e (later ++ J) h) d
 
   -- K has more events than J
   abbrev pub Grown : List Event → List Event → Type 0
@@ -82,7 +83,7 @@ module _ (script : Script) (rules : Rules) where
 
   exact-grown : (J K : List Event) (handed : Lists) (a b : ℕ) (p : Packet) → Grown J K → Atomic script rules K → Fits script rules J handed a b p → Exact J p → Exact K p
   exact-grown J K handed a b (Data p) g h f x =
-      x ∙ ap (data_packet script p.name p.seq p.fragment) (sym (ap (λ L. carried script rules L p.name) g.1 ∙ stays-grown g.0 J p.name (subst (Atomic script rules) g.1 h) (out-copied script J a b p.seq (p.name, p.fragment) f).0))
+      x ∙ ap (data_packet script p.name p.seq p.fragment) (sym (ap (λ L. carried script rules L p.name) g.1 ∙ stays-grown g.0 J p.name (subst (Atomic script rules) g.1 h) (numbered-copied script J a b p.seq (p.name, p.fragment) f).0))
   exact-grown J K handed a b (Ack from to base bits) g h f x = x
 
   pub all-exact : (J K : List Event) (handed : Lists) (a b : ℕ) (ps : List Packet) → Grown J K → Atomic script rules K → AllByRecursion (Fits script rules J handed a b) ps → AllByRecursion (Exact J) ps → AllByRecursion (Exact K) ps
@@ -97,7 +98,7 @@ module _ (script : Script) (rules : Rules) where
   pub grown-copied : (ms : List MsgName) (J : List Event) → Grown J (copy_each J ms)
   unfolding copy_each
   grown-copied [] J = ([], refl)
-  grown-copied (m ∷ ms) J = cond_both (done (Copied m) J) J (Copy m ∷ J) (λ L. Grown L (copy_each L ms) → Grown J (copy_each L ms)) (λ _ r. r) (λ _ r. (r.0 ++ Copy m ∷ [], r.1 ∙ sym (append_assoc r.0 (Copy m ∷ []) J))) (grown-copied ms (cond (done (Copied m) J) J (Copy m ∷ J)))
+  grown-copied (m ∷ ms) J = cond_both (happened (Copied m) J) J (Copy m ∷ J) (λ L. Grown L (copy_each L ms) → Grown J (copy_each L ms)) (λ _ r. r) (λ _ r. (r.0 ++ Copy m ∷ [], r.1 ∙ sym (append_assoc r.0 (Copy m ∷ []) J))) (grown-copied ms (cond (happened (Copied m) J) J (Copy m ∷ J)))
 
   -- what a Poll or a Tick sends is exact
   data-exact : (J : List Event) (m : MsgName) (n j : ℕ) → Exact J (data_packet script m n j (carried script rules J m))
@@ -106,7 +107,7 @@ module _ (script : Script) (rules : Rules) where
 
   pub packets-exact : (J : List Event) (a b : ℕ) (numbers : List ℕ) → AllByRecursion (Exact J) (packets script rules J a b numbers)
   unfolding packets
-  packets-exact J a b numbers = all-flat_map (λ _. Unit {0}) (Exact J) (λ n. packet_of script rules J n (slice_get (out script J a b) n)) numbers (all-any numbers) (λ n _. one n (slice_get (out script J a b) n))
+  packets-exact J a b numbers = all-flat_map (λ _. Unit {0}) (Exact J) (λ n. packet_of script rules J n (slice_get (numbered script J a b) n)) numbers (all-any numbers) (λ n _. one n (slice_get (numbered script J a b) n))
     where
       one : (n : ℕ) (o : Option (MsgName × ℕ)) → AllByRecursion (Exact J) (packet_of script rules J n o)
       one n None = tt
@@ -133,8 +134,8 @@ module _ (script : Script) (rules : Rules) where
   unfolding step
   step-exact r t s s' x =
       let i = next r.journal t in
-      cond_both (nat_lt i (length (statements script t))) (add_event script rules r (unless_refused script rules r t i (why script rules r.journal t i))) (reply_with script rules r Idle) (λ q. SoundRun script rules q → ExactRun q)
-      (λ _. elim (unless_refused script rules r t i (why script rules r.journal t i)) as (λ o. SoundRun script rules (add_event script rules r o) → ExactRun (add_event script rules r o)) [ None ↦ λ _. same-exact r _ x | Some e ↦ λ q. events-exact r (e ∷ []) _ s q.atomic x ])
+      cond_both (nat_lt i (length (statements script t))) (add_event script rules r (unless_refused script rules r t i (refusal_of script rules r.journal t i))) (reply_with script rules r Idle) (λ q. SoundRun script rules q → ExactRun q)
+      (λ _. elim (unless_refused script rules r t i (refusal_of script rules r.journal t i)) as (λ o. SoundRun script rules (add_event script rules r o) → ExactRun (add_event script rules r o)) [ None ↦ λ _. same-exact r _ x | Some e ↦ λ q. events-exact r (e ∷ []) _ s q.atomic x ])
       (λ _ _. same-exact r _ x)
       s'
 
@@ -162,7 +163,7 @@ module _ (script : Script) (rules : Rules) where
   sends-exact : (r : Run) (J : List Event) (a b : ℕ) → AllByRecursion (Exact J) (sends script rules r J a b)
   unfolding owed_ack
   sends-exact r J a b =
-      all-append (Exact J) (packets script rules J a b (fresh script rules r J a b)) (owed_ack script rules r b a) (packets-exact J a b (fresh script rules r J a b))
+      all-append (Exact J) (packets script rules J a b (to_send script rules r J a b)) (owed_ack script rules r b a) (packets-exact J a b (to_send script rules r J a b))
       (cond_both (r.owed b a) (ack script rules r b a ∷ []) [] (AllByRecursion (Exact J)) (λ _. (ack-exact r J b a, tt)) (λ _. tt))
 
   pub poll-exact : (r : Run) (t : ℕ) → SoundRun script rules r → SoundRun script rules (poll script rules r t) → ExactRun r → ExactRun (poll script rules r t)
@@ -180,8 +181,8 @@ module _ (script : Script) (rules : Rules) where
   tick-exact : (r : Run) (t : ℕ) → ExactRun r → ExactRun (tick script rules r t)
   unfolding tick
   tick-exact r t x = record {
-    wires = λ a b. cond_both (a == t) (r.wire a b ++ packets script rules r.journal a b (stale script rules r a b)) (r.wire a b) (AllByRecursion (Exact r.journal))
-        (λ _. all-append (Exact r.journal) (r.wire a b) (packets script rules r.journal a b (stale script rules r a b)) (x.wires a b) (packets-exact r.journal a b (stale script rules r a b)))
+    wires = λ a b. cond_both (a == t) (r.wire a b ++ packets script rules r.journal a b (to_resend script rules r a b)) (r.wire a b) (AllByRecursion (Exact r.journal))
+        (λ _. all-append (Exact r.journal) (r.wire a b) (packets script rules r.journal a b (to_resend script rules r a b)) (x.wires a b) (packets-exact r.journal a b (to_resend script rules r a b)))
         (λ _. x.wires a b);
     hands = x.hands;
   }
@@ -193,7 +194,7 @@ module _ (script : Script) (rules : Rules) where
   unfolding hand_over
   hand_over-exact r a b (Ack from to least bits) s h f e x = record { wires = x.wires; hands = hands-exact r.journal r.handed a b (Ack from to least bits) tt x.hands }
   hand_over-exact r a b (Data p) s h f e x =
-      let es = cond (has_number (r.handed a b) p.seq) [] (arrival script rules r a b p.name p.seq) in
+      let es = cond (has_number (r.handed a b) p.seq) [] (first_delivery script rules r a b p.name p.seq) in
       let K = followed r.journal es in
       let g = grown-followed es r.journal in
       record {

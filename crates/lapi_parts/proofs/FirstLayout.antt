@@ -5,11 +5,12 @@ use Rattle.lapi_base.specs.declared.script.Script.{Script}
 use Rattle.lapi_base.specs.declared.rule.Rules.{Rules}
 use Rattle.lapi_base.specs.declared.packet.Packet.{Packet}
 use Rattle.lapi_base.specs.declared.event.Event.{Event}
-use Rattle.lapi_base.specs.Layout.{unit, longest, window, layout_of, waits_for_poll, unit_of, longest_of, window_of, holds_back}
-use Rattle.lapi_base.specs.Record.{Run, packets, fresh, at_once, sends}
-use Rattle.lapi_base.specs.Valid.{ValidScript}
-use Rattle.lapi_base.specs.Links.{TellsAtOnce}
-use Rattle.lapi_base.specs.Seen.{IsRecord}
+use Rattle.lapi_base.specs.Packet.Layout.{unit, longest, window, layout_of, waits_for_poll, unit_of, longest_of, window_of, holds_back}
+use Rattle.lapi_base.specs.Record.Wires.{Run, packets, to_send, sends}
+use Rattle.lapi_base.specs.Record.Acts.{at_once}
+use Rattle.lapi_base.specs.Record.Valid.{ValidScript}
+use Rattle.lapi_base.specs.Laws.Links.{TellsAtOnce}
+use Rattle.lapi_base.specs.Record.WorldView.{IsRecord}
 use Rattle.lapi_laws.proofs.Owed.{run-told}
 use Rattle.lapi_parts.proofs.Records.{of-runs}
 
@@ -44,5 +45,5 @@ module _ (script : Script) (rules : Rules) (valid : ValidScript script) where
   pub none-owed : (r : Run) → IsRecord script rules r → (a b : ℕ) → r.owed a b ≡ false
   none-owed r is = (record-told r is (holds-nothing script valid)).0
 
-  pub sends-data : (r : Run) → IsRecord script rules r → (J : List Event) (a b : ℕ) → sends script rules r J a b ≡ packets script rules J a b (fresh script rules r J a b)
+  pub sends-data : (r : Run) → IsRecord script rules r → (J : List Event) (a b : ℕ) → sends script rules r J a b ≡ packets script rules J a b (to_send script rules r J a b)
   sends-data r is = (record-told r is (holds-nothing script valid)).2

@@ -7,23 +7,23 @@ use Rattle.lapi_base.specs.declared.rule.Rules.{Rules}
 use Rattle.lapi_base.specs.declared.message.MsgName.{MsgName}
 use Rattle.lapi_base.specs.declared.packet.Packet.TheVariants.{Data}
 use Rattle.lapi_base.specs.declared.packet.DataPacket.{DataPacket}
-use Rattle.lapi_base.specs.Layout.{window_of}
-use Rattle.lapi_base.specs.Operations.{sender, fragment_count}
-use Rattle.lapi_base.specs.Record.{Run, out, is_number, has_number, is_delivered}
-use Rattle.lapi_base.specs.Links.{IsPartlyDelivered, StaysInWindow, FewArePartial}
-use Rattle.lapi_base.specs.Seen.{HoldsOfRecords}
-use Rattle.lapi_base.specs.Arrived.{is_part_of, is_fragment, has_some, has_fragment, whole_by, is_whole}
-use Rattle.lapi_base.specs.Receiving.{PacketsAreInReach, IsThereInPart, FewAreThereInPart}
+use Rattle.lapi_base.specs.Packet.Layout.{window_of}
+use Rattle.lapi_base.specs.Record.Operations.{sender, fragment_count}
+use Rattle.lapi_base.specs.Record.Wires.{Run, numbered, is_number, has_number, is_delivered}
+use Rattle.lapi_base.specs.Laws.Links.{IsPartlyDelivered, StaysInWindow, FewArePartial}
+use Rattle.lapi_base.specs.Record.WorldView.{HoldsOfRecords}
+use Rattle.lapi_base.specs.Record.Arrived.{is_part_of, is_fragment, has_some, has_fragment, whole_by, is_whole}
+use Rattle.lapi_base.specs.Laws.Receiving.{PacketsAreInReach, IsThereInPart, FewAreThereInPart}
 use Rattle.lapi_base.proofs.BelowLaws.{every_below-fails}
 use Rattle.lapi_base.proofs.ListLaws.{all-weaker, any-find, any-get}
 use Rattle.lapi_base.proofs.TestLaws.{eqb-refl}
-use Rattle.lapi_laws.proofs.Out.{out-copied}
+use Rattle.lapi_laws.proofs.Out.{numbered-copied}
 use Rattle.lapi_laws.proofs.Sound.{Fits}
 use Rattle.lapi_laws.proofs.Lines.{SoundRun}
 use Rattle.lapi_laws.proofs.Reach.{sent-reach}
 use Rattle.lapi_laws.proofs.Partial.{few-partial}
 use Rattle.lapi_parts.proofs.Records.{of-runs, record-sound}
-use Rattle.lapi_parts.proofs.HandedPackets.{of-fit, fit-fragment, out-has, least-local}
+use Rattle.lapi_parts.proofs.HandedPackets.{of-fit, fit-fragment, numbered-has, least-local}
 
 module _ (script : Script) (rules : Rules) (r : Run) (s : SoundRun script rules r) where
   -- a packet of the wire has its number there
@@ -38,10 +38,10 @@ module _ (script : Script) (rules : Rules) (r : Run) (s : SoundRun script rules 
       let Fit = Fits script rules r.journal r.handed a b in
       let there = any-find (is_part_of m) Fit (r.handed a b) (s.hands a b) h.0 in
       let number = of-fit script rules r.journal r.handed a b m there.0 there.2 there.1 in
-      let copied = out-copied script r.journal a b number.0 (m, number.1) number.3 in
+      let copied = numbered-copied script r.journal a b number.0 (m, number.1) number.3 in
       let gap = every_below-fails (fragment_count script m) (has_fragment (r.handed a b) m) h.1 in
-      let other = out-has script r.journal m gap.0 copied.0 gap.1 in
-      let at : slice_get (out script r.journal a b) other.0 ≡ Some (m, gap.0) = subst (λ (x : ℕ). slice_get (out script r.journal x b) other.0 ≡ Some (m, gap.0)) copied.1 (subst (λ (y : ℕ). slice_get (out script r.journal (sender script m) y) other.0 ≡ Some (m, gap.0)) copied.2 other.1) in
+      let other = numbered-has script r.journal m gap.0 copied.0 gap.1 in
+      let at : slice_get (numbered script r.journal a b) other.0 ≡ Some (m, gap.0) = subst (λ (x : ℕ). slice_get (numbered script r.journal x b) other.0 ≡ Some (m, gap.0)) copied.1 (subst (λ (y : ℕ). slice_get (numbered script r.journal (sender script m) y) other.0 ≡ Some (m, gap.0)) copied.2 other.1) in
       let not-there : is_delivered r a b other.0 ≡ false = false_from_ne_true _ (λ d.
       let q = any-find (is_number other.0) Fit (r.handed a b) (s.hands a b) d in
       both_ways _ gap.2 (q.3 (is_fragment m gap.0) (fit-fragment script rules r.journal r.handed a b m other.0 gap.0 q.0 q.2 at q.1).0)) in

@@ -19,18 +19,19 @@ use Rattle.lapi_base.specs.declared.statement.Statement.{Statement}
 use Rattle.lapi_base.specs.declared.statement.Statement.TheVariants.{Wait, Fence, Gfence}
 use Rattle.lapi_base.specs.declared.packet.Packet.{Packet}
 use Rattle.lapi_base.specs.declared.packet.Packet.TheVariants.{Data, Ack}
-use Rattle.lapi_base.specs.Layout.{holds_back}
-use Rattle.lapi_base.specs.Names.{leg_eq, Issued, Entered, Copied, done, message}
-use Rattle.lapi_base.specs.Operations.{upto, statements, statement, target, sender, receiver, to_by, has_back, has_join, is_data, is_am, cmpl_counter}
-use Rattle.lapi_base.specs.Handlers.{has_completion, answers}
-use Rattle.lapi_base.specs.Refusals.{next, why, joined}
-use Rattle.lapi_base.specs.Jobs.{queue, runs}
-use Rattle.lapi_base.specs.Record.{Run, joins, to_copy_of, ready, copy_each, followed, note_of, after_land, after_end, arrival, some_number, all_numbers, out, is_delivered, hand_over, deliver_entry, deliver, reply_with, event_if, proposed, unless_refused, add_event, step, poll, tick, begin_first, begin_at, begin, end_at, end, cut_entry, perform, data_clear}
-use Rattle.lapi_base.specs.TaskPart.{place_of, events_at, actor}
+use Rattle.lapi_base.specs.Packet.Layout.{holds_back}
+use Rattle.lapi_base.specs.Record.Names.{leg_eq, Issued, Entered, Copied, happened, message}
+use Rattle.lapi_base.specs.Record.Operations.{numbers_below, statements, statement, target, sender, receiver, to_by, has_back, has_join, is_data, is_am, cmpl_counter}
+use Rattle.lapi_base.specs.Record.Handlers.{has_completion, answers}
+use Rattle.lapi_base.specs.Record.Refusals.{next, refusal_of, joined}
+use Rattle.lapi_base.specs.Record.Jobs.{queue, runs}
+use Rattle.lapi_base.specs.Record.Wires.{Run, some_number, all_numbers, numbered, is_delivered, data_clear}
+use Rattle.lapi_base.specs.Record.Acts.{joins, to_copy_of, ready, copy_each, followed, note_of, after_land, after_end, first_delivery, hand_over, deliver_entry, deliver, reply_with, event_if, proposed, unless_refused, add_event, step, poll, tick, begin_first, begin_at, begin, end_at, end, cut_entry, perform}
+use Rattle.lapi_base.specs.Record.TaskPart.{place_of, events_at, actor}
 use Rattle.lapi_base.proofs.ListLaws.{all-any, all-append, all-flat_map, all-get, all-map}
 use Rattle.lapi_base.proofs.NameLaws.{leg_eq-true}
 use Rattle.lapi_base.proofs.TestLaws.{eqb-refl}
-use Rattle.lapi_laws.proofs.Out.{out-copied}
+use Rattle.lapi_laws.proofs.Out.{numbered-copied}
 use Rattle.lapi_laws.proofs.Workers.{begun}
 use Rattle.lapi_laws.proofs.Sound.{Fits}
 use Rattle.lapi_laws.proofs.Lines.{SoundRun}
@@ -70,17 +71,17 @@ module _ (script : Script) where
   unfolding copy_each
   more-copied t [] J h = ([], refl, tt)
   more-copied t (m ∷ ms) J h =
-      cond_both (done (Copied m) J) J (Copy m ∷ J) (λ L. More t L (copy_each L ms) → More t J (copy_each L ms)) (λ _ r. r)
+      cond_both (happened (Copied m) J) J (Copy m ∷ J) (λ L. More t L (copy_each L ms) → More t J (copy_each L ms)) (λ _ r. r)
       (λ _ r. (r.0 ++ Copy m ∷ [], r.1 ∙ sym (append_assoc r.0 (Copy m ∷ []) J), all-append (At t) r.0 (Copy m ∷ []) r.2 (h.0, tt)))
-      (more-copied t ms (cond (done (Copied m) J) J (Copy m ∷ J)) h.1)
+      (more-copied t ms (cond (happened (Copied m) J) J (Copy m ∷ J)) h.1)
 
   pub ready-own : (J : List Event) (t : ℕ) → AllByRecursion (λ m. sender script m ≡ t) (ready script J t)
   unfolding ready
-  ready-own J t = all-flat_map (λ _. Unit {0}) (λ m. sender script m ≡ t) (to_copy_of script J t) (upto (length (statements script t))) (all-any _) (λ i _.
-      cond_both (is_data (statement script t i) && done (Issued t i) J) (message t i Go ∷ []) (cond (has_join (statement script t i) && done (Entered t i) J) (joins script t i) []) (AllByRecursion (λ m. sender script m ≡ t))
+  ready-own J t = all-flat_map (λ _. Unit {0}) (λ m. sender script m ≡ t) (to_copy_of script J t) (numbers_below (length (statements script t))) (all-any _) (λ i _.
+      cond_both (is_data (statement script t i) && happened (Issued t i) J) (message t i Go ∷ []) (cond (has_join (statement script t i) && happened (Entered t i) J) (joins script t i) []) (AllByRecursion (λ m. sender script m ≡ t))
       (λ _. (refl, tt))
-      (λ _. cond_both (has_join (statement script t i) && done (Entered t i) J) (joins script t i) [] (AllByRecursion (λ m. sender script m ≡ t))
-      (λ _. all-map (λ _. Unit {0}) (λ m. sender script m ≡ t) (λ d. message t i (Join d)) (filter (λ d. not (d == t)) (upto script.tasks)) (all-any _) (λ d _. refl))
+      (λ _. cond_both (has_join (statement script t i) && happened (Entered t i) J) (joins script t i) [] (AllByRecursion (λ m. sender script m ≡ t))
+      (λ _. all-map (λ _. Unit {0}) (λ m. sender script m ≡ t) (λ d. message t i (Join d)) (filter (λ d. not (d == t)) (numbers_below script.tasks)) (all-any _) (λ d _. refl))
       (λ _. tt)))
 
   apart-left : (a b : ℕ) (y : Bool) {X : Type 0} (p q : X) → (a == b) ≡ false → cond (a == b && y) p q ≡ q
@@ -112,8 +113,8 @@ module _ (script : Script) where
     proposed-own : (r : Run) (t i : ℕ) (s : Statement) → AtOption t (proposed script rules r t i s)
     proposed-own r t i (Wait counter value) = if-own t _ (Pass t i) refl
     proposed-own r t i Fence = if-own t _ (Pass t i) refl
-    proposed-own r t i Gfence = cond_both (done (Entered t i) r.journal) (event_if script rules (joined script r.journal t i) (Pass t i)) (event_if script rules (data_clear script r t i) (Enter t i)) (AtOption t) (λ _. if-own t _ (Pass t i) refl) (λ _. if-own t _ (Enter t i) refl)
-    proposed-own r t i (Statement.Addr at) = cond_both (done (Entered t i) r.journal) (event_if script rules (joined script r.journal t i) (Pass t i)) (Some (Enter t i)) (AtOption t) (λ _. if-own t _ (Pass t i) refl) (λ _. refl)
+    proposed-own r t i Gfence = cond_both (happened (Entered t i) r.journal) (event_if script rules (joined script r.journal t i) (Pass t i)) (event_if script rules (data_clear script r t i) (Enter t i)) (AtOption t) (λ _. if-own t _ (Pass t i) refl) (λ _. if-own t _ (Enter t i) refl)
+    proposed-own r t i (Statement.Addr at) = cond_both (happened (Entered t i) r.journal) (event_if script rules (joined script r.journal t i) (Pass t i)) (Some (Enter t i)) (AtOption t) (λ _. if-own t _ (Pass t i) refl) (λ _. refl)
     proposed-own r t i _ = refl
 
     unless-own : (r : Run) (t i : ℕ) (o : Option Refusal) → AtOption t (unless_refused script rules r t i o)
@@ -128,8 +129,8 @@ module _ (script : Script) where
     unfolding step
     step-frame r t =
         let i = next r.journal t in
-        cond_both (nat_lt i (length (statements script t))) (add_event script rules r (unless_refused script rules r t i (why script rules r.journal t i))) (reply_with script rules r Idle) (Frame t r)
-        (λ _. add-frame r t (unless_refused script rules r t i (why script rules r.journal t i)) (unless-own r t i (why script rules r.journal t i)))
+        cond_both (nat_lt i (length (statements script t))) (add_event script rules r (unless_refused script rules r t i (refusal_of script rules r.journal t i))) (reply_with script rules r Idle) (Frame t r)
+        (λ _. add-frame r t (unless_refused script rules r t i (refusal_of script rules r.journal t i)) (unless-own r t i (refusal_of script rules r.journal t i)))
         (λ _. nothing t r _)
 
     poll-frame : (r : Run) (t : ℕ) → Frame t r (poll script rules r t)
@@ -161,10 +162,10 @@ module _ (script : Script) where
         (λ _. cond_both (has_completion script rules m.origin m.statement) [] (note_of script rules m) (AllByRecursion (At t)) (λ _. tt) (λ _. note-own t m here)))
         (λ _. tt)
 
-    arrival-own : (r : Run) (a b : ℕ) (m : MsgName) (n : ℕ) → receiver script m ≡ b → AllByRecursion (At b) (arrival script rules r a b m n)
-    unfolding arrival
+    arrival-own : (r : Run) (a b : ℕ) (m : MsgName) (n : ℕ) → receiver script m ≡ b → AllByRecursion (At b) (first_delivery script rules r a b m n)
+    unfolding first_delivery
     arrival-own r a b m n h =
-        all-append (At b) (cond (is_am (statement script m.origin m.statement) && leg_eq m.leg Go && not (some_number script (out script r.journal a b) m (is_delivered r a b))) (Head m ∷ []) []) (cond (all_numbers script (out script r.journal a b) m (λ k. k == n || is_delivered r a b k)) (Land m ∷ after_land script rules m) [])
+        all-append (At b) (cond (is_am (statement script m.origin m.statement) && leg_eq m.leg Go && not (some_number script (numbered script r.journal a b) m (is_delivered r a b))) (Head m ∷ []) []) (cond (all_numbers script (numbered script r.journal a b) m (λ k. k == n || is_delivered r a b k)) (Land m ∷ after_land script rules m) [])
         (cond_both _ (Head m ∷ []) [] (AllByRecursion (At b)) (λ _. (h, tt)) (λ _. tt))
         (cond_both _ (Land m ∷ after_land script rules m) [] (AllByRecursion (At b)) (λ _. (h, after-own b m h)) (λ _. tt))
 
@@ -172,8 +173,8 @@ module _ (script : Script) where
     unfolding hand_over
     hand-frame r a b (Ack from to least bits) f = record { added = []; journal = refl; here = tt; wires = λ x y _. refl; hands = λ x y h. apart-right y b (x == a) _ (r.handed x y) h; owed = λ x y _. refl }
     hand-frame r a b (Data p) f =
-        let es = cond (is_delivered r a b p.seq) [] (arrival script rules r a b p.name p.seq) in
-        let m = more-followed b es r.journal (cond_both (is_delivered r a b p.seq) [] (arrival script rules r a b p.name p.seq) (AllByRecursion (At b)) (λ _. tt) (λ _. arrival-own r a b p.name p.seq (out-copied script r.journal a b p.seq (p.name, p.fragment) f).2)) in
+        let es = cond (is_delivered r a b p.seq) [] (first_delivery script rules r a b p.name p.seq) in
+        let m = more-followed b es r.journal (cond_both (is_delivered r a b p.seq) [] (first_delivery script rules r a b p.name p.seq) (AllByRecursion (At b)) (λ _. tt) (λ _. arrival-own r a b p.name p.seq (numbered-copied script r.journal a b p.seq (p.name, p.fragment) f).2)) in
         record { added = m.0; journal = m.1; here = m.2; wires = λ x y h. apart-left x b (y == a) _ (r.wire x y) h; hands = λ x y h. apart-right y b (x == a) _ (r.handed x y) h; owed = λ x y h. ap (λ c. (holds_back script && (x == a && c)) || r.owed x y) h ∙ ap (λ c. (holds_back script && c) || r.owed x y) (and-false (x == a)) ∙ ap (λ c. c || r.owed x y) (and-false (holds_back script)) }
 
     replied : (t : ℕ) (r s : Run) (replies : List Reply) → Frame t r s → Frame t r (record s { replies = replies })

@@ -8,14 +8,15 @@ use Rattle.lapi_base.specs.declared.script.Script.{Script}
 use Rattle.lapi_base.specs.declared.rule.Rules.{Rules}
 use Rattle.lapi_base.specs.declared.schedule.Act.{Act}
 use Rattle.lapi_base.specs.declared.schedule.Line.{Line}
-use Rattle.lapi_base.specs.Spelling.{refusal, spells_packet}
-use Rattle.lapi_base.specs.Written.{packet_size}
-use Rattle.lapi_base.specs.Below.{below}
-use Rattle.lapi_base.specs.Operations.{upto}
-use Rattle.lapi_base.specs.Record.{Run, start, perform, after, run_of}
-use Rattle.lapi_base.specs.Valid.{ValidAct, ValidLine}
-use Rattle.lapi_base.specs.Seen.{act_at, acts_of, record_of, performed}
-use Rattle.lapi_base.specs.Takes.{BeginsEmpty, TakesOneMore, TakesAll, TakesValid, StartIsRecord, RecordsGoOn, TakenIsRecord}
+use Rattle.lapi_base.specs.Packet.Spelling.{refusal, spells_packet}
+use Rattle.lapi_base.specs.Packet.PacketBytes.{packet_size}
+use Rattle.lapi_base.specs.Record.Below.{below}
+use Rattle.lapi_base.specs.Record.Operations.{numbers_below}
+use Rattle.lapi_base.specs.Record.Wires.{Run, start}
+use Rattle.lapi_base.specs.Record.Acts.{perform, after, run_of}
+use Rattle.lapi_base.specs.Record.Valid.{ValidAct, ValidLine}
+use Rattle.lapi_base.specs.Record.WorldView.{act_at, acts_of, record_of, performed}
+use Rattle.lapi_base.specs.Laws.LinesTaken.{BeginsEmpty, TakesOneMore, TakesAll, TakesValid, StartIsRecord, RecordsGoOn, TakenIsRecord}
 use Rattle.lapi_base.proofs.ListLaws.{all-append, all-get}
 
 acts-more : (schedule : List Line) (taken : List ℕ) (n : ℕ) (act : Act) → act_at schedule n ≡ Some act → acts_of schedule (taken ++ n ∷ []) ≡ acts_of schedule taken ++ act ∷ []
@@ -54,12 +55,12 @@ take-next [] n l = absurd (omega arith)
 take-next (x ∷ xs) zero l = (x, refl, refl)
 take-next (x ∷ xs) (suc n) l = let r = take-next xs n (let q : n < length xs = omega arith in q) in (r.0, r.1, ap (λ ys. x ∷ ys) r.2)
 
-acts-below : (schedule : List Line) (n : ℕ) → n ≤ length schedule → acts_of schedule (upto n) ≡ map (λ (l : Line). l.act) (take n schedule)
-unfolding upto below acts_of
+acts-below : (schedule : List Line) (n : ℕ) → n ≤ length schedule → acts_of schedule (numbers_below n) ≡ map (λ (l : Line). l.act) (take n schedule)
+unfolding numbers_below below acts_of
 acts-below schedule zero l = refl
 acts-below schedule (suc n) l =
     let r = take-next schedule n (let q : n < length schedule = omega arith in q) in
-    acts-more schedule (upto n) n r.0.act (ap (option_map (λ (l : Line). l.act)) r.1)
+    acts-more schedule (numbers_below n) n r.0.act (ap (option_map (λ (l : Line). l.act)) r.1)
     ∙ ap (λ xs. xs ++ r.0.act ∷ []) (acts-below schedule n (let q : n ≤ length schedule = omega arith in q))
     ∙ sym (ap (map (λ (l : Line). l.act)) r.2 ∙ map-append (λ (l : Line). l.act) (take n schedule) (r.0 ∷ []))
 

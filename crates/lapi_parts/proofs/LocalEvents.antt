@@ -11,15 +11,15 @@ use Rattle.lapi_base.specs.declared.message.Leg.TheVariants.{Go, Back, Note, Ech
 use Rattle.lapi_base.specs.declared.message.MsgName.{MsgName}
 use Rattle.lapi_base.specs.declared.event.Event.{Event}
 use Rattle.lapi_base.specs.declared.event.Event.TheVariants.{Issue, Refuse, Enter, Pass, Copy, Head, Land, Begin, End}
-use Rattle.lapi_base.specs.Names.{leg_eq, Deed, Issued, Refused, Entered, Passed, Copied, Headed, Landed, Begun, Ended, deed, deed_eq, done, message}
-use Rattle.lapi_base.specs.Operations.{statement, sender, receiver, fragments}
-use Rattle.lapi_base.specs.Handlers.{has_completion}
-use Rattle.lapi_base.specs.Counters.{is_counter, tells, count, issued_count, passed_count, read_by, reads}
-use Rattle.lapi_base.specs.Refusals.{next}
-use Rattle.lapi_base.specs.Jobs.{is_job, landed_jobs, runs}
-use Rattle.lapi_base.specs.Record.{out}
-use Rattle.lapi_base.specs.TaskPart.{is_at, events_at}
-use Rattle.lapi_base.proofs.NameLaws.{deed_eq-true, done-cons}
+use Rattle.lapi_base.specs.Record.Names.{leg_eq, EventKey, Issued, Refused, Entered, Passed, Copied, Headed, Landed, Begun, Ended, key_of, key_eq, happened, message}
+use Rattle.lapi_base.specs.Record.Operations.{statement, sender, receiver, fragments}
+use Rattle.lapi_base.specs.Record.Handlers.{has_completion}
+use Rattle.lapi_base.specs.Record.Counters.{is_counter, tells, count, issued_count, passed_count, read_by, reads}
+use Rattle.lapi_base.specs.Record.Refusals.{next}
+use Rattle.lapi_base.specs.Record.Jobs.{is_job, landed_jobs, runs}
+use Rattle.lapi_base.specs.Record.Wires.{numbered}
+use Rattle.lapi_base.specs.Record.TaskPart.{is_at, events_at}
+use Rattle.lapi_base.proofs.NameLaws.{deed_eq-true, happened-cons}
 use Rattle.lapi_base.proofs.TestLaws.{eqb-refl}
 
 -- an event that stands at the task, or one that doesn't
@@ -91,39 +91,39 @@ module _ (script : Script) (t : ℕ) where
   next-local J = folds script t (λ K. next K t) next-step next-steps next-others J
 
   -- The numbers of its links.
-  out-step : ℕ → Event → List (MsgName × ℕ) → List (MsgName × ℕ)
-  out-step b (Copy m) xs = cond (sender script m == t && receiver script m == b) (xs ++ fragments script m) xs
-  out-step b _ xs = xs
+  numbered-step : ℕ → Event → List (MsgName × ℕ) → List (MsgName × ℕ)
+  numbered-step b (Copy m) xs = cond (sender script m == t && receiver script m == b) (xs ++ fragments script m) xs
+  numbered-step b _ xs = xs
 
-  out-steps : (b : ℕ) (e : Event) (J : List Event) → out script (e ∷ J) t b ≡ out-step b e (out script J t b)
-  unfolding out out-step
-  out-steps b (Issue a i) J = refl
-  out-steps b (Refuse a i why) J = refl
-  out-steps b (Enter a i) J = refl
-  out-steps b (Pass a i) J = refl
-  out-steps b (Copy m) J = refl
-  out-steps b (Head m) J = refl
-  out-steps b (Land m) J = refl
-  out-steps b (Begin m a w) J = refl
-  out-steps b (End m a w) J = refl
+  numbered-steps : (b : ℕ) (e : Event) (J : List Event) → numbered script (e ∷ J) t b ≡ numbered-step b e (numbered script J t b)
+  unfolding numbered numbered-step
+  numbered-steps b (Issue a i) J = refl
+  numbered-steps b (Refuse a i why) J = refl
+  numbered-steps b (Enter a i) J = refl
+  numbered-steps b (Pass a i) J = refl
+  numbered-steps b (Copy m) J = refl
+  numbered-steps b (Head m) J = refl
+  numbered-steps b (Land m) J = refl
+  numbered-steps b (Begin m a w) J = refl
+  numbered-steps b (End m a w) J = refl
 
-  out-others : (b : ℕ) (e : Event) (xs : List (MsgName × ℕ)) → is_at script t e ≡ false → out-step b e xs ≡ xs
-  unfolding out-step
-  out-others b (Copy m) xs h = cond-false _ (xs ++ fragments script m) xs (and-no (sender script m == t) (receiver script m == b) h)
-  out-others b (Issue a i) xs h = refl
-  out-others b (Refuse a i why) xs h = refl
-  out-others b (Enter a i) xs h = refl
-  out-others b (Pass a i) xs h = refl
-  out-others b (Head m) xs h = refl
-  out-others b (Land m) xs h = refl
-  out-others b (Begin m a w) xs h = refl
-  out-others b (End m a w) xs h = refl
+  numbered-others : (b : ℕ) (e : Event) (xs : List (MsgName × ℕ)) → is_at script t e ≡ false → numbered-step b e xs ≡ xs
+  unfolding numbered-step
+  numbered-others b (Copy m) xs h = cond-false _ (xs ++ fragments script m) xs (and-no (sender script m == t) (receiver script m == b) h)
+  numbered-others b (Issue a i) xs h = refl
+  numbered-others b (Refuse a i why) xs h = refl
+  numbered-others b (Enter a i) xs h = refl
+  numbered-others b (Pass a i) xs h = refl
+  numbered-others b (Head m) xs h = refl
+  numbered-others b (Land m) xs h = refl
+  numbered-others b (Begin m a w) xs h = refl
+  numbered-others b (End m a w) xs h = refl
 
-  pub out-local : (J : List Event) (b : ℕ) → out script (events_at script t J) t b ≡ out script J t b
-  out-local J b = folds script t (λ K. out script K t b) (out-step b) (out-steps b) (out-others b) J
+  pub numbered-local : (J : List Event) (b : ℕ) → numbered script (events_at script t J) t b ≡ numbered script J t b
+  numbered-local J b = folds script t (λ K. numbered script K t b) (numbered-step b) (numbered-steps b) (numbered-others b) J
 
-  -- What was done at the task.
-  abbrev pub LiesAt : Deed → Type 0
+  -- What was happened at the task.
+  abbrev pub LiesAt : EventKey → Type 0
   LiesAt (Issued a i) = a ≡ t
   LiesAt (Refused a i) = a ≡ t
   LiesAt (Entered a i) = a ≡ t
@@ -134,7 +134,7 @@ module _ (script : Script) (t : ℕ) where
   LiesAt (Begun m) = ⊥
   LiesAt (Ended m) = ⊥
 
-  lies-there : (e : Event) → LiesAt (deed e) → is_at script t e ≡ true
+  lies-there : (e : Event) → LiesAt (key_of e) → is_at script t e ≡ true
   lies-there (Issue a i) h = subst (λ x. (a == x) ≡ true) h (eqb-refl a)
   lies-there (Refuse a i why) h = subst (λ x. (a == x) ≡ true) h (eqb-refl a)
   lies-there (Enter a i) h = subst (λ x. (a == x) ≡ true) h (eqb-refl a)
@@ -145,14 +145,14 @@ module _ (script : Script) (t : ℕ) where
   lies-there (Begin m a w) h = absurd h
   lies-there (End m a w) h = absurd h
 
-  other-deed : (d : Deed) (e : Event) → LiesAt d → is_at script t e ≡ false → deed_eq d (deed e) ≡ false
-  other-deed d e l h = elim (deed_eq d (deed e)) as (λ x. deed_eq d (deed e) ≡ x → x ≡ false) [
-    | true ↦ λ same. absurd (both_ways _ h (lies-there e (subst LiesAt (deed_eq-true d (deed e) same) l)))
+  other-deed : (d : EventKey) (e : Event) → LiesAt d → is_at script t e ≡ false → key_eq d (key_of e) ≡ false
+  other-deed d e l h = elim (key_eq d (key_of e)) as (λ x. key_eq d (key_of e) ≡ x → x ≡ false) [
+    | true ↦ λ same. absurd (both_ways _ h (lies-there e (subst LiesAt (deed_eq-true d (key_of e) same) l)))
     | false ↦ λ _. refl
   ] refl
 
-  pub done-local : (d : Deed) → LiesAt d → (J : List Event) → done d (events_at script t J) ≡ done d J
-  done-local d l J = folds script t (done d) (λ e x. deed_eq d (deed e) || x) (done-cons d) (λ e x h. ap (λ b. b || x) (other-deed d e l h)) J
+  pub happened-local : (d : EventKey) → LiesAt d → (J : List Event) → happened d (events_at script t J) ≡ happened d J
+  happened-local d l J = folds script t (happened d) (λ e x. key_eq d (key_of e) || x) (happened-cons d) (λ e x h. ap (λ b. b || x) (other-deed d e l h)) J
 
   -- Its counters.
   module _ (rules : Rules) where

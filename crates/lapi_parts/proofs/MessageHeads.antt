@@ -17,20 +17,20 @@ use Rattle.lapi_base.specs.declared.rule.Rules.{Rules}
 use Rattle.lapi_base.specs.declared.message.Leg.{Leg}
 use Rattle.lapi_base.specs.declared.message.Leg.TheVariants.{Go, Back, Note, Echo, Join}
 use Rattle.lapi_base.specs.declared.message.MsgName.{MsgName}
-use Rattle.lapi_base.specs.Form.{IsSpelled}
-use Rattle.lapi_base.specs.Layout.{First, layout_of, has_echo, may_answer, longest_of, longest_active_of, longest as most, longest_active as most_active}
-use Rattle.lapi_base.specs.Heads.{is_operation, head_form, note_of}
-use Rattle.lapi_base.specs.Spelling.{is_length}
-use Rattle.lapi_base.specs.Written as written
-use Rattle.lapi_base.specs.Below.{below}
-use Rattle.lapi_base.specs.Operations.{upto, statements, statement, address, pieces_of, spans, total, target, has_leg, length_by, cmpl_counter, table_rounds, is_table, is_gfence}
-use Rattle.lapi_base.specs.Refusals.{is_long, rounds_like, round_of, gfence_rounds}
-use Rattle.lapi_base.specs.Packets.{head_by}
-use Rattle.lapi_base.specs.Valid.{ValidVector, ValidStatement, ValidScript, ValidRules}
-use Rattle.lapi_base.specs.Receiving.{bytes_in, NamesCounter}
-use Rattle.lapi_base.specs.Handlers.{answers}
+use Rattle.lapi_base.specs.Packet.Format.{IsSpelled}
+use Rattle.lapi_base.specs.Packet.Layout.{First, layout_of, has_echo, may_answer, longest_of, longest_active_of, longest as most, longest_active as most_active}
+use Rattle.lapi_base.specs.Packet.Heads.{is_operation, head_form, note_op_of}
+use Rattle.lapi_base.specs.Packet.Spelling.{is_length}
+use Rattle.lapi_base.specs.Packet.PacketBytes as written
+use Rattle.lapi_base.specs.Record.Below.{below}
+use Rattle.lapi_base.specs.Record.Operations.{numbers_below, statements, statement, address, pieces_of, spans, total, target, has_leg, length_by, cmpl_counter, table_rounds, is_table, is_gfence}
+use Rattle.lapi_base.specs.Record.Refusals.{is_long, rounds_like, round_of, gfence_rounds}
+use Rattle.lapi_base.specs.Record.Packets.{head_by}
+use Rattle.lapi_base.specs.Record.Valid.{ValidVector, ValidStatement, ValidScript, ValidRules}
+use Rattle.lapi_base.specs.Laws.Receiving.{bytes_in, NamesCounter}
+use Rattle.lapi_base.specs.Record.Handlers.{answers}
 use Rattle.lapi_base.proofs.ListLaws.{filter-push}
-use Rattle.lapi_base.proofs.UptoLaws.{upto-length}
+use Rattle.lapi_base.proofs.UptoLaws.{numbers_below-length}
 use Rattle.lapi_parts.proofs.Accepted.{LiesWithin, Accepted}
 use Rattle.lapi_parts.proofs.SpelledParts.{IsNumbered, IsWithin, SameLengths}
 use Rattle.lapi_parts.proofs.SpelledHeads.{put-spelled, get_go-spelled, get_back-spelled, putv-spelled, getv_go-spelled, getv_back-spelled, rmw_go-spelled, rmw_back-spelled, am-spelled, note-spelled, gfence-spelled, addr-spelled}
@@ -41,7 +41,7 @@ pieces-few : (v : Vector) → ValidVector v → (1 ≤ length (pieces_of v)) × 
 unfolding pieces_of
 pieces-few (Vector.List pieces) h = (h.0, h.1)
 pieces-few (Stride base block stride count) h =
-    let e : length (pieces_of (Stride base block stride count)) ≡ count = length-map (upto count) _ ∙ upto-length count in
+    let e : length (pieces_of (Stride base block stride count)) ≡ count = length-map (numbers_below count) _ ∙ numbers_below-length count in
     (omega (arith, h.0), omega (arith, h.1))
 
 spans-length : (script : Script) (d : ℕ) (ps : List Piece) → length (spans script d ps) ≡ length ps
@@ -105,9 +105,9 @@ round-small script a i l = omega (arith, rounds-before script (statement script 
 
 -- ---- heads
 
-numbered : (script : Script) → ValidScript script → (o : Option ℕ) → NamesCounter script o → IsNumbered o
-numbered script valid None h = tt
-numbered script valid (Some c) h = let l : c < script.counters = h in let m : script.counters ≤ 64 = valid.counters in let g : c < 64 = omega arith in g
+counter-small : (script : Script) → ValidScript script → (o : Option ℕ) → NamesCounter script o → IsNumbered o
+counter-small script valid None h = tt
+counter-small script valid (Some c) h = let l : c < script.counters = h in let m : script.counters ≤ 64 = valid.counters in let g : c < 64 = omega arith in g
 
 module _ (script : Script) (rules : Rules) (valid : ValidScript script) (few : ValidRules rules) (m : MsgName) where
   abbrev Fine : Statement → Type 0
@@ -133,21 +133,21 @@ module _ (script : Script) (rules : Rules) (valid : ValidScript script) (few : V
 
   note-kept : (s : Statement) → is_some (cmpl_counter s) ≡ true → Fine s → IsSpelled (head_form First Note (written.head_number (head_by script m Note s)) 0) (head_by script m Note s) (written.head (head_by script m Note s))
   unfolding head_form
-  note-kept (Put task to from len tgt org (Some c)) g h = note-spelled (note_of 1) c (numbered script valid (Some c) h.cmpl)
-  note-kept (Putv task to from tgt org (Some c)) g h = note-spelled (note_of 3) c (numbered script valid (Some c) h.cmpl)
-  note-kept (Am task handler header from len tgt org (Some c)) g h = note-spelled (note_of 6) c (numbered script valid (Some c) h.cmpl)
+  note-kept (Put task to from len tgt org (Some c)) g h = note-spelled (note_op_of 1) c (counter-small script valid (Some c) h.cmpl)
+  note-kept (Putv task to from tgt org (Some c)) g h = note-spelled (note_op_of 3) c (counter-small script valid (Some c) h.cmpl)
+  note-kept (Am task handler header from len tgt org (Some c)) g h = note-spelled (note_op_of 6) c (counter-small script valid (Some c) h.cmpl)
   note-kept _ g h = absurd (false≢true g)
 
   pub head-spelled : (leg : Leg) (s : Statement) → has_leg script (answers script rules m.origin m.statement) m.origin leg s ≡ true → Fine s → ValidStatement s → round_of script m.origin m.statement ≤ 511 → IsSpelled (head_form First leg (written.head_number (head_by script m leg s)) (length_by leg s)) (head_by script m leg s) (written.head (head_by script m leg s))
   unfolding head_form longest_of address
-  head-spelled Go (Put task to from len tgt org cmpl) g h v r = put-spelled len (address script _ to) tgt cmpl (inside _ len h.to.0) (numbered script valid tgt h.tgt) (numbered script valid cmpl h.cmpl)
-  head-spelled Go (Get task from to len tgt org) g h v r = get_go-spelled len (address script _ from) to tgt org (longest len h.short) (inside _ len h.to.0) (inside to len h.from.0) (numbered script valid tgt h.tgt) (numbered script valid org h.org)
+  head-spelled Go (Put task to from len tgt org cmpl) g h v r = put-spelled len (address script _ to) tgt cmpl (inside _ len h.to.0) (counter-small script valid tgt h.tgt) (counter-small script valid cmpl h.cmpl)
+  head-spelled Go (Get task from to len tgt org) g h v r = get_go-spelled len (address script _ from) to tgt org (longest len h.short) (inside _ len h.to.0) (inside to len h.from.0) (counter-small script valid tgt h.tgt) (counter-small script valid org h.org)
   head-spelled Go (Putv task to from tgt org cmpl) g h v r =
       let d = target script m.origin m.statement in
       let count = pieces-few to v.1 in
       let n = spans-length script d (pieces_of to) in
       let same = spans-same script d (pieces_of to) (pieces_of from) (h.count refl) (h.lengths refl) in
-      putv-spelled (total (pieces_of from)) tgt cmpl (spans script d (pieces_of to)) (numbered script valid tgt h.tgt) (numbered script valid cmpl h.cmpl) (omega (arith, n, count.0)) (omega (arith, n, count.1)) (spans-within script valid d (pieces_of to) h.to)
+      putv-spelled (total (pieces_of from)) tgt cmpl (spans script d (pieces_of to)) (counter-small script valid tgt h.tgt) (counter-small script valid cmpl h.cmpl) (omega (arith, n, count.0)) (omega (arith, n, count.1)) (spans-within script valid d (pieces_of to) h.to)
       (same-total _ _ same ∙ spans-total script d (pieces_of from))
   head-spelled Go (Getv task from to tgt org) g h v r =
       let d = target script m.origin m.statement in
@@ -155,25 +155,25 @@ module _ (script : Script) (rules : Rules) (valid : ValidScript script) (few : V
       let n = spans-length script d (pieces_of from) in
       let t = spans-total script d (pieces_of from) in
       let l : total (pieces_of from) ≤ 16384 = longest (total (pieces_of from)) (or_parts (is_long script (pieces_of from)) (is_long script (pieces_of to)) h.short).0 in
-      getv_go-spelled tgt org (spans script d (pieces_of from)) (spans script d (pieces_of to)) (numbered script valid tgt h.tgt) (numbered script valid org h.org) (omega (arith, n, count.0)) (omega (arith, n, count.1)) (spans-within script valid d (pieces_of from) h.to) (spans-within script valid d (pieces_of to) h.from) (omega arith)
+      getv_go-spelled tgt org (spans script d (pieces_of from)) (spans script d (pieces_of to)) (counter-small script valid tgt h.tgt) (counter-small script valid org h.org) (omega (arith, n, count.0)) (omega (arith, n, count.1)) (spans-within script valid d (pieces_of from) h.to) (spans-within script valid d (pieces_of to) h.from) (omega arith)
       (spans-same script d (pieces_of from) (pieces_of to) (h.count refl) (h.lengths refl))
   head-spelled Go (Rmw task op at in1 in2 prev org) g h v r =
       let w = h.words refl in
-      rmw_go-spelled op (address script _ at) in1 in2 prev org (inside _ 4 h.to.0) w.0.0 v.2 v.3 v.4 (inside prev 4 h.from.0) w.1.0 (numbered script valid org h.org)
+      rmw_go-spelled op (address script _ at) in1 in2 prev org (inside _ 4 h.to.0) w.0.0 v.2 v.3 v.4 (inside prev 4 h.from.0) w.1.0 (counter-small script valid org h.org)
   head-spelled Go (Am task handler header from len tgt org cmpl) g h v r =
       let one = h.handler refl in
       let most : length rules.headers ≤ 16 = few.0 in
       let words = h.header refl in
-      am-spelled handler tgt cmpl header (omega arith) (numbered script valid tgt h.tgt) (numbered script valid cmpl h.cmpl) words.0 words.1 v.3
-  head-spelled Back (Get task from to len tgt org) g h v r = get_back-spelled len to org (inside to len h.from.0) (numbered script valid org h.org)
+      am-spelled handler tgt cmpl header (omega arith) (counter-small script valid tgt h.tgt) (counter-small script valid cmpl h.cmpl) words.0 words.1 v.3
+  head-spelled Back (Get task from to len tgt org) g h v r = get_back-spelled len to org (inside to len h.from.0) (counter-small script valid org h.org)
   head-spelled Back (Getv task from to tgt org) g h v r =
       let d = target script m.origin m.statement in
       let count = pieces-few to v.2 in
       let n = spans-length script d (pieces_of to) in
       let same = spans-same script d (pieces_of from) (pieces_of to) (h.count refl) (h.lengths refl) in
-      getv_back-spelled (total (pieces_of from)) org (spans script d (pieces_of to)) (numbered script valid org h.org) (omega (arith, n, count.0)) (omega (arith, n, count.1)) (spans-within script valid d (pieces_of to) h.from)
+      getv_back-spelled (total (pieces_of from)) org (spans script d (pieces_of to)) (counter-small script valid org h.org) (omega (arith, n, count.0)) (omega (arith, n, count.1)) (spans-within script valid d (pieces_of to) h.from)
       (sym (same-total _ _ same) ∙ spans-total script d (pieces_of from))
-  head-spelled Back (Rmw task op at in1 in2 prev org) g h v r = let w = h.words refl in rmw_back-spelled prev org (inside prev 4 h.from.0) w.1.0 (numbered script valid org h.org)
+  head-spelled Back (Rmw task op at in1 in2 prev org) g h v r = let w = h.words refl in rmw_back-spelled prev org (inside prev 4 h.from.0) w.1.0 (counter-small script valid org h.org)
   head-spelled Note s g h v r = note-kept s (and_parts _ _ g).0 h
   head-spelled Echo s g h v r = absurd (both_ways _ no-answers g)
   head-spelled (Join d) Gfence g h v r = gfence-spelled (round_of script m.origin m.statement) r

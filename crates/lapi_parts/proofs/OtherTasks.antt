@@ -9,19 +9,19 @@ use Rattle.lapi_base.specs.declared.event.Event.{Event}
 use Rattle.lapi_base.specs.declared.event.Event.TheVariants.{Issue, Refuse, Enter, Pass, Copy, Head, Land, Begin, End}
 use Rattle.lapi_base.specs.declared.packet.Packet.{Packet}
 use Rattle.lapi_base.specs.declared.message.Leg.TheVariants.{Go}
-use Rattle.lapi_base.specs.Spelling.{refusal}
-use Rattle.lapi_base.specs.Written.{packet_size}
-use Rattle.lapi_base.specs.Names.{leg_eq, Deed, Begun, deed, deed_eq, done}
-use Rattle.lapi_base.specs.Operations.{receiver}
-use Rattle.lapi_base.specs.Handlers.{has_completion}
-use Rattle.lapi_base.specs.Jobs.{is_job, landed_jobs, queue}
-use Rattle.lapi_base.specs.Record.{Run}
-use Rattle.lapi_base.specs.Atomic.{Atomic, Keeps}
-use Rattle.lapi_base.specs.Seen.{performed, HoldsOfRecords}
-use Rattle.lapi_base.specs.TaskPart.{place_of, place_of_deed, is_at, events_at, Part, part_at, actor}
-use Rattle.lapi_base.specs.ByPart.{OthersStay, EventsAreOwn}
+use Rattle.lapi_base.specs.Packet.Spelling.{refusal}
+use Rattle.lapi_base.specs.Packet.PacketBytes.{packet_size}
+use Rattle.lapi_base.specs.Record.Names.{leg_eq, EventKey, Begun, key_of, key_eq, happened}
+use Rattle.lapi_base.specs.Record.Operations.{receiver}
+use Rattle.lapi_base.specs.Record.Handlers.{has_completion}
+use Rattle.lapi_base.specs.Record.Jobs.{is_job, landed_jobs, queue}
+use Rattle.lapi_base.specs.Record.Wires.{Run}
+use Rattle.lapi_base.specs.Record.Atomic.{Atomic, Keeps}
+use Rattle.lapi_base.specs.Record.WorldView.{performed, HoldsOfRecords}
+use Rattle.lapi_base.specs.Record.TaskPart.{place_of, place_of_key, is_at, events_at, Part, part_at, actor}
+use Rattle.lapi_base.specs.Laws.Locality.{OthersStay, EventsAreOwn}
 use Rattle.lapi_base.proofs.ListLaws.{all-append}
-use Rattle.lapi_base.proofs.NameLaws.{deed_eq-true, done-cons, done-other}
+use Rattle.lapi_base.proofs.NameLaws.{deed_eq-true, happened-cons, happened-other}
 use Rattle.lapi_base.proofs.TestLaws.{eqb-refl}
 use Rattle.lapi_laws.proofs.Backward.{Atomic-head, Atomic-tail}
 use Rattle.lapi_parts.proofs.Records.{record-sound}
@@ -46,32 +46,32 @@ module _ (script : Script) (rules : Rules) where
   -- The queue of a task, by its own events.
   module _ (t : ℕ) where
     -- What happened at the task, by its own events.
-    deed-place : (e : Event) (J : List Event) → Keeps script rules J e → place_of_deed script (deed e) ≡ place_of script e
-    deed-place (Begin m a w) J k = eqb-true (receiver script m) a (and_parts _ _ (and_parts _ _ k.there).1).0
-    deed-place (End m a w) J k = eqb-true (receiver script m) a (and_parts _ _ (and_parts _ _ k.there).1).0
-    deed-place (Issue a i) J k = refl
-    deed-place (Refuse a i why) J k = refl
-    deed-place (Enter a i) J k = refl
-    deed-place (Pass a i) J k = refl
-    deed-place (Copy m) J k = refl
-    deed-place (Head m) J k = refl
-    deed-place (Land m) J k = refl
+    key-place : (e : Event) (J : List Event) → Keeps script rules J e → place_of_key script (key_of e) ≡ place_of script e
+    key-place (Begin m a w) J k = eqb-true (receiver script m) a (and_parts _ _ (and_parts _ _ k.there).1).0
+    key-place (End m a w) J k = eqb-true (receiver script m) a (and_parts _ _ (and_parts _ _ k.there).1).0
+    key-place (Issue a i) J k = refl
+    key-place (Refuse a i why) J k = refl
+    key-place (Enter a i) J k = refl
+    key-place (Pass a i) J k = refl
+    key-place (Copy m) J k = refl
+    key-place (Head m) J k = refl
+    key-place (Land m) J k = refl
 
-    other-place : (d : Deed) (e : Event) (J : List Event) → Keeps script rules J e → place_of_deed script d ≡ t → is_at script t e ≡ false → deed_eq d (deed e) ≡ false
+    other-place : (d : EventKey) (e : Event) (J : List Event) → Keeps script rules J e → place_of_key script d ≡ t → is_at script t e ≡ false → key_eq d (key_of e) ≡ false
     other-place d e J k at apart =
         false_from_ne_true _ (λ same.
-        let here : place_of script e ≡ t = sym (deed-place e J k) ∙ ap (place_of_deed script) (sym (deed_eq-true d (deed e) same)) ∙ at in
+        let here : place_of script e ≡ t = sym (key-place e J k) ∙ ap (place_of_key script) (sym (deed_eq-true d (key_of e) same)) ∙ at in
         both_ways _ apart (subst (λ x. (x == t) ≡ true) (sym here) (eqb-refl t)))
 
-    pub happened-local : (d : Deed) (J : List Event) → Atomic script rules J → place_of_deed script d ≡ t → done d (events_at script t J) ≡ done d J
+    pub happens-local : (d : EventKey) (J : List Event) → Atomic script rules J → place_of_key script d ≡ t → happened d (events_at script t J) ≡ happened d J
     unfolding events_at
-    happened-local d [] h at = refl
-    happened-local d (e ∷ J) h at =
-        let old = happened-local d J (Atomic-tail script rules e J h) at in
+    happens-local d [] h at = refl
+    happens-local d (e ∷ J) h at =
+        let old = happens-local d J (Atomic-tail script rules e J h) at in
         let E = events_at script t J in
-        elim (is_at script t e) as (λ b. is_at script t e ≡ b → done d (cond b (e ∷ E) E) ≡ done d (e ∷ J)) [
-          | true ↦ λ _. done-cons d e E ∙ ap (λ x. deed_eq d (deed e) || x) old ∙ sym (done-cons d e J)
-          | false ↦ λ apart. old ∙ sym (done-other d e J (other-place d e J (Atomic-head script rules e J h) at apart))
+        elim (is_at script t e) as (λ b. is_at script t e ≡ b → happened d (cond b (e ∷ E) E) ≡ happened d (e ∷ J)) [
+          | true ↦ λ _. happened-cons d e E ∙ ap (λ x. key_eq d (key_of e) || x) old ∙ sym (happened-cons d e J)
+          | false ↦ λ apart. old ∙ sym (happened-other d e J (other-place d e J (Atomic-head script rules e J h) at apart))
         ] refl
 
     jobs-here : (J : List Event) → AllByRecursion (λ m. receiver script m ≡ t) (landed_jobs script rules J t)
@@ -94,9 +94,9 @@ module _ (script : Script) (rules : Rules) where
     pub queue-local : (J : List Event) → Atomic script rules J → queue script rules (events_at script t J) t ≡ queue script rules J t
     unfolding queue
     queue-local J h =
-        ap (filter (λ m. not (done (Begun m) (events_at script t J)))) (jobs-local script t rules J)
-        ∙ filter-agree (λ m. not (done (Begun m) (events_at script t J))) (λ m. not (done (Begun m) J)) (λ m. receiver script m ≡ t)
-        (λ m at. ap not (happened-local (Begun m) J h at))
+        ap (filter (λ m. not (happened (Begun m) (events_at script t J)))) (jobs-local script t rules J)
+        ∙ filter-agree (λ m. not (happened (Begun m) (events_at script t J))) (λ m. not (happened (Begun m) J)) (λ m. receiver script m ≡ t)
+        (λ m at. ap not (happens-local (Begun m) J h at))
         (landed_jobs script rules J t) (jobs-here J)
 
 -- the laws

@@ -6,18 +6,18 @@ use Rattle.lapi_base.specs.declared.event.Event.TheVariants.{Issue, Copy, Head, 
 use Rattle.lapi_base.specs.declared.head.Head.{Head as PacketHead}
 use Rattle.lapi_base.specs.declared.packet.Packet.TheVariants.{Data, Ack}
 use Rattle.lapi_base.specs.declared.packet.DataPacket.{DataPacket}
-use Rattle.lapi_base.specs.Layout.{unit_of, window_of}
-use Rattle.lapi_base.specs.Below.{every_below, below, least_missing, bits_of}
-use Rattle.lapi_base.specs.Names.{message, name_eq}
-use Rattle.lapi_base.specs.Operations.{upto, statement}
-use Rattle.lapi_base.specs.Handlers.{has_completion}
-use Rattle.lapi_base.specs.Values.{scattered}
-use Rattle.lapi_base.specs.Record.{has_number}
-use Rattle.lapi_base.specs.Written as written
-use Rattle.lapi_base.specs.TaskPart.{events_at, part_at}
-use Rattle.lapi_base.specs.Arrived.{has_fragment, has_some, whole_by, payload_of, assembled, number_bound, least_number, ack_of, count_of, follows, comes}
-use Rattle.lapi_base.specs.Landing.{announces, lands}
-use Rattle.lapi_laws.proofs.Rows.{builtin, run, wire_of, smallest_run, no_bytes_three_counters}
+use Rattle.lapi_base.specs.Packet.Layout.{unit_of, window_of}
+use Rattle.lapi_base.specs.Record.Below.{every_below, below, least_missing, bits_of}
+use Rattle.lapi_base.specs.Record.Names.{message, name_eq}
+use Rattle.lapi_base.specs.Record.Operations.{numbers_below, statement}
+use Rattle.lapi_base.specs.Record.Handlers.{has_completion}
+use Rattle.lapi_base.specs.Record.Values.{scattered}
+use Rattle.lapi_base.specs.Record.Wires.{has_number}
+use Rattle.lapi_base.specs.Packet.PacketBytes as written
+use Rattle.lapi_base.specs.Record.TaskPart.{events_at, part_at}
+use Rattle.lapi_base.specs.Record.Arrived.{has_fragment, has_some, whole_by, payload_of, assembled, number_bound, least_number, ack_of, count_of, follows, comes}
+use Rattle.lapi_base.specs.Laws.Landing.{announces, lands}
+use Rattle.lapi_laws.proofs.WorkedRuns.{builtin, run, wire_of, smallest_run, no_bytes_three_counters}
 
 -- Eight bytes that are put: the packet, and the acknowledgement.
 letters : List ℕ
@@ -100,7 +100,7 @@ unfolding fragment_of comes follows whole_by has_fragment has_some count_of unit
 both-come = refl
 
 both-bytes : assembled 2 (Data (fragment_of 0 (5 ∷ 6 ∷ [])) ∷ Data (fragment_of 1 (7 ∷ [])) ∷ []) (message 0 0 Go) ≡ 5 ∷ 6 ∷ 7 ∷ []
-unfolding fragment_of assembled payload_of upto below name_eq
+unfolding fragment_of assembled payload_of numbers_below below name_eq
 both-bytes = refl
 
 -- its counter rises at its landing, and with a completion not yet

@@ -18,27 +18,27 @@ use Rattle.lapi_base.specs.declared.event.Event.{Event}
 use Rattle.lapi_base.specs.declared.packet.Packet.{Packet}
 use Rattle.lapi_base.specs.declared.packet.Packet.TheVariants.{Data, Ack}
 use Rattle.lapi_base.specs.declared.packet.DataPacket.{DataPacket}
-use Rattle.lapi_base.specs.Layout.{unit_of, window_of}
-use Rattle.lapi_base.specs.Below.{least_missing}
-use Rattle.lapi_base.specs.Names.{name_eq, Copied}
-use Rattle.lapi_base.specs.Operations.{statements, statement, target, address, spans, pieces_of, sender, receiver, has_leg, length_by, message_length, cmpl_counter, is_am}
-use Rattle.lapi_base.specs.Refusals.{round_of}
-use Rattle.lapi_base.specs.Packets.{head_by, data_packet}
-use Rattle.lapi_base.specs.Record.{Run, out, covers, is_number, has_number, is_sent, is_delivered, least_undelivered}
-use Rattle.lapi_base.specs.Atomic.{Atomic}
-use Rattle.lapi_base.specs.Valid.{ValidScript}
-use Rattle.lapi_base.specs.Links.{IsPartlyDelivered, StaysInWindow}
-use Rattle.lapi_base.specs.Seen.{HoldsOfRecords}
-use Rattle.lapi_base.specs.Entries.{carried}
-use Rattle.lapi_base.specs.Arrived.{is_fragment, has_some, has_fragment, count_of}
-use Rattle.lapi_base.specs.Receiving.{IsWord, IsThereInPart, SpansAreInMemory, HeadFits, AcksCoverSent, FitsScript, PacketsFitScript, HeadsAgree, NewAreOpen, NewHaveRoom}
-use Rattle.lapi_base.specs.Sending.{SentAreNumbers, AckedAreSent}
-use Rattle.lapi_base.specs.Handlers.{answers, has_completion, user}
+use Rattle.lapi_base.specs.Packet.Layout.{unit_of, window_of}
+use Rattle.lapi_base.specs.Record.Below.{least_missing}
+use Rattle.lapi_base.specs.Record.Names.{name_eq, Copied}
+use Rattle.lapi_base.specs.Record.Operations.{statements, statement, target, address, spans, pieces_of, sender, receiver, has_leg, length_by, message_length, cmpl_counter, is_am}
+use Rattle.lapi_base.specs.Record.Refusals.{round_of}
+use Rattle.lapi_base.specs.Record.Packets.{head_by, data_packet}
+use Rattle.lapi_base.specs.Record.Wires.{Run, numbered, covers, is_number, has_number, is_sent, is_delivered, least_undelivered}
+use Rattle.lapi_base.specs.Record.Atomic.{Atomic}
+use Rattle.lapi_base.specs.Record.Valid.{ValidScript}
+use Rattle.lapi_base.specs.Laws.Links.{IsPartlyDelivered, StaysInWindow}
+use Rattle.lapi_base.specs.Record.WorldView.{HoldsOfRecords}
+use Rattle.lapi_base.specs.Laws.Entries.{carried}
+use Rattle.lapi_base.specs.Record.Arrived.{is_fragment, has_some, has_fragment, count_of}
+use Rattle.lapi_base.specs.Laws.Receiving.{IsWord, IsThereInPart, SpansAreInMemory, HeadFits, AcksCoverSent, FitsScript, PacketsFitScript, HeadsAgree, NewAreOpen, NewHaveRoom}
+use Rattle.lapi_base.specs.Laws.Sending.{SentAreNumbers, AckedAreSent}
+use Rattle.lapi_base.specs.Record.Handlers.{answers, has_completion, user}
 use Rattle.lapi_base.proofs.BelowLaws.{least_missing-below}
 use Rattle.lapi_base.proofs.ListLaws.{all-get, any-all, any-find, any-get}
 use Rattle.lapi_base.proofs.NameLaws.{name_eq-true}
 use Rattle.lapi_base.proofs.TestLaws.{eqb-refl}
-use Rattle.lapi_laws.proofs.Out.{out-copied}
+use Rattle.lapi_laws.proofs.Out.{numbered-copied}
 use Rattle.lapi_laws.proofs.Backward.{there}
 use Rattle.lapi_laws.proofs.Sound.{Fits, number-known, acked-delivered}
 use Rattle.lapi_laws.proofs.Lines.{SoundRun}
@@ -50,7 +50,7 @@ use Rattle.lapi_parts.proofs.ExactBytes.{Exact, record-exact}
 use Rattle.lapi_parts.proofs.CarriedLengths.{carried-length}
 use Rattle.lapi_parts.proofs.Accepted.{LiesWithin, Accepted, copied-accepted}
 use Rattle.lapi_parts.proofs.MessageHeads.{round-small, spans-total, spans-same, same-total}
-use Rattle.lapi_parts.proofs.HandedPackets.{fragment-fit, out-below, out-unique}
+use Rattle.lapi_parts.proofs.HandedPackets.{fragment-fit, numbered-below, numbered-unique}
 use Rattle.lapi_parts.proofs.ArrivingPackets.{head-is, length-is, counts-is}
 use Rattle.lapi_parts.proofs.InReach.{part-delivered}
 
@@ -125,8 +125,8 @@ module _ (script : Script) (rules : Rules) where
   fits-script valid J handed a b p h f x =
       let m = p.name in
       let unit = unit_of script in
-      let copied = (out-copied script J a b p.seq (m, p.fragment) f).0 in
-      let room = slice_get_within (out script J a b) p.seq (m, p.fragment) f in
+      let copied = (numbered-copied script J a b p.seq (m, p.fragment) f).0 in
+      let room = slice_get_within (numbered script J a b) p.seq (m, p.fragment) f in
       let few = numbers-few script rules valid J a b h (λ n d. copied-few script rules J n h d) in
       let is = and_parts _ _ (there script rules (Copied m) J h copied) in
       let place = and_parts (nat_lt m.origin script.tasks) (nat_lt m.statement (length (statements script m.origin))) is.0 in
@@ -140,7 +140,7 @@ module _ (script : Script) (rules : Rules) where
         origin = ltb-true m.origin script.tasks place.0;
         statement = at;
         head = subst (λ k. HeadFits script rules p.length k) (sym (head-is script rules J p x)) (subst (λ n. HeadFits script rules n (head_by script m m.leg (statement script m.origin m.statement))) (sym size) keeps);
-        fragment = subst (λ (n : ℕ). p.fragment < n) (counts-is script rules m ∙ ap (count_of script) (sym size)) (out-below script J a b p.seq (m, p.fragment) f);
+        fragment = subst (λ (n : ℕ). p.fragment < n) (counts-is script rules m ∙ ap (count_of script) (sym size)) (numbered-below script J a b p.seq (m, p.fragment) f);
         payload =
             ap length (payload-is J p x)
             ∙ length-take unit (drop (unit * p.fragment) bytes)
@@ -152,11 +152,11 @@ module _ (script : Script) (rules : Rules) where
   acks-cover r s sent a b n (Ack from to base bits) f c = sent b a n (f n c)
 
   -- a packet that wasn't delivered has a number above the least of those
-  not-below : (r : Run) (a b n : ℕ) → is_delivered r a b n ≡ false → least_missing (length (out script r.journal a b)) (is_delivered r a b) ≤ n
+  not-below : (r : Run) (a b n : ℕ) → is_delivered r a b n ≡ false → least_missing (length (numbered script r.journal a b)) (is_delivered r a b) ≤ n
   not-below r a b n d =
-      let low = least_missing (length (out script r.journal a b)) (is_delivered r a b) in
+      let low = least_missing (length (numbered script r.journal a b)) (is_delivered r a b) in
       ⊎_elim
-      (λ (x : n < low). absurd (both_ways _ d (least_missing-below (length (out script r.journal a b)) (is_delivered r a b) n x)))
+      (λ (x : n < low). absurd (both_ways _ d (least_missing-below (length (numbered script r.journal a b)) (is_delivered r a b) n x)))
       (λ (x : low ≤ n). x)
       (cases_lt n low)
 
@@ -181,7 +181,7 @@ module _ (script : Script) (rules : Rules) where
       let above = not-below r a b p.seq d in
       let i = p.seq - low in
       let sum : p.seq ≡ low + i = omega (arith, above) in
-      let number : slice_get (out script r.journal a b) (low + i) ≡ Some (p.name, p.fragment) = subst (λ (n : ℕ). slice_get (out script r.journal a b) n ≡ Some (p.name, p.fragment)) sum f in
+      let number : slice_get (numbered script r.journal a b) (low + i) ≡ Some (p.name, p.fragment) = subst (λ (n : ℕ). slice_get (numbered script r.journal a b) n ≡ Some (p.name, p.fragment)) sum f in
       let new = offsets-new script rules r a b s.atomic reach p.name i (p.fragment, number) ms partial (other-names (r.handed a b) p.name ms none all) in
       let distinct = offsets-apart script rules r a b s.atomic reach ms partial apart in
       let below : AllByRecursion (λ n. n < window) (i ∷ places) = (omega (arith, near, above), offsets-below script rules r a b s.atomic reach ms partial) in
@@ -219,15 +219,15 @@ unfolding has_fragment has_number
 new-open script rules r is = λ a b k p at d.
     let s = record-sound script rules r is in
     let fit = all-get (Fits script rules r.journal r.handed a b) (r.wire a b) k (Data p) (s.wires a b) at in
-    let ends = out-copied script r.journal a b p.seq (p.name, p.fragment) fit in (
+    let ends = numbered-copied script r.journal a b p.seq (p.name, p.fragment) fit in (
       false_from_ne_true _ (λ landed.
-          let here : slice_get (out script r.journal (sender script p.name) (receiver script p.name)) p.seq ≡ Some (p.name, p.fragment) = subst (λ (x : ℕ). slice_get (out script r.journal x (receiver script p.name)) p.seq ≡ Some (p.name, p.fragment)) (sym ends.1) (subst (λ (y : ℕ). slice_get (out script r.journal a y) p.seq ≡ Some (p.name, p.fragment)) (sym ends.2) fit) in
+          let here : slice_get (numbered script r.journal (sender script p.name) (receiver script p.name)) p.seq ≡ Some (p.name, p.fragment) = subst (λ (x : ℕ). slice_get (numbered script r.journal x (receiver script p.name)) p.seq ≡ Some (p.name, p.fragment)) (sym ends.1) (subst (λ (y : ℕ). slice_get (numbered script r.journal a y) p.seq ≡ Some (p.name, p.fragment)) (sym ends.2) fit) in
           let got = s.landed p.name landed p.seq (p.fragment, here) in
           both_ways _ d (subst (λ (x : ℕ). is_delivered r x b p.seq ≡ true) ends.1 (subst (λ (y : ℕ). is_delivered r (sender script p.name) y p.seq ≡ true) ends.2 got))),
       false_from_ne_true _ (λ has.
           let q = any-find (is_fragment p.name p.fragment) (Fits script rules r.journal r.handed a b) (r.handed a b) (s.hands a b) has in
           let number = fragment-fit script rules r.journal r.handed a b p.name p.fragment q.0 q.2 q.1 in
-          let same = out-unique script rules r.journal s.atomic a b number.0 p.seq (p.name, p.fragment) number.2 fit in
+          let same = numbered-unique script rules r.journal s.atomic a b number.0 p.seq (p.name, p.fragment) number.2 fit in
           both_ways _ d (subst (λ (n : ℕ). list_any (is_number n) (r.handed a b) ≡ true) same (q.3 (is_number number.0) number.1))),
     )
 
@@ -246,7 +246,7 @@ sent-numbers script rules r is = λ a b n h.
     let s = record-sound script rules r is in
     let p = any-all (is_number n) (Fits script rules r.journal r.handed a b) (r.wire a b) (s.wires a b) h in
     let x = number-known script rules r.journal r.handed a b n p.0 p.1 p.2 in
-    slice_get_within (out script r.journal a b) n x.0 x.1
+    slice_get_within (numbered script r.journal a b) n x.0 x.1
 
 pub acked-sent : HoldsOfRecords AckedAreSent
 acked-sent script rules r is = λ a b n h. sent-run script rules r is a b n (acked-delivered script rules r.journal r.wire r.handed (record-sound script rules r is) a b n h)

@@ -13,18 +13,18 @@ use Rattle.lapi_base.specs.declared.message.Leg.TheVariants.{Go, Back, Note, Ech
 use Rattle.lapi_base.specs.declared.message.MsgName.{MsgName}
 use Rattle.lapi_base.specs.declared.event.Event.{Event}
 use Rattle.lapi_base.specs.declared.event.Event.TheVariants.{Issue, Refuse, Enter, Pass, Copy, Head, Land, Begin, End}
-use Rattle.lapi_base.specs.Names.{message, name_eq, Copied, Landed, done}
-use Rattle.lapi_base.specs.Operations.{upto, statement, target, from_by, to_by, sender, receiver, is_am, is_rmw, has_back, fragment_count}
-use Rattle.lapi_base.specs.Handlers.{number_of, word_bytes, buffer, effect_of, answer_of, answer_pieces}
-use Rattle.lapi_base.specs.Values.{Memories, Write, Values, gathered, scattered, byte_after, new_word, at_target, at_origin, land_writes, store_writes, writes, with_bytes, land_bytes, source_by, bytes_after, held_after, values}
-use Rattle.lapi_base.specs.Record.{Run, is_number, has_number}
-use Rattle.lapi_base.specs.Atomic.{Atomic}
-use Rattle.lapi_base.specs.Entries.{carried}
-use Rattle.lapi_base.specs.TaskPart.{is_at, events_at}
-use Rattle.lapi_base.specs.Arrived.{has_fragment, is_fragment, whole_by, is_whole, assembled}
+use Rattle.lapi_base.specs.Record.Names.{message, name_eq, Copied, Landed, happened}
+use Rattle.lapi_base.specs.Record.Operations.{numbers_below, statement, target, from_by, to_by, sender, receiver, is_am, is_rmw, has_back, fragment_count}
+use Rattle.lapi_base.specs.Record.Handlers.{number_of, word_bytes, buffer, effect_of, answer_of, answer_pieces}
+use Rattle.lapi_base.specs.Record.Values.{Memories, Write, Values, gathered, scattered, byte_after, new_word, at_target, at_origin, land_writes, store_writes, writes, with_bytes, land_bytes, source_by, bytes_after, held_after, values}
+use Rattle.lapi_base.specs.Record.Wires.{Run, is_number, has_number}
+use Rattle.lapi_base.specs.Record.Atomic.{Atomic}
+use Rattle.lapi_base.specs.Laws.Entries.{carried}
+use Rattle.lapi_base.specs.Record.TaskPart.{is_at, events_at}
+use Rattle.lapi_base.specs.Record.Arrived.{has_fragment, is_fragment, whole_by, is_whole, assembled}
 use Rattle.lapi_base.proofs.BelowLaws.{every_below-from}
 use Rattle.lapi_base.proofs.ListLaws.{any-find}
-use Rattle.lapi_base.proofs.NameLaws.{done-head, done-later, name_eq-true, done-grown}
+use Rattle.lapi_base.proofs.NameLaws.{happened-head, happened-later, name_eq-true, happened-grown}
 use Rattle.lapi_base.proofs.TestLaws.{eqb-refl}
 use Rattle.lapi_laws.proofs.Once.{atomic-end}
 use Rattle.lapi_laws.proofs.Backward.{Atomic-head}
@@ -33,19 +33,19 @@ use Rattle.lapi_laws.proofs.Lines.{SoundRun}
 use Rattle.lapi_parts.proofs.ExactBytes.{ExactRun, stays, stays-grown}
 use Rattle.lapi_parts.proofs.LocalEvents.{same-sym, folds}
 use Rattle.lapi_parts.proofs.LocalQuestions.{by_points}
-use Rattle.lapi_parts.proofs.HandedPackets.{out-has, fit-fragment}
+use Rattle.lapi_parts.proofs.HandedPackets.{numbered-has, fit-fragment}
 use Rattle.lapi_parts.proofs.WholeMessages.{assembled-bytes}
 
 -- ---- what has landed came whole
 
 module _ (script : Script) (rules : Rules) where
-  pub landed-whole : (r : Run) → SoundRun script rules r → (m : MsgName) → done (Landed m) r.journal ≡ true → is_whole script (r.handed (sender script m) (receiver script m)) m ≡ true
+  pub landed-whole : (r : Run) → SoundRun script rules r → (m : MsgName) → happened (Landed m) r.journal ≡ true → is_whole script (r.handed (sender script m) (receiver script m)) m ≡ true
   unfolding is_whole whole_by has_fragment has_number
   landed-whole r s m d =
       let a = sender script m in
       let b = receiver script m in
       every_below-from (fragment_count script m) (has_fragment (r.handed a b) m) (λ j l.
-      let number = out-has script r.journal m j (landed-copied script rules r.journal m s.atomic d) l in
+      let number = numbered-has script r.journal m j (landed-copied script rules r.journal m s.atomic d) l in
       let got = s.landed m d number.0 (j, number.1) in
       let p = any-find (is_number number.0) (Fits script rules r.journal r.handed a b) (r.handed a b) (s.hands a b) got in
       p.3 (is_fragment m j) (fit-fragment script rules r.journal r.handed a b m number.0 j p.0 p.2 number.1 p.1).0)
@@ -54,7 +54,7 @@ module _ (script : Script) (rules : Rules) where
   abbrev pub came : Run → (t : ℕ) → MsgName → List ℕ
   came r t m = assembled (fragment_count script m) (r.handed (sender script m) t) m
 
-  came-is : (r : Run) → SoundRun script rules r → ExactRun script rules r → (t : ℕ) (m : MsgName) → receiver script m ≡ t → done (Landed m) r.journal ≡ true → came r t m ≡ carried script rules r.journal m
+  came-is : (r : Run) → SoundRun script rules r → ExactRun script rules r → (t : ℕ) (m : MsgName) → receiver script m ≡ t → happened (Landed m) r.journal ≡ true → came r t m ≡ carried script rules r.journal m
   came-is r s x t m at d =
       subst (λ (u : ℕ). came r u m ≡ carried script rules r.journal m) at
       (assembled-bytes script rules r.journal m (r.handed (sender script m) (receiver script m)) s.atomic (landed-copied script rules r.journal m s.atomic d) (x.hands (sender script m) (receiver script m)) (landed-whole r s m d))
@@ -63,7 +63,7 @@ module _ (script : Script) (rules : Rules) where
 
   gathered-same : (old new : Memories) (t u : ℕ) (pieces : List Span) → old t ≡ new u → gathered old t pieces ≡ gathered new u pieces
   unfolding gathered
-  gathered-same old new t u pieces h = ap (λ (line : ℕ → ℕ). flat_map (λ (p : Span). map (λ k. line (p.at + k)) (upto p.len)) pieces) h
+  gathered-same old new t u pieces h = ap (λ (line : ℕ → ℕ). flat_map (λ (p : Span). map (λ k. line (p.at + k)) (numbers_below p.len)) pieces) h
 
   module _ (t : ℕ) (arrived : MsgName → List ℕ) where
     -- a landing writes what came
@@ -291,11 +291,11 @@ module _ (script : Script) (rules : Rules) where
       let K = Land m ∷ J in
       let all = subst (Atomic script rules) e s.atomic in
       let own = atomic-end script rules later K all in
-      let landed = done-head (Land m) J in
+      let landed = happened-head (Land m) J in
       let copied = before script rules (Copied m) (Land m) J (λ y. cc) (landed-copied script rules K m own landed) in
-      came-is r s x t m at (subst (λ L. done (Landed m) L ≡ true) (sym e) (done-grown later K (Landed m) landed))
+      came-is r s x t m at (subst (λ L. happened (Landed m) L ≡ true) (sym e) (happened-grown later K (Landed m) landed))
       ∙ ap (λ L. carried script rules L m) e
-      ∙ stays-grown script rules later K m all (done-later (Copied m) (Land m) J copied)
+      ∙ stays-grown script rules later K m all (happened-later (Copied m) (Land m) J copied)
       ∙ stays script rules (Land m) J m own copied
 
   agrees-from : (r : Run) → SoundRun script rules r → ExactRun script rules r → (t : ℕ) (later J : List Event) → r.journal ≡ later ++ J → Agrees t (came r t) (replayed t (came r t) J) (values script rules J)

@@ -8,30 +8,31 @@ use Rattle.lapi_base.specs.declared.message.Leg.TheVariants.{Go, Back}
 use Rattle.lapi_base.specs.declared.message.MsgName.{MsgName}
 use Rattle.lapi_base.specs.declared.event.Event.{Event}
 use Rattle.lapi_base.specs.declared.packet.Packet.{Packet}
-use Rattle.lapi_base.specs.Layout.{window_of}
-use Rattle.lapi_base.specs.Below.{every_below, below, least_missing}
-use Rattle.lapi_base.specs.Names.{Deed, Issued, Copied, Landed, message, done}
-use Rattle.lapi_base.specs.Operations.{statement, sender, receiver, is_data, has_back, fragment_count}
-use Rattle.lapi_base.specs.Values.{Values, values}
-use Rattle.lapi_base.specs.Counters.{count, reads}
-use Rattle.lapi_base.specs.Refusals.{next, joined, why}
-use Rattle.lapi_base.specs.Jobs.{queue, runs}
-use Rattle.lapi_base.specs.Packets.{data_packet}
-use Rattle.lapi_base.specs.Record.{Run, out, has_number, has_ack, all_numbers, base, data_done, data_clear, ready, copy_each, packet_of, packets, fresh, ack, owed_ack, stale, poll}
-use Rattle.lapi_base.specs.Atomic.{Atomic}
-use Rattle.lapi_base.specs.TaskPart.{events_at, Part, part_at}
-use Rattle.lapi_base.specs.Arrived.{assembled, ack_of}
-use Rattle.lapi_base.specs.ByPart.{copied, polled, SameStatements, SameLinks, SameJobs, SameMemory, IsToldByPart}
-use Rattle.lapi_laws.proofs.Out.{out-copied}
+use Rattle.lapi_base.specs.Packet.Layout.{window_of}
+use Rattle.lapi_base.specs.Record.Below.{every_below, below, least_missing}
+use Rattle.lapi_base.specs.Record.Names.{EventKey, Issued, Copied, Landed, message, happened}
+use Rattle.lapi_base.specs.Record.Operations.{statement, sender, receiver, is_data, has_back, fragment_count}
+use Rattle.lapi_base.specs.Record.Values.{Values, values}
+use Rattle.lapi_base.specs.Record.Counters.{count, reads}
+use Rattle.lapi_base.specs.Record.Refusals.{next, joined, refusal_of}
+use Rattle.lapi_base.specs.Record.Jobs.{queue, runs}
+use Rattle.lapi_base.specs.Record.Packets.{data_packet}
+use Rattle.lapi_base.specs.Record.Wires.{Run, numbered, has_number, has_ack, all_numbers, base, data_done, data_clear, packet_of, packets, to_send, ack, owed_ack, to_resend}
+use Rattle.lapi_base.specs.Record.Acts.{ready, copy_each, poll}
+use Rattle.lapi_base.specs.Record.Atomic.{Atomic}
+use Rattle.lapi_base.specs.Record.TaskPart.{events_at, Part, part_at}
+use Rattle.lapi_base.specs.Record.Arrived.{assembled, ack_of}
+use Rattle.lapi_base.specs.Laws.Locality.{copied, polled, SameStatements, SameLinks, SameJobs, SameMemory, IsToldByPart}
+use Rattle.lapi_laws.proofs.Out.{numbered-copied}
 use Rattle.lapi_laws.proofs.Sound.{Sound, add_entries}
 use Rattle.lapi_laws.proofs.Lines.{SoundRun, poll-sound}
 use Rattle.lapi_parts.proofs.Records.{record-sound}
 use Rattle.lapi_parts.proofs.ExactBytes.{ExactRun, poll-exact, record-exact}
-use Rattle.lapi_parts.proofs.LocalEvents.{next-local, out-local, LiesAt, done-local, count-local, reads-local, runs-local}
+use Rattle.lapi_parts.proofs.LocalEvents.{next-local, numbered-local, LiesAt, happened-local, count-local, reads-local, runs-local}
 use Rattle.lapi_parts.proofs.LocalQuestions.{by_points, joined-local, why-local, ready-local, copy_each-local, data_done-local}
 use Rattle.lapi_parts.proofs.LineFrames.{ready-own}
 use Rattle.lapi_parts.proofs.HandedPackets.{ack-local}
-use Rattle.lapi_parts.proofs.OtherTasks.{happened-local, queue-local}
+use Rattle.lapi_parts.proofs.OtherTasks.{happens-local, queue-local}
 use Rattle.lapi_parts.proofs.Replay.{came, replayed, replay-agrees}
 
 module _ (script : Script) (rules : Rules) (t : ℕ) where
@@ -51,15 +52,15 @@ module _ (script : Script) (rules : Rules) (t : ℕ) where
     by-events : {A : Type 0} (f : List Event → A) → ((J : List Event) → f (events_at script t J) ≡ f J) → f r.journal ≡ f s.journal
     by-events f local = sym (local r.journal) ∙ ap f same.events ∙ local s.journal
 
-    pub done-same : (d : Deed) → LiesAt script t d → done d r.journal ≡ done d s.journal
-    done-same d l = by-events (done d) (done-local script t d l)
+    pub happened-same : (d : EventKey) → LiesAt script t d → happened d r.journal ≡ happened d s.journal
+    happened-same d l = by-events (happened d) (happened-local script t d l)
 
     data_done-same : (i : ℕ) → data_done script r t i ≡ data_done script s t i
     unfolding data_done
     data_done-same i =
         let m = message t i Go in
         let b = receiver script m in
-        let all = λ (K : List Event) (ps : List Packet). cond (has_back (statement script t i)) (done (Landed (message t i Back)) K) (done (Copied m) K && all_numbers script (out script K t b) m (has_ack ps)) in
+        let all = λ (K : List Event) (ps : List Packet). cond (has_back (statement script t i)) (happened (Landed (message t i Back)) K) (happened (Copied m) K && all_numbers script (numbered script K t b) m (has_ack ps)) in
         sym (data_done-local script t r i)
         ∙ ap (λ K. all K (r.handed b t)) same.events
         ∙ ap (all (events_at script t s.journal)) (same.handed b)
@@ -69,14 +70,14 @@ module _ (script : Script) (rules : Rules) (t : ℕ) where
     unfolding data_clear
     data_clear-same i =
         ap (every_below i) (by_points _ _ (λ j.
-        ap (λ x. not (is_data (statement script t j) && x) || data_done script r t j) (done-same (Issued t j) refl)
-        ∙ ap (λ x. not (is_data (statement script t j) && done (Issued t j) s.journal) || x) (data_done-same j)))
+        ap (λ x. not (is_data (statement script t j) && x) || data_done script r t j) (happened-same (Issued t j) refl)
+        ∙ ap (λ x. not (is_data (statement script t j) && happened (Issued t j) s.journal) || x) (data_done-same j)))
 
     pub statements-same : Atomic script rules r.journal → Atomic script rules s.journal → SameStatements script rules t r s
     statements-same ar as' = record {
-      happened = λ d at. sym (happened-local script rules t d r.journal ar at) ∙ ap (done d) same.events ∙ happened-local script rules t d s.journal as' at;
+      same_events = λ d at. sym (happens-local script rules t d r.journal ar at) ∙ ap (happened d) same.events ∙ happens-local script rules t d s.journal as' at;
       next = by-events (λ K. next K t) (next-local script t);
-      refused = λ i. by-events (λ K. why script rules K t i) (λ K. why-local script t rules K i);
+      refused = λ i. by-events (λ K. refusal_of script rules K t i) (λ K. why-local script t rules K i);
       counters = λ c. by-events (λ K. count script rules K t c) (λ K. count-local script t rules K c);
       reads = by-events (λ K. reads script rules K t) (reads-local script t rules);
       joined = λ i. by-events (λ K. joined script K t i) (λ K. joined-local script t K i);
@@ -84,8 +85,8 @@ module _ (script : Script) (rules : Rules) (t : ℕ) where
       clear = data_clear-same;
     }
 
-    out-same : (b : ℕ) → out script r.journal t b ≡ out script s.journal t b
-    out-same b = by-events (λ K. out script K t b) (λ K. out-local script t K b)
+    numbered-same : (b : ℕ) → numbered script r.journal t b ≡ numbered script s.journal t b
+    numbered-same b = by-events (λ K. numbered script K t b) (λ K. numbered-local script t K b)
 
     ready-same : ready script r.journal t ≡ ready script s.journal t
     ready-same = by-events (λ K. ready script K t) (ready-local script t)
@@ -93,8 +94,8 @@ module _ (script : Script) (rules : Rules) (t : ℕ) where
     base-same : (b : ℕ) → base script r t b ≡ base script s t b
     unfolding base
     base-same b =
-        ap (λ (pairs : List (MsgName × ℕ)). least_missing (length pairs) (has_ack (r.handed b t))) (out-same b)
-        ∙ ap (λ (ps : List Packet). least_missing (length (out script s.journal t b)) (has_ack ps)) (same.handed b)
+        ap (λ (pairs : List (MsgName × ℕ)). least_missing (length pairs) (has_ack (r.handed b t))) (numbered-same b)
+        ∙ ap (λ (ps : List Packet). least_missing (length (numbered script s.journal t b)) (has_ack ps)) (same.handed b)
 
     pub copied-same : events_at script t (copied script rules r t) ≡ events_at script t (copied script rules s t)
     copied-same =
@@ -103,21 +104,21 @@ module _ (script : Script) (rules : Rules) (t : ℕ) where
         ∙ ap (copy_each (events_at script t s.journal)) ready-same
         ∙ sym (copy_each-local script t (ready script s.journal t) s.journal (ready-own script s.journal t))
 
-    stale-same : (b : ℕ) → stale script rules r t b ≡ stale script rules s t b
-    unfolding stale
+    stale-same : (b : ℕ) → to_resend script rules r t b ≡ to_resend script rules s t b
+    unfolding to_resend
     stale-same b =
         let numbers = λ (pairs : List (MsgName × ℕ)) (sent told : List Packet). below (length pairs) (λ n. has_number sent n && not (has_ack told n)) in
-        ap (λ pairs. numbers pairs (r.wire t b) (r.handed b t)) (out-same b)
-        ∙ ap (λ sent. numbers (out script s.journal t b) sent (r.handed b t)) (same.put b)
-        ∙ ap (numbers (out script s.journal t b) (s.wire t b)) (same.handed b)
+        ap (λ pairs. numbers pairs (r.wire t b) (r.handed b t)) (numbered-same b)
+        ∙ ap (λ sent. numbers (numbered script s.journal t b) sent (r.handed b t)) (same.put b)
+        ∙ ap (numbers (numbered script s.journal t b) (s.wire t b)) (same.handed b)
 
-    fresh-same : (J K : List Event) (b : ℕ) → out script J t b ≡ out script K t b → fresh script rules r J t b ≡ fresh script rules s K t b
-    unfolding fresh base
+    fresh-same : (J K : List Event) (b : ℕ) → numbered script J t b ≡ numbered script K t b → to_send script rules r J t b ≡ to_send script rules s K t b
+    unfolding to_send base
     fresh-same J K b e =
         let numbers = λ (pairs : List (MsgName × ℕ)) (sent told : List Packet). below (length pairs) (λ n. not (has_number sent n) && nat_lt n (least_missing (length pairs) (has_ack told) + window_of script)) in
         ap (λ pairs. numbers pairs (r.wire t b) (r.handed b t)) e
-        ∙ ap (λ sent. numbers (out script K t b) sent (r.handed b t)) (same.put b)
-        ∙ ap (numbers (out script K t b) (s.wire t b)) (same.handed b)
+        ∙ ap (λ sent. numbers (numbered script K t b) sent (r.handed b t)) (same.put b)
+        ∙ ap (numbers (numbered script K t b) (s.wire t b)) (same.handed b)
 
     -- The replays are one.
     came-same : came script rules r t ≡ came script rules s t
@@ -155,16 +156,16 @@ module _ (script : Script) (rules : Rules) (t : ℕ) where
       }
 
   -- Packets of the same numbers of messages with the same bytes.
-  packets-same : (J K : List Event) (b : ℕ) (numbers : List ℕ) → out script J t b ≡ out script K t b → ((m : MsgName) → sender script m ≡ t → (values script rules J).bytes m ≡ (values script rules K).bytes m) → packets script rules J t b numbers ≡ packets script rules K t b numbers
+  packets-same : (J K : List Event) (b : ℕ) (numbers : List ℕ) → numbered script J t b ≡ numbered script K t b → ((m : MsgName) → sender script m ≡ t → (values script rules J).bytes m ≡ (values script rules K).bytes m) → packets script rules J t b numbers ≡ packets script rules K t b numbers
   unfolding packets
   packets-same J K b numbers e bytes =
       ap (λ (f : ℕ → List Packet). flat_map f numbers) (by_points _ _ (λ n.
       ap (packet_of script rules J n) (ap (λ (pairs : List (MsgName × ℕ)). slice_get pairs n) e)
-      ∙ one n (slice_get (out script K t b) n) refl))
+      ∙ one n (slice_get (numbered script K t b) n) refl))
     where
-      one : (n : ℕ) (o : Option (MsgName × ℕ)) → slice_get (out script K t b) n ≡ o → packet_of script rules J n o ≡ packet_of script rules K n o
+      one : (n : ℕ) (o : Option (MsgName × ℕ)) → slice_get (numbered script K t b) n ≡ o → packet_of script rules J n o ≡ packet_of script rules K n o
       one n None at = refl
-      one n (Some pair) at = ap (λ (bs : List ℕ). data_packet script pair.0 n pair.1 bs ∷ []) (bytes pair.0 (out-copied script K t b n pair at).1)
+      one n (Some pair) at = ap (λ (bs : List ℕ). data_packet script pair.0 n pair.1 bs ∷ []) (bytes pair.0 (numbered-copied script K t b n pair at).1)
 
   module _ (r s : Run) (same : SamePart r s) (sr : SoundRun script rules r) (xr : ExactRun script rules r) (ss : SoundRun script rules s) (xs : ExactRun script rules s) where
     -- what the task owes is told by what was handed to it
@@ -186,10 +187,10 @@ module _ (script : Script) (rules : Rules) (t : ℕ) where
         let alike : SamePart u v = record { events = events; put = λ c. refl; handed = same.handed; owed = λ a. refl } in
         let pr = poll-sound script rules r t sr in
         let ps = poll-sound script rules s t ss in
-        let pairs = sym (out-local script t J b) ∙ ap (λ L. out script L t b) events ∙ out-local script t K b in
+        let pairs = sym (numbered-local script t J b) ∙ ap (λ L. numbered script L t b) events ∙ numbered-local script t K b in
         let bytes = bytes-same u v alike (bare u.handed J pr) (plain u.handed J (poll-exact script rules r t sr pr xr)) (bare v.handed K ps) (plain v.handed K (poll-exact script rules s t ss ps xs)) in
-        ap (λ ps. ps ++ owed_ack script rules r b t) (packets-same J K b (fresh script rules r J t b) pairs bytes ∙ ap (packets script rules K t b) (fresh-same r s same J K b pairs))
-        ∙ ap (λ ps. packets script rules K t b (fresh script rules s K t b) ++ ps) (owed-same b)
+        ap (λ ps. ps ++ owed_ack script rules r b t) (packets-same J K b (to_send script rules r J t b) pairs bytes ∙ ap (packets script rules K t b) (fresh-same r s same J K b pairs))
+        ∙ ap (λ ps. packets script rules K t b (to_send script rules s K t b) ++ ps) (owed-same b)
       where
         -- a run without its wires is sound and exact as well
         bare : (handed : ℕ → ℕ → List Packet) (L : List Event) {wire : ℕ → ℕ → List Packet} → Sound script rules L wire handed → Sound script rules L (λ x y. []) handed
@@ -200,12 +201,12 @@ module _ (script : Script) (rules : Rules) (t : ℕ) where
 
     pub links-same : SameLinks script rules t r s
     links-same = record {
-      numbers = out-same r s same;
+      numbers = numbered-same r s same;
       base = base-same r s same;
       ready = ready-same r s same;
       copied = copied-same r s same;
       polled = polled-same;
-      ticked = λ b. packets-same r.journal s.journal b (stale script rules r t b) (out-same r s same b) (bytes-same r s same sr xr ss xs) ∙ ap (packets script rules s.journal t b) (stale-same r s same b);
+      ticked = λ b. packets-same r.journal s.journal b (to_resend script rules r t b) (numbered-same r s same b) (bytes-same r s same sr xr ss xs) ∙ ap (packets script rules s.journal t b) (stale-same r s same b);
     }
 
 -- the laws

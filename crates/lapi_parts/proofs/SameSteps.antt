@@ -16,18 +16,19 @@ use Rattle.lapi_base.specs.declared.reply.Reply.TheVariants.{Did, Blocked, Absen
 use Rattle.lapi_base.specs.declared.packet.Packet.{Packet}
 use Rattle.lapi_base.specs.declared.packet.Packet.TheVariants.{Data, Ack}
 use Rattle.lapi_base.specs.declared.packet.DataPacket.{DataPacket}
-use Rattle.lapi_base.specs.Layout.{holds_back}
-use Rattle.lapi_base.specs.Spelling.{refusal}
-use Rattle.lapi_base.specs.Written.{packet_size}
-use Rattle.lapi_base.specs.Names.{Entered, done}
-use Rattle.lapi_base.specs.Operations.{statements, statement}
-use Rattle.lapi_base.specs.Refusals.{next, joined, why}
-use Rattle.lapi_base.specs.Jobs.{queue, runs}
-use Rattle.lapi_base.specs.Record.{Run, followed, has_number, is_delivered, data_clear, arrival, ack, at_once, with_handed, with_events, hand_over, deliver_entry, deliver, reply_with, event_if, proposed, unless_refused, add_event, step, poll, tick, begin_first, begin_at, begin, end_at, end, after_end, cut_entry, perform}
-use Rattle.lapi_base.specs.Seen.{IsRecord, performed}
-use Rattle.lapi_base.specs.TaskPart.{is_at, events_at, part_at, actor}
-use Rattle.lapi_base.specs.Arrived.{ack_of, comes}
-use Rattle.lapi_base.specs.ByPart.{polled, ticked, SameStatements, SameLinks, SameJobs, IsToldByPart, entry_of, ActsAlike}
+use Rattle.lapi_base.specs.Packet.Layout.{holds_back}
+use Rattle.lapi_base.specs.Packet.Spelling.{refusal}
+use Rattle.lapi_base.specs.Packet.PacketBytes.{packet_size}
+use Rattle.lapi_base.specs.Record.Names.{Entered, happened}
+use Rattle.lapi_base.specs.Record.Operations.{statements, statement}
+use Rattle.lapi_base.specs.Record.Refusals.{next, joined, refusal_of}
+use Rattle.lapi_base.specs.Record.Jobs.{queue, runs}
+use Rattle.lapi_base.specs.Record.Wires.{Run, has_number, is_delivered, data_clear, ack}
+use Rattle.lapi_base.specs.Record.Acts.{followed, first_delivery, at_once, with_handed, with_events, hand_over, deliver_entry, deliver, reply_with, event_if, proposed, unless_refused, add_event, step, poll, tick, begin_first, begin_at, begin, end_at, end, after_end, cut_entry, perform}
+use Rattle.lapi_base.specs.Record.WorldView.{IsRecord, performed}
+use Rattle.lapi_base.specs.Record.TaskPart.{is_at, events_at, part_at, actor}
+use Rattle.lapi_base.specs.Record.Arrived.{ack_of, comes}
+use Rattle.lapi_base.specs.Laws.Locality.{polled, ticked, SameStatements, SameLinks, SameJobs, IsToldByPart, entry_of, ActsAlike}
 use Rattle.lapi_parts.proofs.SameParts.{SamePart, same-part, told-statements, told-links, told-jobs}
 use Rattle.lapi_parts.proofs.ArrivingPackets.{next-acks-told, arrivals-told}
 
@@ -58,12 +59,12 @@ module _ (script : Script) (rules : Rules) (t : ℕ) (r s : Run) where
     proposed-same h i (Wait counter value) = ap (λ n. event_if script rules (nat_le value n) (Pass t i)) (h.counters counter)
     proposed-same h i Fence = ap (λ b. event_if script rules b (Pass t i)) (h.clear i)
     proposed-same h i Gfence =
-        ap (λ b. cond b (event_if script rules (joined script r.journal t i) (Pass t i)) (event_if script rules (data_clear script r t i) (Enter t i))) (h.happened (Entered t i) refl)
-        ∙ ap (λ b. cond (done (Entered t i) s.journal) (event_if script rules b (Pass t i)) (event_if script rules (data_clear script r t i) (Enter t i))) (h.joined i)
-        ∙ ap (λ b. cond (done (Entered t i) s.journal) (event_if script rules (joined script s.journal t i) (Pass t i)) (event_if script rules b (Enter t i))) (h.clear i)
+        ap (λ b. cond b (event_if script rules (joined script r.journal t i) (Pass t i)) (event_if script rules (data_clear script r t i) (Enter t i))) (h.same_events (Entered t i) refl)
+        ∙ ap (λ b. cond (happened (Entered t i) s.journal) (event_if script rules b (Pass t i)) (event_if script rules (data_clear script r t i) (Enter t i))) (h.joined i)
+        ∙ ap (λ b. cond (happened (Entered t i) s.journal) (event_if script rules (joined script s.journal t i) (Pass t i)) (event_if script rules b (Enter t i))) (h.clear i)
     proposed-same h i (Statement.Addr at) =
-        ap (λ b. cond b (event_if script rules (joined script r.journal t i) (Pass t i)) (Some (Enter t i))) (h.happened (Entered t i) refl)
-        ∙ ap (λ b. cond (done (Entered t i) s.journal) (event_if script rules b (Pass t i)) (Some (Enter t i))) (h.joined i)
+        ap (λ b. cond b (event_if script rules (joined script r.journal t i) (Pass t i)) (Some (Enter t i))) (h.same_events (Entered t i) refl)
+        ∙ ap (λ b. cond (happened (Entered t i) s.journal) (event_if script rules b (Pass t i)) (Some (Enter t i))) (h.joined i)
     proposed-same h i _ = refl
 
     unless-same : SameStatements script rules t r s → (i : ℕ) (o : Option Refusal) → unless_refused script rules r t i o ≡ unless_refused script rules s t i o
@@ -77,10 +78,10 @@ module _ (script : Script) (rules : Rules) (t : ℕ) (r s : Run) where
     step-alike : SameStatements script rules t r s → Alike (step script rules r t) (step script rules s t)
     unfolding step
     step-alike h =
-        let next-event = λ (q : Run) (i : ℕ). unless_refused script rules q t i (why script rules q.journal t i) in
+        let next-event = λ (q : Run) (i : ℕ). unless_refused script rules q t i (refusal_of script rules q.journal t i) in
         let go = λ (q : Run) (i : ℕ) (o : Option Event). cond (nat_lt i (length (statements script t))) (add_event script rules q o) (reply_with script rules q Idle) in
         let i = next s.journal t in
-        let event : next-event r i ≡ next-event s i = ap (unless_refused script rules r t i) (h.refused i) ∙ unless-same h i (why script rules s.journal t i) in
+        let event : next-event r i ≡ next-event s i = ap (unless_refused script rules r t i) (h.refused i) ∙ unless-same h i (refusal_of script rules s.journal t i) in
         let left : step script rules r t ≡ go r i (next-event s i) = ap (λ (k : ℕ). go r k (next-event r k)) h.next ∙ ap (go r i) event in
         subst (λ (q : Run). Alike q (step script rules s t)) (sym left)
         (elim (nat_lt i (length (statements script t))) as (λ b. Alike (cond b (add_event script rules r (next-event s i)) (reply_with script rules r Idle)) (cond b (add_event script rules s (next-event s i)) (reply_with script rules s Idle))) [
@@ -149,15 +150,15 @@ module _ (script : Script) (rules : Rules) (t : ℕ) (r s : Run) where
 
     -- the events and the acknowledgement of a packet are told alike
     pub record ToldAlike (a : ℕ) (p : DataPacket) : Type 0 where
-      pub events : arrival script rules r a t p.name p.seq ≡ arrival script rules s a t p.name p.seq
+      pub events : first_delivery script rules r a t p.name p.seq ≡ first_delivery script rules s a t p.name p.seq
       pub ack : ack script rules (with_handed script rules r a t (Data p)) a t ≡ ack script rules (with_handed script rules s a t (Data p)) a t
 
     data-alike : (a : ℕ) (p : DataPacket) → ToldAlike a p → Alike (reply_with script rules (hand_over script rules r a t (Data p)) Did) (reply_with script rules (hand_over script rules s a t (Data p)) Did)
     unfolding hand_over
     data-alike a p told =
-        let events = λ (q : Run). cond (is_delivered q a t p.seq) [] (arrival script rules q a t p.name p.seq) in
+        let events = λ (q : Run). cond (is_delivered q a t p.seq) [] (first_delivery script rules q a t p.name p.seq) in
         let new = λ (q : Run). ack script rules (with_handed script rules q a t (Data p)) a t in
-        let alike : events r ≡ events s = ap (λ (ps : List Packet). cond (has_number ps p.seq) [] (arrival script rules r a t p.name p.seq)) (same.handed a) ∙ ap (λ es. cond (is_delivered s a t p.seq) [] es) told.events in
+        let alike : events r ≡ events s = ap (λ (ps : List Packet). cond (has_number ps p.seq) [] (first_delivery script rules r a t p.name p.seq)) (same.handed a) ∙ ap (λ es. cond (is_delivered s a t p.seq) [] es) told.events in
         record {
           reply = Did;
           first = refl;

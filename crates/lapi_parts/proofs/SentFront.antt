@@ -1,4 +1,4 @@
--- The numbers of a link go out in order: those that were sent are all below some bound.
+-- The numbers of a link go numbered in order: those that were sent are all below some bound.
 use Rattle.std.proofs.Common.{◌≡◌, ℕ, zero, suc, ◌+◌, ◌-◌, min, map, ◌<◌, ◌≤◌, ◌==◌, Bool, true, false, cond, ◌&&◌, ◌||◌, not, List, [], ◌∷◌, ◌++◌, length, Option, Some, None, refl, sym, ap, ◌∙◌, subst, ⊎_elim, arith, inl, inr}
 use Rattle.std.specs.Prelude.{slice_get, nat_lt}
 use Rattle.std.specs.List.{list_any, flat_map}
@@ -15,15 +15,16 @@ use Rattle.lapi_base.specs.declared.reply.Bad.{Bad}
 use Rattle.lapi_base.specs.declared.reply.Reply.TheVariants.{Idle}
 use Rattle.lapi_base.specs.declared.packet.Packet.{Packet}
 use Rattle.lapi_base.specs.declared.packet.Packet.TheVariants.{Data, Ack}
-use Rattle.lapi_base.specs.Layout.{window_of}
-use Rattle.lapi_base.specs.Below.{below, least_missing}
-use Rattle.lapi_base.specs.Operations.{upto, statements}
-use Rattle.lapi_base.specs.Refusals.{next, why}
-use Rattle.lapi_base.specs.Jobs.{queue, runs}
-use Rattle.lapi_base.specs.Packets.{data_packet}
-use Rattle.lapi_base.specs.Record.{Run, start, out, has_number, is_sent, is_acked, base, packet_of, packets, ready, fresh, stale, copy_each, ack, sends, at_once, with_handed, hand_over, deliver_entry, deliver, reply_with, unless_refused, add_event, step, poll, tick, begin_first, begin_at, begin, end_at, end, cut_entry, perform, run_of}
-use Rattle.lapi_base.specs.Seen.{HoldsOfRecords}
-use Rattle.lapi_base.specs.Sending.{SentAreFront, SentHaveBound, PollsSendNext}
+use Rattle.lapi_base.specs.Packet.Layout.{window_of}
+use Rattle.lapi_base.specs.Record.Below.{below, least_missing}
+use Rattle.lapi_base.specs.Record.Operations.{numbers_below, statements}
+use Rattle.lapi_base.specs.Record.Refusals.{next, refusal_of}
+use Rattle.lapi_base.specs.Record.Jobs.{queue, runs}
+use Rattle.lapi_base.specs.Record.Packets.{data_packet}
+use Rattle.lapi_base.specs.Record.Wires.{Run, start, numbered, has_number, is_sent, is_acked, base, packet_of, packets, to_send, to_resend, ack, sends}
+use Rattle.lapi_base.specs.Record.Acts.{ready, copy_each, at_once, with_handed, hand_over, deliver_entry, deliver, reply_with, unless_refused, add_event, step, poll, tick, begin_first, begin_at, begin, end_at, end, cut_entry, perform, run_of}
+use Rattle.lapi_base.specs.Record.WorldView.{HoldsOfRecords}
+use Rattle.lapi_base.specs.Laws.Sending.{SentAreFront, SentHaveBound, PollsSendNext}
 use Rattle.lapi_base.proofs.BelowLaws.{below-all, below-has, least_missing-below, least_missing-not}
 use Rattle.lapi_base.proofs.ListLaws.{get-some}
 use Rattle.lapi_base.proofs.PacketNumbers.{number-append}
@@ -41,19 +42,19 @@ module _ (script : Script) (rules : Rules) where
   packet-there J n (Some pair) x e = or_left (n == n) false (eq-eqb n n refl)
 
   -- the packets of a list of numbers have these numbers, as far as the link has them
-  pub packets-have : (J : List Event) (a b : ℕ) (numbers : List ℕ) (k : ℕ) → list_any (λ x. x == k) numbers ≡ true → k < length (out script J a b) → has_number (packets script rules J a b numbers) k ≡ true
+  pub packets-have : (J : List Event) (a b : ℕ) (numbers : List ℕ) (k : ℕ) → list_any (λ x. x == k) numbers ≡ true → k < length (numbered script J a b) → has_number (packets script rules J a b numbers) k ≡ true
   unfolding packets
   packets-have J a b [] k h l = absurd (false≢true h)
   packets-have J a b (n ∷ ns) k h l =
-      let first = packet_of script rules J n (slice_get (out script J a b) n) in
-      let rest = flat_map (λ m. packet_of script rules J m (slice_get (out script J a b) m)) ns in
-      let split : has_number (flat_map (λ m. packet_of script rules J m (slice_get (out script J a b) m)) (n ∷ ns)) k ≡ (has_number first k || has_number rest k) = ap (λ ps. has_number ps k) (flat_map-cons (λ m. packet_of script rules J m (slice_get (out script J a b) m)) n ns) ∙ number-append first rest k in
+      let first = packet_of script rules J n (slice_get (numbered script J a b) n) in
+      let rest = flat_map (λ m. packet_of script rules J m (slice_get (numbered script J a b) m)) ns in
+      let split : has_number (flat_map (λ m. packet_of script rules J m (slice_get (numbered script J a b) m)) (n ∷ ns)) k ≡ (has_number first k || has_number rest k) = ap (λ ps. has_number ps k) (flat_map-cons (λ m. packet_of script rules J m (slice_get (numbered script J a b) m)) n ns) ∙ number-append first rest k in
       split
       ∙ ⊎_elim
       (λ (here : (n == k) ≡ true).
-      let x = get-some (out script J a b) k l in
+      let x = get-some (numbered script J a b) k l in
       let same = eqb-true n k here in
-      or_left (has_number first k) (has_number rest k) (subst (λ (m : ℕ). has_number (packet_of script rules J m (slice_get (out script J a b) m)) k ≡ true) (sym same) (packet-there J k (slice_get (out script J a b) k) x.0 x.1)))
+      or_left (has_number first k) (has_number rest k) (subst (λ (m : ℕ). has_number (packet_of script rules J m (slice_get (numbered script J a b) m)) k ≡ true) (sym same) (packet-there J k (slice_get (numbered script J a b) k) x.0 x.1)))
       (λ (later : list_any (λ x. x == k) ns ≡ true). or_right (has_number first k) (has_number rest k) (packets-have J a b ns k later l))
       (or_cases (n == k) (list_any (λ x. x == k) ns) h)
 
@@ -66,11 +67,11 @@ module _ (script : Script) (rules : Rules) where
   FrontRun r = (a b : ℕ) → IsFront (r.wire a b)
 
   -- with numbers below a bound that aren't there yet
-  poll-front : (r : Run) (J : List Event) (a b : ℕ) → IsFront (r.wire a b) → IsFront (r.wire a b ++ packets script rules J a b (fresh script rules r J a b))
-  unfolding fresh
+  poll-front : (r : Run) (J : List Event) (a b : ℕ) → IsFront (r.wire a b) → IsFront (r.wire a b ++ packets script rules J a b (to_send script rules r J a b))
+  unfolding to_send
   poll-front r J a b front n k h l =
       let old = r.wire a b in
-      let count = length (out script J a b) in
+      let count = length (numbered script J a b) in
       let edge = base script (record r { journal = J }) a b + window_of script in
       let test = λ (m : ℕ). not (is_sent r a b m) && nat_lt m edge in
       let new = packets script rules J a b (below count test) in
@@ -91,11 +92,11 @@ module _ (script : Script) (rules : Rules) where
       (or_cases (has_number old n) (has_number new n) (sym (number-append old new n) ∙ h))
 
   -- with numbers that are there
-  tick-front : (r : Run) (a b : ℕ) → IsFront (r.wire a b) → IsFront (r.wire a b ++ packets script rules r.journal a b (stale script rules r a b))
-  unfolding stale
+  tick-front : (r : Run) (a b : ℕ) → IsFront (r.wire a b) → IsFront (r.wire a b ++ packets script rules r.journal a b (to_resend script rules r a b))
+  unfolding to_resend
   tick-front r a b front n k h l =
       let old = r.wire a b in
-      let count = length (out script r.journal a b) in
+      let count = length (numbered script r.journal a b) in
       let test = λ (m : ℕ). is_sent r a b m && not (is_acked r a b m) in
       let new = packets script rules r.journal a b (below count test) in
       number-append old new k
@@ -115,7 +116,7 @@ module _ (script : Script) (rules : Rules) where
   sends-front : (r : Run) (J : List Event) (a b : ℕ) → IsFront (r.wire a b) → IsFront (r.wire a b ++ sends script rules r J a b)
   sends-front r J a b front =
       let old = r.wire a b in
-      let new = packets script rules J a b (fresh script rules r J a b) in
+      let new = packets script rules J a b (to_send script rules r J a b) in
       same-front (old ++ new) (old ++ sends script rules r J a b)
       (λ n. number-append old (sends script rules r J a b) n ∙ ap (λ x. has_number old n || x) (sends-number script rules r J a b n) ∙ sym (number-append old new n))
       (poll-front r J a b front)
@@ -132,13 +133,13 @@ module _ (script : Script) (rules : Rules) where
     unfolding perform step poll tick deliver begin end
     perform-front r (Step a) h =
         let i = next r.journal a in
-        cond_both (nat_lt i (length (statements script a))) (add_event script rules r (unless_refused script rules r a i (why script rules r.journal a i))) (reply_with script rules r Idle) FrontRun
-        (λ _. elim (unless_refused script rules r a i (why script rules r.journal a i)) as (λ o. FrontRun (add_event script rules r o)) [ None ↦ h | Some e ↦ h ])
+        cond_both (nat_lt i (length (statements script a))) (add_event script rules r (unless_refused script rules r a i (refusal_of script rules r.journal a i))) (reply_with script rules r Idle) FrontRun
+        (λ _. elim (unless_refused script rules r a i (refusal_of script rules r.journal a i)) as (λ o. FrontRun (add_event script rules r o)) [ None ↦ h | Some e ↦ h ])
         (λ _. h)
     perform-front r (Poll t) h = λ a b.
         let J = copy_each r.journal (ready script r.journal t) in
         cond_both (a == t) (r.wire a b ++ sends script rules r J a b) (r.wire a b) IsFront (λ _. sends-front r J a b (h a b)) (λ _. h a b)
-    perform-front r (Tick t) h = λ a b. cond_both (a == t) (r.wire a b ++ packets script rules r.journal a b (stale script rules r a b)) (r.wire a b) IsFront (λ _. tick-front r a b (h a b)) (λ _. h a b)
+    perform-front r (Tick t) h = λ a b. cond_both (a == t) (r.wire a b ++ packets script rules r.journal a b (to_resend script rules r a b)) (r.wire a b) IsFront (λ _. tick-front r a b (h a b)) (λ _. h a b)
     perform-front r (Deliver a b k) h = elim (slice_get (r.wire a b) k) as (λ o. FrontRun (deliver_entry script rules r a b o)) [ None ↦ h | Some p ↦ hand_over-front r a b p h ]
     perform-front r (Cut a b k n) h = elim (slice_get (r.wire a b) k) as (λ o. FrontRun (cut_entry script rules size r n o)) [ Some p ↦ h | None ↦ h ]
     perform-front r (Inject a b bytes) h = h
@@ -159,18 +160,18 @@ sent-front = of-runs SentAreFront (λ script rules spells size refusal acts v. r
 
 -- ---- the bound
 
-module _ (script : Script) (rules : Rules) (r : Run) (a b : ℕ) (front : (n k : ℕ) → is_sent r a b n ≡ true → k < n → is_sent r a b k ≡ true) (within : (n : ℕ) → is_sent r a b n ≡ true → n < length (out script r.journal a b)) where
+module _ (script : Script) (rules : Rules) (r : Run) (a b : ℕ) (front : (n k : ℕ) → is_sent r a b n ≡ true → k < n → is_sent r a b k ≡ true) (within : (n : ℕ) → is_sent r a b n ≡ true → n < length (numbered script r.journal a b)) where
   edge : ℕ
-  edge = least_missing (length (out script r.journal a b)) (is_sent r a b)
+  edge = least_missing (length (numbered script r.journal a b)) (is_sent r a b)
 
   sent-below : (n : ℕ) → n < edge → is_sent r a b n ≡ true
   unfolding edge
-  sent-below n l = least_missing-below (length (out script r.journal a b)) (is_sent r a b) n l
+  sent-below n l = least_missing-below (length (numbered script r.journal a b)) (is_sent r a b) n l
 
   not-above : (n : ℕ) → edge ≤ n → is_sent r a b n ≡ true → ⊥
   unfolding edge
   not-above n l h =
-      let count = length (out script r.journal a b) in
+      let count = length (numbered script r.journal a b) in
       let room : n < count = within n h in
       let first : is_sent r a b edge ≡ true = ⊎_elim (λ (lt : edge < n). front n edge h lt) (λ (ge : n ≤ edge). subst (λ k. is_sent r a b k ≡ true) (let q : n ≡ edge = omega arith in q) h) (cases_lt edge n) in
       both_ways _ (least_missing-not count (is_sent r a b) (let q : edge < count = omega arith in q)) first
@@ -186,9 +187,9 @@ pub sent-bound : HoldsOfRecords SentHaveBound
 sent-bound script rules r is = λ a b. let front = sent-front script rules r is a b in let within = sent-numbers script rules r is a b in (edge script rules r a b front within, bound-is script rules r a b front within)
 
 -- the numbers from one bound to another
-below-range : (count bound limit : ℕ) (p : ℕ → Bool) → ((n : ℕ) → p n ≡ (not (nat_lt n bound) && nat_lt n limit)) → below count p ≡ map (λ i. bound + i) (upto (min count limit - bound))
-unfolding below upto
-below-range zero bound limit p h = ap (λ k. map (λ i. bound + i) (upto k)) (let q : 0 ≡ min 0 limit - bound = omega arith in q)
+below-range : (count bound limit : ℕ) (p : ℕ → Bool) → ((n : ℕ) → p n ≡ (not (nat_lt n bound) && nat_lt n limit)) → below count p ≡ map (λ i. bound + i) (numbers_below (min count limit - bound))
+unfolding below numbers_below
+below-range zero bound limit p h = ap (λ k. map (λ i. bound + i) (numbers_below k)) (let q : 0 ≡ min 0 limit - bound = omega arith in q)
 below-range (suc count) bound limit p h =
     let old = below-range count bound limit p h in
     elim (cases_Bool (p count)) [
@@ -200,13 +201,13 @@ below-range (suc count) bound limit p h =
           let before : min count limit - bound ≡ count - bound = omega arith in
           let here : bound + (count - bound) ≡ count = omega arith in
           cond-true (p count) (below count p ++ count ∷ []) (below count p) takes
-          ∙ ap (λ xs. xs ++ count ∷ []) (old ∙ ap (λ k. map (λ i. bound + i) (upto k)) before)
-          ∙ ap (λ k. map (λ i. bound + i) (upto (count - bound)) ++ k ∷ []) (sym here)
-          ∙ sym (map-append (λ i. bound + i) (upto (count - bound)) ((count - bound) ∷ []))
-          ∙ ap (λ k. map (λ i. bound + i) (upto k)) (sym size)
+          ∙ ap (λ xs. xs ++ count ∷ []) (old ∙ ap (λ k. map (λ i. bound + i) (numbers_below k)) before)
+          ∙ ap (λ k. map (λ i. bound + i) (numbers_below (count - bound)) ++ k ∷ []) (sym here)
+          ∙ sym (map-append (λ i. bound + i) (numbers_below (count - bound)) ((count - bound) ∷ []))
+          ∙ ap (λ k. map (λ i. bound + i) (numbers_below k)) (sym size)
       | inr leaves ↦
           let same : min count limit - bound ≡ min (suc count) limit - bound = outside count bound limit (sym (h count) ∙ leaves) in
-          cond-false (p count) (below count p ++ count ∷ []) (below count p) leaves ∙ old ∙ ap (λ k. map (λ i. bound + i) (upto k)) same
+          cond-false (p count) (below count p ++ count ∷ []) (below count p) leaves ∙ old ∙ ap (λ k. map (λ i. bound + i) (numbers_below k)) same
     ]
   where
     not-true : (x : Bool) → not x ≡ true → x ≡ false
@@ -225,7 +226,7 @@ below-range (suc count) bound limit p h =
         (cases_lt n low)
 
 pub polls-next : HoldsOfRecords PollsSendNext
-unfolding fresh
+unfolding to_send
 polls-next script rules r is = λ J a b bound sent.
-    below-range (length (out script J a b)) bound (base script (record r { journal = J }) a b + window_of script) (λ n. not (is_sent r a b n) && nat_lt n (base script (record r { journal = J }) a b + window_of script))
+    below-range (length (numbered script J a b)) bound (base script (record r { journal = J }) a b + window_of script) (λ n. not (is_sent r a b n) && nat_lt n (base script (record r { journal = J }) a b + window_of script))
     (λ n. ap (λ x. not x && nat_lt n (base script (record r { journal = J }) a b + window_of script)) (sent n))

@@ -17,11 +17,11 @@ use Rattle.lapi_base.specs.declared.message.Leg.TheVariants.{Go, Back, Note, Ech
 use Rattle.lapi_base.specs.declared.message.MsgName.{MsgName}
 use Rattle.lapi_base.specs.declared.event.Event.{Event}
 use Rattle.lapi_base.specs.declared.event.Event.TheVariants.{Issue, Refuse, Enter, Pass, Copy, Head, Land, Begin, End}
-use Rattle.lapi_base.specs.Names.{message, name_eq}
-use Rattle.lapi_base.specs.Operations.{upto, statement, statements, target, is_am, is_rmw, has_back}
-use Rattle.lapi_base.specs.Handlers.{number_of, word_bytes, buffer, effect, effect_of, answer_of, answer_pieces, sent_back, completion_answer, rule_named, user}
-use Rattle.lapi_base.specs.Values.{Memories, Write, Values, gathered, scattered, byte_after, new_word, at_target, at_origin, land_writes, store_writes, writes, writer, with_bytes, land_bytes, source_by, values}
-use Rattle.lapi_base.specs.Valid.{IsByte, ValidStatement, ValidScript}
+use Rattle.lapi_base.specs.Record.Names.{message, name_eq}
+use Rattle.lapi_base.specs.Record.Operations.{numbers_below, statement, statements, target, is_am, is_rmw, has_back}
+use Rattle.lapi_base.specs.Record.Handlers.{number_of, word_bytes, buffer, effect, effect_of, answer_of, answer_pieces, sent_back, completion_answer, rule_named, user}
+use Rattle.lapi_base.specs.Record.Values.{Memories, Write, Values, gathered, scattered, byte_after, new_word, at_target, at_origin, land_writes, store_writes, writes, writer, with_bytes, land_bytes, source_by, values}
+use Rattle.lapi_base.specs.Record.Valid.{IsByte, ValidStatement, ValidScript}
 use Rattle.lapi_base.specs.declared.handler.Effect.{Effect}
 use Rattle.lapi_base.proofs.ListLaws.{all-any, all-append, all-filter, all-flat_map, all-map, all-weaker}
 
@@ -49,7 +49,7 @@ index-small (x ∷ xs) (suc k) h = index-small xs k h.1
 
 gathered-small : (memory : Memories) (t : ℕ) (pieces : List Span) → ((x : ℕ) → memory t x < 256) → AllBytes (gathered memory t pieces)
 unfolding gathered
-gathered-small memory t pieces h = all-flat_map (λ _. Unit {0}) IsByte (λ p. map (λ k. memory t (p.at + k)) (upto p.len)) pieces (all-any pieces) (λ p _. all-map (λ _. Unit {0}) IsByte (λ k. memory t (p.at + k)) (upto p.len) (all-any (upto p.len)) (λ k _. h (p.at + k)))
+gathered-small memory t pieces h = all-flat_map (λ _. Unit {0}) IsByte (λ p. map (λ k. memory t (p.at + k)) (numbers_below p.len)) pieces (all-any pieces) (λ p _. all-map (λ _. Unit {0}) IsByte (λ k. memory t (p.at + k)) (numbers_below p.len) (all-any (numbers_below p.len)) (λ k _. h (p.at + k)))
 
 -- each write writes bytes
 abbrev IsSmall : Write → Type 0

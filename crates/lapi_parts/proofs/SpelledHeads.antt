@@ -9,13 +9,13 @@ use Rattle.lapi_base.specs.declared.head.Head.TheVariants as heads
 use Rattle.lapi_base.specs.declared.head.NoteOp.{NoteOp}
 use Rattle.lapi_base.specs.declared.statement.RmwOp.{RmwOp}
 use Rattle.lapi_base.specs.declared.statement.RmwOp.TheVariants.{Add, Or, Swap, Cas}
-use Rattle.lapi_base.specs.Form.{Done, ◌>>=◌, bytes_form, IsSpelled}
-use Rattle.lapi_base.specs.Layout.{First}
-use Rattle.lapi_base.specs.Parts.{counter_form, range_form, word_form, count_form, covering_form, within_form, matching_form}
-use Rattle.lapi_base.specs.Heads.{put_form, get_go_form, get_back_form, putv_form, getv_go_form, getv_back_form, update_of, update_form, rmw_go_form, rmw_back_form, header_count_form, am_form, note_form, round_form, gfence_form, addr_form}
-use Rattle.lapi_base.specs.Written as written
-use Rattle.lapi_base.specs.Valid.{IsByte, in2_by}
-use Rattle.lapi_base.specs.Receiving.{bytes_in}
+use Rattle.lapi_base.specs.Packet.Format.{Done, ◌>>=◌, bytes_form, IsSpelled}
+use Rattle.lapi_base.specs.Packet.Layout.{First}
+use Rattle.lapi_base.specs.Packet.Fields.{counter_form, range_form, word_form, count_form, covering_form, within_form, matching_form}
+use Rattle.lapi_base.specs.Packet.Heads.{put_form, get_go_form, get_back_form, putv_form, getv_go_form, getv_back_form, update_of, update_form, rmw_go_form, rmw_back_form, header_count_form, am_form, note_form, round_form, gfence_form, addr_form}
+use Rattle.lapi_base.specs.Packet.PacketBytes as written
+use Rattle.lapi_base.specs.Record.Valid.{IsByte, in2_by}
+use Rattle.lapi_base.specs.Laws.Receiving.{bytes_in}
 use Rattle.lapi_parts.proofs.SpelledParts.{spelled-bind, spelled-last, bytes-spelled, IsNumbered, counter-spelled, range-spelled, word-spelled, IsWithin, SameLengths, within-spelled, covering-spelled, matching-spelled}
 
 -- counters at the end of a head

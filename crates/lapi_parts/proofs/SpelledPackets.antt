@@ -17,26 +17,26 @@ use Rattle.lapi_base.specs.declared.packet.DataPacket.{DataPacket}
 use Rattle.lapi_base.specs.declared.head.Head.TheVariants as heads
 use Rattle.lapi_base.specs.declared.head.NoteOp.TheVariants as notes
 use Rattle.lapi_base.specs.declared.event.Event.{Event}
-use Rattle.lapi_base.specs.Form.{Done, ◌>>=◌, bytes_form, IsSpelled}
-use Rattle.lapi_base.specs.Fragments.{fragments_in, fragment_length}
-use Rattle.lapi_base.specs.Layout.{First, unit_of, unit}
-use Rattle.lapi_base.specs.Heads.{is_operation, operation_form, head_form}
-use Rattle.lapi_base.specs.Spelling.{task_form, kind_form, front_form, acknowledgement_form, is_leg, leg_of, leg_form, name_form, is_length, length_form, fragment_form, data_form, packet_form, Spells}
-use Rattle.lapi_base.specs.Written as written
-use Rattle.lapi_base.specs.Names.{Copied, done}
-use Rattle.lapi_base.specs.Operations.{statements, statement, target, from_by, to_by, sender, receiver, has_join, has_leg, message_length, fragment_count}
-use Rattle.lapi_base.specs.Refusals.{round_of}
-use Rattle.lapi_base.specs.Packets.{head_by, data_packet}
-use Rattle.lapi_base.specs.Record.{Run, out}
-use Rattle.lapi_base.specs.Atomic.{Atomic}
-use Rattle.lapi_base.specs.Valid.{IsByte, ValidScript, ValidRules, ValidStatement}
-use Rattle.lapi_base.specs.Seen.{HoldsOfRecords}
-use Rattle.lapi_base.specs.Entries.{GoesFrom, carried, IsOfNumber, PacketsArePlaced, PacketsAreSpelled, PacketsAreWritten}
-use Rattle.lapi_base.specs.Handlers.{answers}
+use Rattle.lapi_base.specs.Packet.Format.{Done, ◌>>=◌, bytes_form, IsSpelled}
+use Rattle.lapi_base.specs.Record.Fragments.{fragments_in, fragment_length}
+use Rattle.lapi_base.specs.Packet.Layout.{First, unit_of, unit}
+use Rattle.lapi_base.specs.Packet.Heads.{is_operation, operation_form, head_form}
+use Rattle.lapi_base.specs.Packet.Spelling.{task_form, kind_form, front_form, acknowledgement_form, is_leg, leg_of, leg_form, name_form, is_length, length_form, fragment_form, data_form, packet_form, Spells}
+use Rattle.lapi_base.specs.Packet.PacketBytes as written
+use Rattle.lapi_base.specs.Record.Names.{Copied, happened}
+use Rattle.lapi_base.specs.Record.Operations.{statements, statement, target, from_by, to_by, sender, receiver, has_join, has_leg, message_length, fragment_count}
+use Rattle.lapi_base.specs.Record.Refusals.{round_of}
+use Rattle.lapi_base.specs.Record.Packets.{head_by, data_packet}
+use Rattle.lapi_base.specs.Record.Wires.{Run, numbered}
+use Rattle.lapi_base.specs.Record.Atomic.{Atomic}
+use Rattle.lapi_base.specs.Record.Valid.{IsByte, ValidScript, ValidRules, ValidStatement}
+use Rattle.lapi_base.specs.Record.WorldView.{HoldsOfRecords}
+use Rattle.lapi_base.specs.Laws.Entries.{GoesFrom, carried, IsOfNumber, PacketsArePlaced, PacketsAreSpelled, PacketsAreWritten}
+use Rattle.lapi_base.specs.Record.Handlers.{answers}
 use Rattle.lapi_base.proofs.ListLaws.{all-get}
 use Rattle.lapi_base.proofs.TestLaws.{eqb-refl}
 use Rattle.lapi_laws.proofs.Still.{copied-ends}
-use Rattle.lapi_laws.proofs.Out.{out-copied}
+use Rattle.lapi_laws.proofs.Out.{numbered-copied}
 use Rattle.lapi_laws.proofs.Backward.{there}
 use Rattle.lapi_laws.proofs.Lines.{SoundRun}
 use Rattle.lapi_laws.proofs.Shorts.{statements-few, numbers-few, copied-short, copied-few}
@@ -49,7 +49,7 @@ use Rattle.lapi_parts.proofs.Accepted.{Accepted, copied-accepted}
 use Rattle.lapi_parts.proofs.SpelledParts.{spelled-bind, spelled-last, bytes-spelled}
 use Rattle.lapi_parts.proofs.MessageHeads.{round-small, head-spelled, operation-kept, length-kept, no-answers}
 use Rattle.lapi_parts.proofs.Acknowledgements.{IsTold, record-told}
-use Rattle.lapi_parts.proofs.HandedPackets.{out-below}
+use Rattle.lapi_parts.proofs.HandedPackets.{numbered-below}
 
 -- ---- packets of any kind
 
@@ -264,7 +264,7 @@ module _ (script : Script) (rules : Rules) where
   wire-placed : (r : Run) (a b : ℕ) (p : Packet) → SoundRun script rules r → IsOfNumber script rules r.journal a b p → IsTold script rules a b p → (a < script.tasks) × (b < script.tasks) × GoesFrom a b p
   unfolding data_packet packet-from packet-to
   wire-placed r a b (Data p) s of told =
-      let copied = out-copied script r.journal a b p.seq (p.name, p.fragment) of.0 in
+      let copied = numbered-copied script r.journal a b p.seq (p.name, p.fragment) of.0 in
       let ends = copied-ends script rules r.journal p.name s.atomic copied.0 in
       (subst (λ (n : ℕ). n < script.tasks) copied.1 ends.0, subst (λ (n : ℕ). n < script.tasks) copied.2 ends.1, (ap packet-from of.1 ∙ copied.1, ap packet-to of.1 ∙ copied.2))
   wire-placed r a b (Ack from to base bits) s of told = (told.2, told.3, (told.0, told.1))
@@ -280,7 +280,7 @@ module _ (script : Script) (rules : Rules) (valid : ValidScript script) (few : V
   head-kept m g f v r = head-spelled script rules valid few m m.leg (statement script m.origin m.statement) g f v r
 
   -- and its packets have spellings
-  pub message-spelled : (J : List Event) (m : MsgName) (n j : ℕ) → Atomic script rules J → done (Copied m) J ≡ true → n < 2 ^ 32 → j < fragment_count script m → Spells (data_packet script m n j (carried script rules J m)) (written.packet (data_packet script m n j (carried script rules J m)))
+  pub message-spelled : (J : List Event) (m : MsgName) (n j : ℕ) → Atomic script rules J → happened (Copied m) J ≡ true → n < 2 ^ 32 → j < fragment_count script m → Spells (data_packet script m n j (carried script rules J m)) (written.packet (data_packet script m n j (carried script rules J m)))
   unfolding data_packet
   message-spelled J m n j h c ln lj =
       let a = m.origin in
@@ -319,10 +319,10 @@ module _ (script : Script) (rules : Rules) (valid : ValidScript script) (few : V
   -- a packet of a wire
   wire-spelled : (r : Run) (a b : ℕ) (p : Packet) → SoundRun script rules r → IsOfNumber script rules r.journal a b p → IsTold script rules a b p → Spells p (written.packet p)
   wire-spelled r a b (Data p) s of told =
-      let copied = out-copied script r.journal a b p.seq (p.name, p.fragment) of.0 in
-      let room = slice_get_within (out script r.journal a b) p.seq (p.name, p.fragment) of.0 in
+      let copied = numbered-copied script r.journal a b p.seq (p.name, p.fragment) of.0 in
+      let room = slice_get_within (numbered script r.journal a b) p.seq (p.name, p.fragment) of.0 in
       let few-numbers = numbers-few script rules valid r.journal a b s.atomic (λ m d. copied-few script rules r.journal m s.atomic d) in
-      let fragment = out-below script r.journal a b p.seq (p.name, p.fragment) of.0 in
+      let fragment = numbered-below script r.journal a b p.seq (p.name, p.fragment) of.0 in
       subst (λ (q : Packet). Spells q (written.packet q)) (sym of.1) (message-spelled r.journal p.name p.seq p.fragment s.atomic copied.0 (omega arith) fragment)
   wire-spelled r a b (Ack from to base bits) s of told =
       let tasks : script.tasks ≤ 8 = valid.tasks.1 in

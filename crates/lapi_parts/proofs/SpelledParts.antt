@@ -7,22 +7,22 @@ use Rattle.std.proofs.lemmas.List.{append-nil}
 use Rattle.std.proofs.lemmas.List.Sums.{sum_by-cons}
 use Rattle.std.proofs.lemmas.List.Concat.{flat_map-cons}
 use Rattle.lapi_base.specs.declared.span.Span.{Span}
-use Rattle.lapi_base.specs.Form.{Form, Done, Field, ◌>>=◌, bytes_form, repeated, bytes_of, IsSpelled}
-use Rattle.lapi_base.specs.Parts.{fits, counter_form, range_form, word_form, span_form, covering_span, covering_form, within_span, within_form, matching_span, matching_form, left_behind, behind}
-use Rattle.lapi_base.specs.Written as written
-use Rattle.lapi_base.specs.Valid.{IsByte}
-use Rattle.lapi_base.specs.Receiving.{bytes_in}
+use Rattle.lapi_base.specs.Packet.Format.{Format, Done, Field, ◌>>=◌, bytes_form, repeated, bytes_of, IsSpelled}
+use Rattle.lapi_base.specs.Packet.Fields.{fits, counter_form, range_form, word_form, span_form, covering_span, covering_form, within_span, within_form, matching_span, matching_form, left_behind, behind}
+use Rattle.lapi_base.specs.Packet.PacketBytes as written
+use Rattle.lapi_base.specs.Record.Valid.{IsByte}
+use Rattle.lapi_base.specs.Laws.Receiving.{bytes_in}
 
 -- ---- one part behind another
 
-pub spelled-bind : {A B : Type 0} (f : Form A) (g : A → Form B) (x : A) (y : B) (bytes rest : List ℕ) → IsSpelled f x bytes → IsSpelled (g x) y rest → IsSpelled (f >>= g) y (bytes ++ rest)
+pub spelled-bind : {A B : Type 0} (f : Format A) (g : A → Format B) (x : A) (y : B) (bytes rest : List ℕ) → IsSpelled f x bytes → IsSpelled (g x) y rest → IsSpelled (f >>= g) y (bytes ++ rest)
 spelled-bind (Done a) g x y bytes rest s t =
     subst (λ (l : List ℕ). IsSpelled (g a) y (l ++ rest)) (sym s.1) (subst (λ z. IsSpelled (g z) y rest) s.0 t)
 spelled-bind (Field size why keeps more) g x y bytes rest s t =
     (s.0, s.1 ++ rest, s.2, s.3, ap (λ (l : List ℕ). l ++ rest) s.4 ∙ append_assoc (bytes_of size s.0) s.1 rest, spelled-bind (more s.0) g x y s.1 rest s.5 t)
 
 -- a part at the end, and what is made of it
-pub spelled-last : {A B : Type 0} (f : Form A) (h : A → B) (x : A) (bytes : List ℕ) → IsSpelled f x bytes → IsSpelled (f >>= λ a. Done (h a)) (h x) bytes
+pub spelled-last : {A B : Type 0} (f : Format A) (h : A → B) (x : A) (bytes : List ℕ) → IsSpelled f x bytes → IsSpelled (f >>= λ a. Done (h a)) (h x) bytes
 spelled-last f h x bytes s = subst (λ (l : List ℕ). IsSpelled (f >>= λ a. Done (h a)) (h x) l) (append-nil bytes) (spelled-bind f (λ a. Done (h a)) x (h x) bytes [] s (refl, refl))
 
 -- ---- bytes
@@ -77,7 +77,7 @@ bytes-cons : (s : Span) (ss : List Span) → bytes_in (s ∷ ss) ≡ s.len + byt
 bytes-cons s ss = sum_by-cons (λ (s : Span). s.len) s ss
 
 -- spans one after another
-repeated-spelled : {S : Type 0} (part : S → ℕ → Form Span) (next : S → Span → S) (state : S) (s : Span) (ss : List Span) → IsSpelled (part state (length ss)) s (written.span s) → IsSpelled (repeated part next (next state s) (length ss)) ss (written.spans ss) → IsSpelled (repeated part next state (length (s ∷ ss))) (s ∷ ss) (written.spans (s ∷ ss))
+repeated-spelled : {S : Type 0} (part : S → ℕ → Format Span) (next : S → Span → S) (state : S) (s : Span) (ss : List Span) → IsSpelled (part state (length ss)) s (written.span s) → IsSpelled (repeated part next (next state s) (length ss)) ss (written.spans ss) → IsSpelled (repeated part next state (length (s ∷ ss))) (s ∷ ss) (written.spans (s ∷ ss))
 unfolding repeated
 repeated-spelled part next state s ss one others =
     subst (λ (l : List ℕ). IsSpelled (repeated part next state (suc (length ss))) (s ∷ ss) l) (spans-cons s ss)

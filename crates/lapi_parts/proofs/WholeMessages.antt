@@ -13,15 +13,15 @@ use Rattle.lapi_base.specs.declared.event.Event.{Event}
 use Rattle.lapi_base.specs.declared.packet.Packet.{Packet}
 use Rattle.lapi_base.specs.declared.packet.Packet.TheVariants.{Data, Ack}
 use Rattle.lapi_base.specs.declared.packet.DataPacket.{DataPacket}
-use Rattle.lapi_base.specs.Layout.{Layout, First, Second, layout_of, unit, unit_of}
-use Rattle.lapi_base.specs.Fragments.{fragments_in}
-use Rattle.lapi_base.specs.Below.{below}
-use Rattle.lapi_base.specs.Names.{name_eq, Copied, done}
-use Rattle.lapi_base.specs.Operations.{upto, message_length, fragment_count}
-use Rattle.lapi_base.specs.Packets.{data_packet}
-use Rattle.lapi_base.specs.Atomic.{Atomic}
-use Rattle.lapi_base.specs.Entries.{carried}
-use Rattle.lapi_base.specs.Arrived.{is_fragment, has_fragment, whole_by, is_whole, payload_of, assembled}
+use Rattle.lapi_base.specs.Packet.Layout.{Layout, First, Second, layout_of, unit, unit_of}
+use Rattle.lapi_base.specs.Record.Fragments.{fragments_in}
+use Rattle.lapi_base.specs.Record.Below.{below}
+use Rattle.lapi_base.specs.Record.Names.{name_eq, Copied, happened}
+use Rattle.lapi_base.specs.Record.Operations.{numbers_below, message_length, fragment_count}
+use Rattle.lapi_base.specs.Record.Packets.{data_packet}
+use Rattle.lapi_base.specs.Record.Atomic.{Atomic}
+use Rattle.lapi_base.specs.Laws.Entries.{carried}
+use Rattle.lapi_base.specs.Record.Arrived.{is_fragment, has_fragment, whole_by, is_whole, payload_of, assembled}
 use Rattle.lapi_base.proofs.BelowLaws.{every_below-at}
 use Rattle.lapi_base.proofs.NameLaws.{name_eq-true}
 use Rattle.lapi_parts.proofs.ExactBytes.{Exact}
@@ -32,11 +32,11 @@ payload_in (Data p) = p.payload
 payload_in (Ack from to base bits) = []
 
 -- pieces of one size, put together
-pieces : (unit n : ℕ) (bytes : List ℕ) (f : ℕ → List ℕ) → ((j : ℕ) → j < n → f j ≡ take unit (drop (unit * j) bytes)) → flat_map f (upto n) ≡ take (unit * n) bytes
-unfolding upto below
+pieces : (unit n : ℕ) (bytes : List ℕ) (f : ℕ → List ℕ) → ((j : ℕ) → j < n → f j ≡ take unit (drop (unit * j) bytes)) → flat_map f (numbers_below n) ≡ take (unit * n) bytes
+unfolding numbers_below below
 pieces unit zero bytes f h = sym (ap (λ k. take k bytes) (let q : unit * 0 ≡ 0 = omega arith in q))
 pieces unit (suc n) bytes f h =
-    flat_map-append f (upto n) (n ∷ [])
+    flat_map-append f (numbers_below n) (n ∷ [])
     ∙ ap (λ xs. xs ++ (f n ++ [])) (pieces unit n bytes f (λ j l. h j (let q : j < suc n = omega arith in q)))
     ∙ ap (λ xs. take (unit * n) bytes ++ xs) (append-nil (f n) ∙ h n (let q : n < suc n = omega arith in q))
     ∙ sym (ap (λ k. take k bytes) (mul-suc unit n) ∙ take-add (unit * n) unit bytes)
@@ -73,7 +73,7 @@ module _ (script : Script) (rules : Rules) where
       each Second n = let q : n ≤ 1024 * max 1 ((n + 1023) / 1024) = omega arith in q
 
   -- Whole, they are its bytes.
-  pub assembled-bytes : (J : List Event) (m : MsgName) (ps : List Packet) → Atomic script rules J → done (Copied m) J ≡ true → AllByRecursion (Exact script rules J) ps → is_whole script ps m ≡ true → assembled (fragment_count script m) ps m ≡ carried script rules J m
+  pub assembled-bytes : (J : List Event) (m : MsgName) (ps : List Packet) → Atomic script rules J → happened (Copied m) J ≡ true → AllByRecursion (Exact script rules J) ps → is_whole script ps m ≡ true → assembled (fragment_count script m) ps m ≡ carried script rules J m
   unfolding assembled is_whole whole_by
   assembled-bytes J m ps h d x whole =
       let count = fragment_count script m in

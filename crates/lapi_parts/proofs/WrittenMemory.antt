@@ -12,18 +12,18 @@ use Rattle.lapi_base.specs.declared.event.Event.{Event}
 use Rattle.lapi_base.specs.declared.event.Event.TheVariants.{Issue, Land, End, Refuse, Enter, Pass, Copy, Head, Begin}
 use Rattle.lapi_base.specs.declared.packet.Packet.{Packet}
 use Rattle.lapi_base.specs.declared.packet.Packet.TheVariants.{Data, Ack}
-use Rattle.lapi_base.specs.Names.{Copied, done, name_eq, Begun}
-use Rattle.lapi_base.specs.Operations.{statement, receiver, target, is_am, is_rmw, has_back, fragment_count}
-use Rattle.lapi_base.specs.Handlers.{number_of, word_bytes, buffer, answer_pieces}
-use Rattle.lapi_base.specs.Values.{Values, values, gathered, scattered, byte_after, new_word, at_target, at_origin, land_writes, store_writes, writes}
-use Rattle.lapi_base.specs.Atomic.{Atomic}
-use Rattle.lapi_base.specs.Headline.{HoldsOfAtomic}
-use Rattle.lapi_base.specs.Seen.{HoldsOfRecords}
-use Rattle.lapi_base.specs.Entries.{IsOfNumber}
-use Rattle.lapi_base.specs.Arrived.{is_whole, assembled}
-use Rattle.lapi_base.specs.Landing.{CarriedHaveLength, AllAreBytes, BuffersAreHeld, memory_at, BytesComeWhole, LandedAreWhole, OthersWriteNothing, StoresWrite, LandingsWrite, EndsWrite}
+use Rattle.lapi_base.specs.Record.Names.{Copied, happened, name_eq, Begun}
+use Rattle.lapi_base.specs.Record.Operations.{statement, receiver, target, is_am, is_rmw, has_back, fragment_count}
+use Rattle.lapi_base.specs.Record.Handlers.{number_of, word_bytes, buffer, answer_pieces}
+use Rattle.lapi_base.specs.Record.Values.{Values, values, gathered, scattered, byte_after, new_word, at_target, at_origin, land_writes, store_writes, writes}
+use Rattle.lapi_base.specs.Record.Atomic.{Atomic}
+use Rattle.lapi_base.specs.Laws.Headline.{HoldsOfAtomic}
+use Rattle.lapi_base.specs.Record.WorldView.{HoldsOfRecords}
+use Rattle.lapi_base.specs.Laws.Entries.{IsOfNumber}
+use Rattle.lapi_base.specs.Record.Arrived.{is_whole, assembled}
+use Rattle.lapi_base.specs.Laws.Landing.{CarriedHaveLength, AllAreBytes, BuffersAreHeld, memory_at, BytesComeWhole, LandedAreWhole, OthersWriteNothing, StoresWrite, LandingsWrite, EndsWrite}
 use Rattle.lapi_base.proofs.ListLaws.{all-weaker}
-use Rattle.lapi_base.proofs.NameLaws.{done-head, done-later, name_eq-refl, name_eq-true}
+use Rattle.lapi_base.proofs.NameLaws.{happened-head, happened-later, name_eq-refl, name_eq-true}
 use Rattle.lapi_base.proofs.TestLaws.{eqb-refl}
 use Rattle.lapi_laws.proofs.Backward.{Atomic-head, Atomic-tail}
 use Rattle.lapi_laws.proofs.Sound.{landed-copied, before}
@@ -53,7 +53,7 @@ module _ (script : Script) (rules : Rules) where
   own-place : (t : ℕ) (after before : ℕ) → cond (t == t) after before ≡ after
   own-place t after before = cond-true (t == t) after before (eqb-refl t)
 
-  bytes-whole : (J : List Event) → Atomic script rules J → (m : MsgName) (a b : ℕ) (ps : List Packet) → done (Copied m) J ≡ true → AllByRecursion (IsOfNumber script rules J a b) ps → is_whole script ps m ≡ true → assembled (fragment_count script m) ps m ≡ (values script rules J).bytes m
+  bytes-whole : (J : List Event) → Atomic script rules J → (m : MsgName) (a b : ℕ) (ps : List Packet) → happened (Copied m) J ≡ true → AllByRecursion (IsOfNumber script rules J a b) ps → is_whole script ps m ≡ true → assembled (fragment_count script m) ps m ≡ (values script rules J).bytes m
   bytes-whole J h m a b ps d of whole = assembled-bytes script rules J m ps h d (all-weaker (IsOfNumber script rules J a b) (Exact script rules J) (number-exact J a b) ps of) whole
 
   store-writes : (K : List Event) (a i x : ℕ) → memory_at script rules (Issue a i ∷ K) a x ≡ byte_after (store_writes script rules (statement script a i)) x (memory_at script rules K a x)
@@ -90,7 +90,7 @@ pub landings-write : HoldsOfAtomic LandingsWrite
 landings-write script rules J h = λ m a b x ps K same of whole.
     let all = subst (Atomic script rules) same h in
     let own = Atomic-tail script rules (Land m) K all in
-    let copied = before script rules (Copied m) (Land m) K (λ y. cc) (landed-copied script rules (Land m ∷ K) m all (done-head (Land m) K)) in
+    let copied = before script rules (Copied m) (Land m) K (λ y. cc) (landed-copied script rules (Land m ∷ K) m all (happened-head (Land m) K)) in
     ap (λ L. memory_at script rules L (receiver script m) x) same
     ∙ land-writes script rules K m x (λ n. assembled (fragment_count script m) ps m) (sym (bytes-whole script rules K own m a b ps copied of whole))
 
@@ -110,9 +110,9 @@ module _ (script : Script) (rules : Rules) where
   unfolding values
   held-now J m t w = cond-true (name_eq m m) (gathered (values script rules J).memory t (buffer script rules m)) ((values script rules J).held m) (name_eq-refl m)
 
-  held-later : (J : List Event) (e : Event) (m : MsgName) → Atomic script rules (e ∷ J) → done (Begun m) J ≡ true → (values script rules (e ∷ J)).held m ≡ (values script rules J).held m
+  held-later : (J : List Event) (e : Event) (m : MsgName) → Atomic script rules (e ∷ J) → happened (Begun m) J ≡ true → (values script rules (e ∷ J)).held m ≡ (values script rules J).held m
   unfolding values
-  held-later J (Begin n t w) m h d = cond-false (name_eq n m) _ ((values script rules J).held m) (false_from_ne_true _ (λ same. both_ways _ (Atomic-head script rules (Begin n t w) J h).once (subst (λ (k : MsgName). done (Begun k) J ≡ true) (sym (name_eq-true n m same)) d)))
+  held-later J (Begin n t w) m h d = cond-false (name_eq n m) _ ((values script rules J).held m) (false_from_ne_true _ (λ same. both_ways _ (Atomic-head script rules (Begin n t w) J h).once (subst (λ (k : MsgName). happened (Begun k) J ≡ true) (sym (name_eq-true n m same)) d)))
   held-later J (Issue a i) m h d = refl
   held-later J (Refuse a i why) m h d = refl
   held-later J (Enter a i) m h d = refl
@@ -122,11 +122,11 @@ module _ (script : Script) (rules : Rules) where
   held-later J (Land n) m h d = refl
   held-later J (End n t w) m h d = refl
 
-  held-all : (later J : List Event) (m : MsgName) (t w : ℕ) → Atomic script rules (later ++ Begin m t w ∷ J) → ((values script rules (later ++ Begin m t w ∷ J)).held m ≡ gathered (values script rules J).memory t (buffer script rules m)) × (done (Begun m) (later ++ Begin m t w ∷ J) ≡ true)
-  held-all [] J m t w h = (held-now J m t w, done-head (Begin m t w) J)
+  held-all : (later J : List Event) (m : MsgName) (t w : ℕ) → Atomic script rules (later ++ Begin m t w ∷ J) → ((values script rules (later ++ Begin m t w ∷ J)).held m ≡ gathered (values script rules J).memory t (buffer script rules m)) × (happened (Begun m) (later ++ Begin m t w ∷ J) ≡ true)
+  held-all [] J m t w h = (held-now J m t w, happened-head (Begin m t w) J)
   held-all (e ∷ later) J m t w h =
       let old = held-all later J m t w (Atomic-tail script rules e (later ++ Begin m t w ∷ J) h) in
-      (held-later (later ++ Begin m t w ∷ J) e m h old.1 ∙ old.0, done-later (Begun m) e (later ++ Begin m t w ∷ J) old.1)
+      (held-later (later ++ Begin m t w ∷ J) e m h old.1 ∙ old.0, happened-later (Begun m) e (later ++ Begin m t w ∷ J) old.1)
 
 pub buffers-held : HoldsOfAtomic BuffersAreHeld
 buffers-held script rules J h = λ m t w later before e. ap (λ L. (values script rules L).held m) e ∙ (held-all script rules later before m t w (subst (Atomic script rules) e h)).0

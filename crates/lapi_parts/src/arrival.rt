@@ -1,7 +1,7 @@
 //! What the packets handed over on a link tell.
-ghost use Rattle.lapi_base.specs.Landing.{DeliveriesWrite, DeliveriesAnnounce};
-ghost use Rattle.lapi_base.specs.Receiving.{AcksAreTold, NextAcksAreTold, ArrivalsAreTold, RepeatsAreKnown, PacketsAreInReach, FewAreThereInPart};
-ghost use Rattle.lapi_base.specs.Seen.{HoldsOfRecords};
+ghost use Rattle.lapi_base.specs.Laws.Landing.{DeliveriesWrite, DeliveriesAnnounce};
+ghost use Rattle.lapi_base.specs.Laws.Receiving.{AcksAreTold, NextAcksAreTold, ArrivalsAreTold, RepeatsAreKnown, PacketsAreInReach, FewAreThereInPart};
+ghost use Rattle.lapi_base.specs.Record.WorldView.{HoldsOfRecords};
 
 /// The acknowledgement is told by the packets handed over, and the events of an arrival by them and the packet. A
 /// packet whose number was handed over before was itself handed over.

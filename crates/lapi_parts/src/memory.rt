@@ -1,7 +1,7 @@
 //! The bytes that come to a task, and what they leave in its memory.
-ghost use Rattle.lapi_base.specs.Headline.{HoldsOfAtomic};
-ghost use Rattle.lapi_base.specs.Landing.{CarriedHaveLength, AllAreBytes, BuffersAreHeld, BytesComeWhole, LandedAreWhole, OthersWriteNothing, StoresWrite, LandingsWrite, EndsWrite};
-ghost use Rattle.lapi_base.specs.Seen.{HoldsOfRecords};
+ghost use Rattle.lapi_base.specs.Laws.Headline.{HoldsOfAtomic};
+ghost use Rattle.lapi_base.specs.Laws.Landing.{CarriedHaveLength, AllAreBytes, BuffersAreHeld, BytesComeWhole, LandedAreWhole, OthersWriteNothing, StoresWrite, LandingsWrite, EndsWrite};
+ghost use Rattle.lapi_base.specs.Record.WorldView.{HoldsOfRecords};
 
 /// The payloads of a message whose fragments are all there are its bytes, in order; what has landed came whole.
 pub fn messages_come_whole()

@@ -1,6 +1,6 @@
 //! What one task's part of a record tells.
-ghost use Rattle.lapi_base.specs.ByPart.{SameStatements, SameLinks, SameJobs, SameMemory, IsToldByPart, ActsAlike, OthersStay, EventsAreOwn};
-ghost use Rattle.lapi_base.specs.Seen.{HoldsOfRecords};
+ghost use Rattle.lapi_base.specs.Laws.Locality.{SameStatements, SameLinks, SameJobs, SameMemory, IsToldByPart, ActsAlike, OthersStay, EventsAreOwn};
+ghost use Rattle.lapi_base.specs.Record.WorldView.{HoldsOfRecords};
 
 /// Two records with the same part at a task tell the same of its statements, of the links from it and what a poll or
 /// a tick sends on them, of its jobs with their buffers, and of its memory.

@@ -1,6 +1,6 @@
 //! What a task may rely on of a packet that comes in.
-ghost use Rattle.lapi_base.specs.Receiving.{AcksCoverSent, PacketsFitScript, HeadsAgree, NewAreOpen, NewHaveRoom};
-ghost use Rattle.lapi_base.specs.Seen.{HoldsOfRecords};
+ghost use Rattle.lapi_base.specs.Laws.Receiving.{AcksCoverSent, PacketsFitScript, HeadsAgree, NewAreOpen, NewHaveRoom};
+ghost use Rattle.lapi_base.specs.Record.WorldView.{HoldsOfRecords};
 
 /// An acknowledgement covers numbers alone that were sent. A data packet keeps to the script, and its head and length
 /// are those of its message's packets that came before.

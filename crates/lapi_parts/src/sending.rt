@@ -1,6 +1,6 @@
 //! What a task may rely on of the numbers that it sends.
-ghost use Rattle.lapi_base.specs.Seen.{HoldsOfRecords};
-ghost use Rattle.lapi_base.specs.Sending.{SentAreFront, SentAreNumbers, AckedAreSent, SentHaveBound, PollsSendNext};
+ghost use Rattle.lapi_base.specs.Record.WorldView.{HoldsOfRecords};
+ghost use Rattle.lapi_base.specs.Laws.Sending.{SentAreFront, SentAreNumbers, AckedAreSent, SentHaveBound, PollsSendNext};
 
 /// The numbers of a link go out in order: with a number all below it were sent. Each is a number of the link, and what
 /// was acknowledged was sent.

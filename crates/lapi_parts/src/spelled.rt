@@ -1,6 +1,6 @@
 //! The spellings of the packets on the wires of a record.
-ghost use Rattle.lapi_base.specs.Entries.{PacketsArePlaced, PacketsAreSpelled, PacketsAreWritten};
-ghost use Rattle.lapi_base.specs.Seen.{HoldsOfRecords};
+ghost use Rattle.lapi_base.specs.Laws.Entries.{PacketsArePlaced, PacketsAreSpelled, PacketsAreWritten};
+ghost use Rattle.lapi_base.specs.Record.WorldView.{HoldsOfRecords};
 
 /// Each packet on a wire goes from the wire's one end to its other, so none reaches another task than its own. On a wire
 /// of a valid script it has a spelling: the bytes that are written for it.

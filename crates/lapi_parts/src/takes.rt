@@ -1,5 +1,5 @@
 //! The lines that a world takes, and the record of them.
-ghost use Rattle.lapi_base.specs.Takes.{BeginsEmpty, TakesOneMore, TakesAll, TakesValid, StartIsRecord, RecordsGoOn, TakenIsRecord};
+ghost use Rattle.lapi_base.specs.Laws.LinesTaken.{BeginsEmpty, TakesOneMore, TakesAll, TakesValid, StartIsRecord, RecordsGoOn, TakenIsRecord};
 
 /// A world that took no line has the empty record, each line taken adds what its act does, and all lines taken in
 /// order have the record of the whole schedule. The acts of a valid schedule's lines are valid, whichever are taken.

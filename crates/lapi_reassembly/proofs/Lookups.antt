@@ -7,7 +7,7 @@ use Rattle.std.proofs.lemmas.List.{length-map}
 use Rattle.std.proofs.lemmas.List.Sums.{sum_by-cons}
 use Rattle.slab.specs.Slab.{Slab, get, values, HasRoomFor, Updates}
 use Rattle.lapi_base.specs.declared.message.MsgName.{MsgName}
-use Rattle.lapi_base.specs.Names.{name_eq}
+use Rattle.lapi_base.specs.Record.Names.{name_eq}
 use Rattle.lapi_base.proofs.NameLaws.{name_eq-false, name_eq-refl, name_eq-true}
 use Rattle.lapi_reassembly.specs.Partial.{Gathered}
 use Rattle.lapi_reassembly.specs.Partials.{found, HasRoom, NamesDiffer, IsGathering}

@@ -13,7 +13,7 @@ use Rattle.std.proofs.lemmas.Grind.{flat_map-append, get_or-set_at}
 use Rattle.std.proofs.lemmas.Nat.Bits.{bit_at_set_same, bit_at_set_other, bit_at-zero}
 use Rattle.std.proofs.lemmas.Nat.{or_lt}
 use Rattle.std.proofs.Math.Seq.{take-add}
-use Rattle.lapi_base.specs.Fragments.{fragments_in, fragment_length, fragment_bytes}
+use Rattle.lapi_base.specs.Record.Fragments.{fragments_in, fragment_length, fragment_bytes}
 use Rattle.lapi_base.proofs.BitLaws.{IsRun, one_bit, no_bit}
 use Rattle.lapi_reassembly.specs.Partial.{IsUnit, IsPartial, fragments_of}
 use Rattle.lapi_reassembly.proofs.Chunks.{written, length-written, part_there, chunk_before, chunk_after}

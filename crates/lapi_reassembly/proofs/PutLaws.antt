@@ -7,7 +7,7 @@ use Rattle.lapi_base.specs.declared.message.MsgName.{MsgName}
 use Rattle.lapi_base.specs.declared.head.Head.{Head}
 use Rattle.lapi_base.specs.declared.handler.HeaderOut.{HeaderOut}
 use Rattle.lapi_reassembly.specs.declared.put.Put.{Put}
-use Rattle.lapi_base.specs.Fragments.{fragments_in, fragment_length, IsPayload}
+use Rattle.lapi_base.specs.Record.Fragments.{fragments_in, fragment_length, IsPayload}
 use Rattle.lapi_reassembly.specs.Partial.{Gathered, nothing_of, with_fragment, is_whole}
 use Rattle.lapi_reassembly.specs.Partials.{Gathering, found, partial, is_there, HasRoom, Agrees, gathered, put_of, kept_of, IsGathering}
 use Rattle.lapi_reassembly.proofs.Lookups.{NoneAt, Renewed, renewed_held, renewed_absent, found_none, found_at, same_some, room_for_one}

@@ -5,7 +5,7 @@ use Rattle.std.specs.List.{range_with_len, list_all, flat_map}
 use Rattle.lapi_base.specs.declared.message.MsgName.{MsgName}
 use Rattle.lapi_base.specs.declared.head.Head.{Head}
 use Rattle.lapi_base.specs.declared.handler.HeaderOut.{HeaderOut}
-use Rattle.lapi_base.specs.Fragments.{fragments_in, fragment_bytes}
+use Rattle.lapi_base.specs.Record.Fragments.{fragments_in, fragment_bytes}
 use Rattle.lapi_reassembly.specs.declared.message.Message.{Message}
 
 -- a message's name, head and length, the payload of each fragment but the last, the payloads that have come, by

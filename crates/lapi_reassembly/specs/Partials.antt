@@ -4,7 +4,7 @@ use Rattle.std.specs.List.{AllByRecursion, IsDistinct}
 use Rattle.slab.specs.Slab.{Slab, get}
 use Rattle.lapi_base.specs.declared.message.MsgName.{MsgName}
 use Rattle.lapi_base.specs.declared.head.Head.{Head}
-use Rattle.lapi_base.specs.Names.{name_eq}
+use Rattle.lapi_base.specs.Record.Names.{name_eq}
 use Rattle.lapi_reassembly.specs.Partial.{Gathered, IsUnit, nothing_of, fragment, with_fragment, is_whole, message}
 use Rattle.lapi_reassembly.specs.declared.put.Put.{Put}
 use Rattle.lapi_reassembly.specs.declared.put.Put.TheVariants.{First, More, Whole, FirstWhole}

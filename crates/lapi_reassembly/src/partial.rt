@@ -1,5 +1,5 @@
 ghost use Rattle.std.specs.Prelude.{◌≡◌, ◌⊎◌, ℕ, ◌+◌, ◌*◌, ◌<◌, ◌≤◌, ◌↔◌, true, IsTrue, IfOk, Some, length, take, drop, ◌++◌};
-ghost use Rattle.lapi_base.specs.Fragments.{fragments_in, fragment_length};
+ghost use Rattle.lapi_base.specs.Record.Fragments.{fragments_in, fragment_length};
 ghost use Rattle.lapi_reassembly.specs.Partial.{IsPartial, nothing_of, with_fragment, is_whole, message};
 
 use crate::head_copy::copy_of;

@@ -1,7 +1,7 @@
 ghost use Rattle.std.specs.Prelude.{◌≡◌, ◌≢◌, ◌⊎◌, ℕ, ◌+◌, ◌*◌, ◌<◌, ◌≤◌, true, false, IfOk, IfSome, IfNone, OnOk, OnErr, Some, None, [], length};
 ghost use Rattle.slab.specs.Slab.{get, ContainsKey, HasRoomFor, Updates};
 ghost use Rattle.lapi_base.specs.declared.message.MsgName.{MsgName as Name};
-ghost use Rattle.lapi_base.specs.Fragments.{fragments_in, fragment_length, IsPayload};
+ghost use Rattle.lapi_base.specs.Record.Fragments.{fragments_in, fragment_length, IsPayload};
 ghost use Rattle.lapi_reassembly.specs.Partial.{Gathered, IsUnit, nothing_of, with_fragment, is_whole, message};
 ghost use Rattle.lapi_reassembly.specs.Partials.{partial, is_there, HasRoom, Agrees, IsMissing, gathered, put_of, kept_of};
 

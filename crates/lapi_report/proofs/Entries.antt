@@ -2,9 +2,9 @@
 use Rattle.std.proofs.Common.{◌≡◌, ℕ, ◌+◌, ◌<◌, List, ◌++◌, length, drop, get_or, sym, ap, ◌∙◌, subst, Option}
 use Rattle.std.proofs.lemmas.List.{drop_more}
 use Rattle.std.specs.Io.KnownBytes.{Appends}
-use Rattle.lapi_base.specs.WireText.{entry_line, entry_lines}
+use Rattle.lapi_base.specs.Output.WireText.{entry_line, entry_lines}
 use Rattle.lapi_io.specs.Writes.{AppendsFront}
-use Rattle.lapi_report.specs.Written.{Progress}
+use Rattle.lapi_report.specs.SinkWrites.{Progress}
 use Rattle.lapi_report.proofs.Progress.{goes_on, stops}
 
 next_entry : (a b k : ℕ) (entries : List (List ℕ)) (entry : List ℕ) → k < length entries → entry ≡ get_or entries k entry

@@ -6,7 +6,7 @@ use Rattle.std.specs.List.{flat_map}
 use Rattle.std.specs.Io.KnownBytes.{Appends}
 use Rattle.lapi_base.proofs.Appended.{appended_twice, nothing_appended}
 use Rattle.lapi_io.specs.Writes.{AppendsFront, Wrote}
-use Rattle.lapi_report.specs.Written.{Progress, WroteUpTo}
+use Rattle.lapi_report.specs.SinkWrites.{Progress, WroteUpTo}
 
 pub starts : (old : Option (List ℕ)) (text : List ℕ) → Progress old old text text
 starts old text = record { front = []; appended = nothing_appended old; whole = refl }

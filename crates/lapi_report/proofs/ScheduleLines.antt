@@ -5,7 +5,7 @@ use Rattle.std.specs.Fmt.{decimal}
 use Rattle.lapi_base.specs.declared.schedule.Line.{Line}
 use Rattle.lapi_base.specs.declared.schedule.Act.{Act}
 use Rattle.lapi_base.specs.declared.schedule.Act.TheVariants.{Step, Poll, Tick, Deliver, Cut, Inject}
-use Rattle.lapi_base.specs.Rows.{act_row, line_row, row_line}
+use Rattle.lapi_base.specs.Input.Rows.{act_row, line_row, row_line}
 
 act_after : (line : Line) (act : Act) → row_line (line_row (record line { act = act })) ≡ (decimal line.lane ++ codes " ") ++ row_line (act_row act)
 act_after line (Step t) = sym (append_assoc (decimal line.lane) (codes " ") (row_line (act_row (Step t))))

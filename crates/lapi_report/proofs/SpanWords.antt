@@ -4,7 +4,7 @@ use Rattle.std.proofs.lemmas.List.{append-nil}
 use Rattle.std.specs.Prelude.{codes}
 use Rattle.std.specs.List.{flat_map}
 use Rattle.lapi_base.specs.declared.span.Span.{Span}
-use Rattle.lapi_base.specs.PacketText.{span_word, spans_word}
+use Rattle.lapi_base.specs.Output.PacketText.{span_word, spans_word}
 
 pub words_from_first : (first : Span) (others : List Span) → spans_word (first ∷ others) ≡ span_word first ++ flat_map (λ (span : Span). codes "," ++ span_word span) others
 words_from_first first [] = sym (append-nil (span_word first))

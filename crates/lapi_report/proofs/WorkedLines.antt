@@ -13,11 +13,11 @@ use Rattle.lapi_base.specs.declared.reply.Reply.TheVariants.{Did, Blocked, Absen
 use Rattle.lapi_base.specs.declared.event.Event.TheVariants as events
 use Rattle.lapi_base.specs.declared.schedule.Act.{Act}
 use Rattle.lapi_base.specs.declared.schedule.Act.TheVariants.{Poll, Tick, Deliver, Cut, Inject, Begin, End}
-use Rattle.lapi_base.specs.Below.{below}
-use Rattle.lapi_base.specs.Operations.{upto}
-use Rattle.lapi_base.specs.JournalText.{event_line}
-use Rattle.lapi_base.specs.TraceText.{trace_line}
-use Rattle.lapi_base.specs.ReportText.{statements_text, memory_text}
+use Rattle.lapi_base.specs.Record.Below.{below}
+use Rattle.lapi_base.specs.Record.Operations.{numbers_below}
+use Rattle.lapi_base.specs.Output.JournalText.{event_line}
+use Rattle.lapi_base.specs.Output.TraceText.{trace_line}
+use Rattle.lapi_base.specs.Output.ReportText.{statements_text, memory_text}
 
 abbrev message : Leg → MsgName
 message leg = record { origin = 0; statement = 1; leg = leg }
@@ -87,10 +87,10 @@ worker_done = refl
 
 -- what was refused and what was read stand in one list, by their statements
 refused_and_read : statements_text 1 5 ((0, NoTable) ∷ (3, StrideBelowBlock) ∷ []) ((2, 5) ∷ (4, 18446744073709551615) ∷ []) ≡ codes "refused 1 0 6 NoTable\nread 1 2 5\nrefused 1 3 11 StrideBelowBlock\nread 1 4 18446744073709551615\n"
-unfolding digits upto below
+unfolding digits numbers_below below
 refused_and_read = refl
 
 -- rows of zeros are left out, and the last row may be short
 rows_of_68_bytes : memory_text 1 (replicate 16 0 ++ 0x61 ∷ replicate 50 0 ++ 1 ∷ []) ≡ codes "memory 1 0010 61000000000000000000000000000000\nmemory 1 0040 00000001\n"
-unfolding digits encode_with upto below
+unfolding digits encode_with numbers_below below
 rows_of_68_bytes = refl

@@ -2,8 +2,8 @@
 
 ghost use Rattle.std.specs.Prelude.{◌≡◌, ◌≤◌, ◌+◌, ◌++◌, length, codes};
 ghost use Rattle.std.specs.Fmt.{decimal};
-ghost use Rattle.lapi_base.specs.Rows.{act_row, row_line};
-ghost use Rattle.lapi_report.specs.Written.{WritesUpTo};
+ghost use Rattle.lapi_base.specs.Input.Rows.{act_row, row_line};
+ghost use Rattle.lapi_report.specs.SinkWrites.{WritesUpTo};
 
 use crate::text_line::TextLine;
 use lapi_base::{Act, Bytes};

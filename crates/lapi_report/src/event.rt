@@ -1,8 +1,8 @@
 //! The lines of a journal.
 
 ghost use Rattle.std.specs.Prelude.{◌≡◌, ◌≤◌, ◌+◌, ◌++◌, length, codes};
-ghost use Rattle.lapi_base.specs.JournalText.{event_line};
-ghost use Rattle.lapi_base.specs.TextParts.{dotted, message_text};
+ghost use Rattle.lapi_base.specs.Output.JournalText.{event_line};
+ghost use Rattle.lapi_base.specs.Output.TextParts.{dotted, message_text};
 
 use crate::parts::{add_dotted, add_message, add_refusal};
 use crate::text_line::TextLine;

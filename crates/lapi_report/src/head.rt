@@ -3,10 +3,10 @@
 ghost use Rattle.std.specs.Prelude.{◌≡◌, ◌≤◌, ◌+◌, ◌*◌, ◌++◌, length, codes};
 ghost use Rattle.std.specs.List.{flat_map};
 ghost use Rattle.std.specs.Fmt.{decimal};
-ghost use Rattle.lapi_base.specs.PacketText.{note_name, head_name, head_text, span_word, spans_word};
+ghost use Rattle.lapi_base.specs.Output.PacketText.{note_name, head_name, head_text, span_word, spans_word};
 ghost use Rattle.lapi_base.specs.declared.span.Span.{Span};
-ghost use Rattle.lapi_base.specs.Rows.{operation_word};
-ghost use Rattle.lapi_base.specs.TextParts.{counter_word};
+ghost use Rattle.lapi_base.specs.Input.Rows.{operation_word};
+ghost use Rattle.lapi_base.specs.Output.TextParts.{counter_word};
 
 use crate::text_line::TextLine;
 use lapi_base::{Head, NoteOp, RmwOp, Span, Spans, UserHeader};

@@ -2,7 +2,7 @@
 
 ghost use Rattle.std.specs.Prelude.{◌≡◌, ◌==◌, ◌*◌, ◌≤◌, length, take, drop};
 ghost use Rattle.std.specs.List.{list_all};
-ghost use Rattle.lapi_base.specs.ReportText.{row_text, memory_text};
+ghost use Rattle.lapi_base.specs.Output.ReportText.{memory_row_text, memory_text};
 ghost use Rattle.lapi_io.specs.Writes.{Writes};
 
 use crate::text_line::TextLine;
@@ -44,7 +44,7 @@ fn write_row<K: Sink>(
     sink: &mut K,
 ) -> Result<(), Failed>
     requires { length row.now ≤ 16 }
-    ensures { Writes K.held K.faults K.room sink.old sink.new (row_text t at row.now) result }
+    ensures { Writes K.held K.faults K.room sink.old sink.new (memory_row_text t at row.now) result }
 {
     if is_zero(row) {
         return Ok(());

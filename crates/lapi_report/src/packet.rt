@@ -1,5 +1,5 @@
 ghost use Rattle.std.specs.Prelude.{◌≡◌, ◌≤◌, length, IfErr};
-ghost use Rattle.lapi_base.specs.PacketText.{data_front, packet_line, bad_line, packet_text};
+ghost use Rattle.lapi_base.specs.Output.PacketText.{data_front, packet_line, bad_line, packet_text};
 ghost use Rattle.lapi_io.specs.Writes.{Writes};
 
 use crate::head::{add_head, head_name};
@@ -10,7 +10,7 @@ use lapi_io::Sink;
 use lapi_packet::decode;
 
 /// Writes the fields of the packet that the bytes spell, or why they spell none. It takes no memory.
-#[tactic(auto, unfolding(lapi_base::specs::PacketText::packet_text))]
+#[tactic(auto, unfolding(lapi_base::specs::Output::PacketText::packet_text))]
 pub fn write_packet<K: Sink>(bytes: &[u8], sink: &mut K) -> Result<(), WriteFault>
     ensures written { Writes K.held K.faults K.room sink.old sink.new (packet_text bytes.now) result }
     ensures only_failed { IfErr result (λ fault. fault ≡ WriteFault.Failed) }
@@ -21,7 +21,7 @@ pub fn write_packet<K: Sink>(bytes: &[u8], sink: &mut K) -> Result<(), WriteFaul
     Ok(())
 }
 
-#[tactic(auto, unfolding(lapi_base::specs::PacketText::packet_text))]
+#[tactic(auto, unfolding(lapi_base::specs::Output::PacketText::packet_text))]
 fn fill(bytes: &[u8], line: &mut TextLine)
     ensures { line.new ≡ packet_text bytes.now }
 {

@@ -1,7 +1,7 @@
 //! What several lines have in common.
 
 ghost use Rattle.std.specs.Prelude.{◌≡◌, ◌≤◌, ◌+◌, ◌++◌, length};
-ghost use Rattle.lapi_base.specs.TextParts.{dotted, leg_text, message_text, refusal_number, refusal_name, refusal_text, reason_number, reason_name};
+ghost use Rattle.lapi_base.specs.Output.TextParts.{dotted, leg_text, message_text, refusal_number, refusal_name, refusal_text, reason_number, reason_name};
 
 use crate::text_line::TextLine;
 use lapi_base::{Leg, MsgName, Reason, Refusal};

@@ -1,8 +1,8 @@
 ghost use Rattle.std.specs.Prelude.{◌≡◌, false, length, IfErr};
 ghost use Rattle.std.specs.List.{flat_map};
-ghost use Rattle.lapi_base.specs.Operations.{upto};
-ghost use Rattle.lapi_base.specs.ReportText.{totals_text, task_text, quiet_line, report_text};
-ghost use Rattle.lapi_base.specs.Seen.{seen_record};
+ghost use Rattle.lapi_base.specs.Record.Operations.{numbers_below};
+ghost use Rattle.lapi_base.specs.Output.ReportText.{totals_text, task_text, quiet_line, report_text};
+ghost use Rattle.lapi_base.specs.Record.WorldView.{view_record};
 ghost use Rattle.lapi_io.specs.Writes.{Writes};
 
 use crate::task::write_task;
@@ -16,18 +16,18 @@ use lapi_world::World;
 pub fn write_report<K: Sink>(world: &World, sink: &mut K) -> Result<(), WriteFault>
     requires { world.now.spent ≡ false }
     ensures written { Writes K.held K.faults K.room sink.old sink.new
-        (report_text world.now.script world.now.rules (seen_record world.now) (length world.now.taken)) result }
+        (report_text world.now.script world.now.rules (view_record world.now) (length world.now.taken)) result }
     ensures only_failed { IfErr result (λ fault. fault ≡ WriteFault.Failed) }
 {
     write_parts(world, sink)?;
     Ok(())
 }
 
-#[tactic(auto, unfolding(lapi_base::specs::ReportText::report_text))]
+#[tactic(auto, unfolding(lapi_base::specs::Output::ReportText::report_text))]
 fn write_parts<K: Sink>(world: &World, sink: &mut K) -> Result<(), Failed>
     requires { world.now.spent ≡ false }
     ensures { Writes K.held K.faults K.room sink.old sink.new
-        (report_text world.now.script world.now.rules (seen_record world.now) (length world.now.taken)) result }
+        (report_text world.now.script world.now.rules (view_record world.now) (length world.now.taken)) result }
 {
     write_totals(world, sink)?;
     write_tasks(world, sink)?;
@@ -37,7 +37,7 @@ fn write_parts<K: Sink>(world: &World, sink: &mut K) -> Result<(), Failed>
 fn write_totals<K: Sink>(world: &World, sink: &mut K) -> Result<(), Failed>
     requires { world.now.spent ≡ false }
     ensures { Writes K.held K.faults K.room sink.old sink.new
-        (totals_text (length world.now.taken) (length (seen_record world.now).journal)) result }
+        (totals_text (length world.now.taken) (length (view_record world.now).journal)) result }
 {
     let mut line = TextLine::new();
     line.begin("lines ");
@@ -51,7 +51,7 @@ fn write_totals<K: Sink>(world: &World, sink: &mut K) -> Result<(), Failed>
 fn write_tasks<K: Sink>(world: &World, sink: &mut K) -> Result<(), Failed>
     requires { world.now.spent ≡ false }
     ensures { Writes K.held K.faults K.room sink.old sink.new
-        (flat_map (task_text world.now.script world.now.rules (seen_record world.now)) (upto world.now.script.tasks))
+        (flat_map (task_text world.now.script world.now.rules (view_record world.now)) (numbers_below world.now.script.tasks))
         result }
 {
     for t in 0..world.script().tasks {

@@ -2,12 +2,12 @@
 
 ghost use Rattle.std.specs.Prelude.{◌≡◌, ◌<◌, false, length};
 ghost use Rattle.std.specs.List.{flat_map};
-ghost use Rattle.lapi_base.specs.Counters.{reads};
-ghost use Rattle.lapi_base.specs.Jobs.{queue, busy};
-ghost use Rattle.lapi_base.specs.Operations.{statements};
-ghost use Rattle.lapi_base.specs.Refusals.{next, refusals};
-ghost use Rattle.lapi_base.specs.ReportText.{task_line, refused_if, read_if, statement_text, statements_text, counter_text, counters_text, task_text};
-ghost use Rattle.lapi_base.specs.Seen.{seen_record};
+ghost use Rattle.lapi_base.specs.Record.Counters.{reads};
+ghost use Rattle.lapi_base.specs.Record.Jobs.{queue, busy};
+ghost use Rattle.lapi_base.specs.Record.Operations.{statements};
+ghost use Rattle.lapi_base.specs.Record.Refusals.{next, refusals};
+ghost use Rattle.lapi_base.specs.Output.ReportText.{task_line, refused_if, read_if, statement_text, statements_text, counter_text, counters_text, task_text};
+ghost use Rattle.lapi_base.specs.Record.WorldView.{view_record};
 ghost use Rattle.lapi_io.specs.Writes.{Writes};
 
 use crate::memory::write_memory;
@@ -18,12 +18,12 @@ use lapi_io::{Failed, Sink};
 use lapi_memory::TaskMemory;
 use lapi_world::World;
 
-#[tactic(auto, unfolding(lapi_base::specs::ReportText::task_text))]
+#[tactic(auto, unfolding(lapi_base::specs::Output::ReportText::task_text))]
 pub(crate) fn write_task<K: Sink>(world: &World, t: u32, sink: &mut K) -> Result<(), Failed>
     requires spent { world.now.spent ≡ false }
     requires task { t < world.now.script.tasks }
     ensures { Writes K.held K.faults K.room sink.old sink.new
-        (task_text world.now.script world.now.rules (seen_record world.now) t) result }
+        (task_text world.now.script world.now.rules (view_record world.now) t) result }
 {
     write_standing(world, t, sink)?;
     write_statements(world, t, sink)?;
@@ -53,7 +53,7 @@ fn statement_count(script: &Script, t: u32) -> usize
 fn write_standing<K: Sink>(world: &World, t: u32, sink: &mut K) -> Result<(), Failed>
     requires spent { world.now.spent ≡ false }
     requires task { t < world.now.script.tasks }
-    ensures { let J = (seen_record world.now).journal in
+    ensures { let J = (view_record world.now).journal in
         Writes K.held K.faults K.room sink.old sink.new
         (task_line t (next J t) (length (statements world.now.script t))
         (length (queue world.now.script world.now.rules J t)) (length (busy world.now.script J t))) result }
@@ -78,7 +78,7 @@ fn write_standing<K: Sink>(world: &World, t: u32, sink: &mut K) -> Result<(), Fa
 fn write_statements<K: Sink>(world: &World, t: u32, sink: &mut K) -> Result<(), Failed>
     requires spent { world.now.spent ≡ false }
     requires task { t < world.now.script.tasks }
-    ensures { let J = (seen_record world.now).journal in
+    ensures { let J = (view_record world.now).journal in
         Writes K.held K.faults K.room sink.old sink.new
         (statements_text t (length (statements world.now.script t)) (refusals J t)
         (reads world.now.script world.now.rules J t)) result }
@@ -172,7 +172,7 @@ fn write_counters<K: Sink>(world: &World, t: u32, sink: &mut K) -> Result<(), Fa
     requires spent { world.now.spent ≡ false }
     requires task { t < world.now.script.tasks }
     ensures { Writes K.held K.faults K.room sink.old sink.new
-        (counters_text world.now.script world.now.rules (seen_record world.now) t) result }
+        (counters_text world.now.script world.now.rules (view_record world.now) t) result }
 {
     let task = world.task(t);
     let mut line = TextLine::new();

@@ -1,9 +1,9 @@
 ghost use Rattle.std.specs.Prelude.{◌≡◌, ◌≤◌, ◌+◌, ◌*◌, [], ◌++◌, length};
 ghost use Rattle.std.specs.Fmt.{decimal};
 ghost use Rattle.hex.specs.Hex.{encode_lower};
-ghost use Rattle.lapi_base.specs.TextParts.{counter_word, hex_word};
+ghost use Rattle.lapi_base.specs.Output.TextParts.{counter_word, hex_word};
 ghost use Rattle.lapi_io.specs.Writes.{Writes};
-ghost use Rattle.lapi_report.specs.Written.{WritesUpTo};
+ghost use Rattle.lapi_report.specs.SinkWrites.{WritesUpTo};
 
 use arrayvec::ArrayVec;
 use itoa::Buffer;

@@ -1,6 +1,6 @@
 ghost use Rattle.std.specs.Prelude.{◌≡◌, ◌≤◌, ◌+◌, ◌++◌, false, length, IfErr};
-ghost use Rattle.lapi_base.specs.Seen.{seen_record};
-ghost use Rattle.lapi_base.specs.TraceText.{reply_text, trace_line, taken_text, trace_text};
+ghost use Rattle.lapi_base.specs.Record.WorldView.{view_record};
+ghost use Rattle.lapi_base.specs.Output.TraceText.{reply_text, trace_line, taken_text, trace_text};
 ghost use Rattle.lapi_io.specs.Writes.{Writes};
 
 use crate::act::add_act;
@@ -14,7 +14,7 @@ use lapi_world::World;
 pub fn write_trace<K: Sink>(world: &World, sink: &mut K) -> Result<(), WriteFault>
     requires { world.now.spent ≡ false }
     ensures written { Writes K.held K.faults K.room sink.old sink.new
-        (trace_text world.now.schedule world.now.taken (seen_record world.now).replies) result }
+        (trace_text world.now.schedule world.now.taken (view_record world.now).replies) result }
     ensures only_failed { IfErr result (λ fault. fault ≡ WriteFault.Failed) }
 {
     match write_lines(world.schedule(), world.taken(), world.replies(), sink) {
@@ -23,7 +23,7 @@ pub fn write_trace<K: Sink>(world: &World, sink: &mut K) -> Result<(), WriteFaul
     }
 }
 
-#[tactic(auto, unfolding(lapi_base::specs::TraceText::trace_text))]
+#[tactic(auto, unfolding(lapi_base::specs::Output::TraceText::trace_text))]
 pub(crate) fn write_lines<K: Sink>(
     schedule: &[Line],
     taken: &[u32],

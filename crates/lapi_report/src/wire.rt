@@ -1,7 +1,7 @@
 ghost use Rattle.std.specs.Prelude.{◌≡◌, ◌<◌, ◌≤◌, ◌++◌, length, codes, false, IfErr};
 ghost use Rattle.std.specs.Fmt.{decimal};
-ghost use Rattle.lapi_base.specs.Seen.{seen_record};
-ghost use Rattle.lapi_base.specs.WireText.{entry_line, entry_lines, wires_from_text, wire_text};
+ghost use Rattle.lapi_base.specs.Record.WorldView.{view_record};
+ghost use Rattle.lapi_base.specs.Output.WireText.{entry_line, entry_lines, wires_from_text, wire_text};
 ghost use Rattle.lapi_io.specs.Writes.{Writes};
 
 use crate::text_line::TextLine;
@@ -13,18 +13,18 @@ use lapi_world::World;
 pub fn write_wire<K: Sink>(world: &World, sink: &mut K) -> Result<(), WriteFault>
     requires { world.now.spent ≡ false }
     ensures written { Writes K.held K.faults K.room sink.old sink.new
-        (wire_text world.now.script (seen_record world.now)) result }
+        (wire_text world.now.script (view_record world.now)) result }
     ensures only_failed { IfErr result (λ fault. fault ≡ WriteFault.Failed) }
 {
     write_wires(world, sink)?;
     Ok(())
 }
 
-#[tactic(auto, unfolding(lapi_base::specs::WireText::wire_text))]
+#[tactic(auto, unfolding(lapi_base::specs::Output::WireText::wire_text))]
 fn write_wires<K: Sink>(world: &World, sink: &mut K) -> Result<(), Failed>
     requires { world.now.spent ≡ false }
     ensures { Writes K.held K.faults K.room sink.old sink.new
-        (wire_text world.now.script (seen_record world.now)) result }
+        (wire_text world.now.script (view_record world.now)) result }
 {
     for a in 0..world.script().tasks {
         write_wires_from(world, a, sink)?;
@@ -36,7 +36,7 @@ fn write_wires_from<K: Sink>(world: &World, a: u32, sink: &mut K) -> Result<(), 
     requires spent { world.now.spent ≡ false }
     requires task { a < world.now.script.tasks }
     ensures { Writes K.held K.faults K.room sink.old sink.new
-        (wires_from_text world.now.script (seen_record world.now) a) result }
+        (wires_from_text world.now.script (view_record world.now) a) result }
 {
     for b in 0..world.script().tasks {
         write_entries(a, b, world.wire(a, b), sink)?;

@@ -7,7 +7,7 @@ use Rattle.std.proofs.lemmas.Option.{cond_some}
 use Rattle.std.proofs.lemmas.Bool.Decides.{nat_tests}
 use Rattle.std.proofs.lemmas.List.{take-append-drop, length-take-le, length-append}
 use Rattle.std.proofs.lemmas.List.Folds.{list_all-append, list_any_none}
-use Rattle.lapi_base.specs.Lines.{is_clean}
+use Rattle.lapi_base.specs.Input.Lines.{is_clean}
 use Rattle.lapi_script.proofs.Splits.{none_there}
 
 first_behind : (p : ℕ → Bool) (front rest : List ℕ) → list_any p front ≡ false → position_or_len p (front ++ rest) ≡ length front + position_or_len p rest

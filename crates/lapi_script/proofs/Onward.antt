@@ -4,15 +4,15 @@ use Rattle.std.specs.Prelude.{IfOk}
 use Rattle.lapi_base.specs.declared.input.Input.{Input}
 use Rattle.lapi_base.specs.declared.input.ReadFault.{ReadFault}
 use Rattle.lapi_base.specs.declared.input.ReadFault.TheVariants as answers
-use Rattle.lapi_base.specs.declared.input.Why.{Why}
-use Rattle.lapi_base.specs.declared.input.Why.TheVariants.{Syntax, Limit}
-use Rattle.lapi_base.specs.Lines.{lines_of}
-use Rattle.lapi_base.specs.Rows.{Reads, IsFirstFault}
-use Rattle.lapi_base.specs.Reading.{State, Fault, after, read_from, read}
+use Rattle.lapi_base.specs.declared.input.LineError.{LineError}
+use Rattle.lapi_base.specs.declared.input.LineError.TheVariants.{Syntax, Limit}
+use Rattle.lapi_base.specs.Input.Lines.{lines_of}
+use Rattle.lapi_base.specs.Input.Rows.{IsInputText, IsFirstFault}
+use Rattle.lapi_base.specs.Input.Reading.{State, Fault, after, read_from, read}
 use Rattle.lapi_script.specs.declared.fault.LineFault.{LineFault}
 use Rattle.lapi_script.specs.declared.fault.LineFault.TheVariants as faults
 use Rattle.lapi_script.specs.Gives.{Fails}
-use Rattle.lapi_script.specs.Answers.{GivesInput, FaultIsFirst, FailsAt}
+use Rattle.lapi_script.specs.ReaderAnswers.{GivesInput, FaultIsFirst, FailsAt}
 
 -- after a line the next are read
 pub goes_on : (n : ℕ) (state next : State) (line : List ℕ) (lines more : List (List ℕ)) (all : Result Input Fault)
@@ -33,14 +33,14 @@ ends n (faults.Wrong (Limit which)) answer state line lines more all first faile
     rw at (sym so_far ∙ one)
 
 -- what reading gives is spelled so
-pub gives_found : (bytes : List ℕ) (r : Result Input ReadFault) → ((x : Input) → read bytes ≡ Ok x → Reads x bytes) → GivesInput r (read bytes) → IfOk r (λ x. Reads x bytes)
+pub gives_found : (bytes : List ℕ) (r : Result Input ReadFault) → ((x : Input) → read bytes ≡ Ok x → IsInputText x bytes) → GivesInput r (read bytes) → IfOk r (λ x. IsInputText x bytes)
 gives_found bytes (Ok x) law gives = law x gives
 gives_found bytes (Err e) law gives = tt
 
 pub gives_only : (x : Input) (bytes : List ℕ) (r : Result Input ReadFault) → read bytes ≡ Ok x → GivesInput r (read bytes) → GivesInput r (Ok x)
 gives_only x bytes r is gives = subst (λ a. GivesInput r a) is gives
 
-pub gives_first : (bytes : List ℕ) (r : Result Input ReadFault) → ((why : Why) (l : ℕ) → read bytes ≡ Err (why, l) → IsFirstFault (lines_of bytes) l) → GivesInput r (read bytes)
+pub gives_first : (bytes : List ℕ) (r : Result Input ReadFault) → ((why : LineError) (l : ℕ) → read bytes ≡ Err (why, l) → IsFirstFault (lines_of bytes) l) → GivesInput r (read bytes)
     → FaultIsFirst (lines_of bytes) r
 gives_first bytes (Ok x) law gives = tt
 gives_first bytes (Err answers.Memory) law gives = tt

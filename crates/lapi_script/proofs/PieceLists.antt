@@ -4,7 +4,7 @@ use Rattle.std.specs.Prelude.{option_map}
 use Rattle.std.proofs.lemmas.List.{length-append}
 use Rattle.lapi_base.specs.declared.address.Addr.{Addr}
 use Rattle.lapi_base.specs.declared.piece.Piece.{Piece}
-use Rattle.lapi_base.specs.Tokens.{piece_of, pieces_of}
+use Rattle.lapi_base.specs.Input.Tokens.{piece_of, pieces_of}
 use Rattle.lapi_base.specs.declared.vector.Vector.{Vector}
 use Rattle.lapi_script.specs.declared.pieces.Listed.{Listed}
 use Rattle.lapi_script.specs.declared.pieces.Listed.TheVariants.{Held, TooManyPieces}

@@ -7,7 +7,7 @@ use Rattle.std.proofs.lemmas.List.{drop-drop}
 use Rattle.std.proofs.lemmas.List.Splits.{slice_split_first, slice_split_none}
 use Rattle.std.proofs.lemmas.List.Sums.{fails_before_first}
 use Rattle.std.proofs.lemmas.Option.{cond_some, none-some}
-use Rattle.lapi_base.specs.Lines.{lines_of}
+use Rattle.lapi_base.specs.Input.Lines.{lines_of}
 
 cond_none : (b : Bool) (x : ℕ) → None ≡ cond b (Some x) None → b ≡ false
 cond_none true x e = absurd (none-some x e)

@@ -1,16 +1,16 @@
 -- A line that is a statement.
 use Rattle.std.proofs.Common.{◌≡◌, false, List, Result, Ok, Err, refl}
 use Rattle.std.proofs.lemmas.Bool.{true≢false}
-use Rattle.lapi_base.specs.declared.input.Why.{Why}
-use Rattle.lapi_base.specs.declared.input.Why.TheVariants.{Syntax, Limit}
+use Rattle.lapi_base.specs.declared.input.LineError.{LineError}
+use Rattle.lapi_base.specs.declared.input.LineError.TheVariants.{Syntax, Limit}
 use Rattle.lapi_base.specs.declared.input.Which.TheVariants as which
 use Rattle.lapi_base.specs.declared.statement.Statement.{Statement}
 use Rattle.lapi_base.specs.declared.statement.Statement.TheVariants.{Store, Put, Get, Putv, Getv, Rmw, Am, Wait, Set, Read, Fence, Gfence}
 use Rattle.lapi_base.specs.declared.script.Script.{Script}
-use Rattle.lapi_base.specs.Forms.{and_then}
-use Rattle.lapi_base.specs.Forms as forms
-use Rattle.lapi_base.specs.Built.{is_built_statement}
-use Rattle.lapi_base.specs.Reading.{keeps_pieces, on_first_task, on_task_line}
+use Rattle.lapi_base.specs.Input.Forms.{and_then}
+use Rattle.lapi_base.specs.Input.Forms as forms
+use Rattle.lapi_base.specs.Input.Built.{is_built_statement}
+use Rattle.lapi_base.specs.Input.Reading.{keeps_pieces, on_first_task, on_task_line}
 use Rattle.lapi_script.specs.declared.statements.ReadStatement.{ReadStatement}
 use Rattle.lapi_script.specs.declared.statements.ReadStatement.TheVariants as read_statement
 use Rattle.lapi_script.specs.declared.task_lines.TaskLine.{TaskLine}
@@ -18,7 +18,7 @@ use Rattle.lapi_script.specs.ReadLines.{HoldsStatement}
 use Rattle.lapi_script.specs.TaskLines.{HoldsTaskLine, IsDone, LineHasTooManyPieces}
 
 -- the line of a statement that is held, or has too many pieces
-pub does : (read : ReadStatement) (line : TaskLine) (reading : Result Statement Why) → HoldsStatement (Ok read) reading → IsDone read line
+pub does : (read : ReadStatement) (line : TaskLine) (reading : Result Statement LineError) → HoldsStatement (Ok read) reading → IsDone read line
     → HoldsTaskLine (Ok line) (and_then reading (λ s. Ok (forms.Does s)))
 does (read_statement.Held s) line reading holds is = rw (holds, is) refl
 does read_statement.TooManyPieces line (Ok s) holds is = rw is holds
@@ -41,13 +41,13 @@ too_many_pieces Fence many = refl
 too_many_pieces Gfence many = refl
 too_many_pieces (Statement.Addr at) many = refl
 
-pub too_many_pieces_first : (script : Script) (reading : Result forms.TaskLine Why) → LineHasTooManyPieces reading → and_then reading (on_first_task script) ≡ Err Syntax
+pub too_many_pieces_first : (script : Script) (reading : Result forms.TaskLine LineError) → LineHasTooManyPieces reading → and_then reading (on_first_task script) ≡ Err Syntax
 too_many_pieces_first script (Ok (forms.Does s)) many = refl
 too_many_pieces_first script (Ok (forms.Task t)) many = absurd many
 too_many_pieces_first script (Ok forms.Schedule) many = absurd many
 too_many_pieces_first script (Err why) many = absurd many
 
-pub too_many_pieces_line : (script : Script) (current : List Statement) (reading : Result forms.TaskLine Why) → LineHasTooManyPieces reading → and_then reading (on_task_line script current) ≡ Err (Limit which.Unbuilt)
+pub too_many_pieces_line : (script : Script) (current : List Statement) (reading : Result forms.TaskLine LineError) → LineHasTooManyPieces reading → and_then reading (on_task_line script current) ≡ Err (Limit which.Unbuilt)
 too_many_pieces_line script current (Ok (forms.Does s)) many = rw (too_many_pieces s many) refl
 too_many_pieces_line script current (Ok (forms.Task t)) many = absurd many
 too_many_pieces_line script current (Ok forms.Schedule) many = absurd many

@@ -14,8 +14,8 @@ use Rattle.lapi_base.specs.declared.schedule.Act.{Act}
 use Rattle.lapi_base.specs.declared.schedule.Act.TheVariants.{Step, Poll, Tick, Deliver, Cut, Inject}
 use Rattle.lapi_base.specs.declared.schedule.Line.{Line}
 use Rattle.lapi_base.specs.declared.script.Script.{Script}
-use Rattle.lapi_base.specs.Tokens.{piece_text, canonical, Counter}
-use Rattle.lapi_base.specs.Rows.{Part, row_line, row_text, task_row, task_rows, statement_row, head_row, sizes_row, schedule_row, done_row, act_row, line_row, canon}
+use Rattle.lapi_base.specs.Input.Tokens.{piece_text, canonical, Counter}
+use Rattle.lapi_base.specs.Input.Rows.{Column, row_line, row_text, task_row, task_rows, statement_row, head_row, sizes_row, schedule_row, done_row, act_row, line_row, canon}
 use Rattle.lapi_script.specs.Inputs.{input_of}
 use Rattle.lapi_script.specs.Operations.{operation_text}
 
@@ -52,7 +52,7 @@ rmw_text target Cas at in1 in2 prev org = simp append_assoc refl
 abbrev pub tasks_text : ℕ → List (List Statement) → List ℕ
 tasks_text t lists = flat_map row_text (task_rows t lists)
 
-flat_append : (a b : List (List Part)) → flat_map row_text (a ++ b) ≡ flat_map row_text a ++ flat_map row_text b
+flat_append : (a b : List (List Column)) → flat_map row_text (a ++ b) ≡ flat_map row_text a ++ flat_map row_text b
 flat_append [] b = refl
 flat_append (row ∷ a) b = ap (λ r. row_text row ++ r) (flat_append a b) ∙ sym (append_assoc (row_text row) (flat_map row_text a) (flat_map row_text b))
 
@@ -75,8 +75,8 @@ whole_text script schedule =
     let sizes = row_text (sizes_row script) in
     let tasks = task_rows 0 script.lists in
     let lines = map line_row schedule in
-    let last : List (List Part) = done_row ∷ [] in
-    let after : List (List Part) = schedule_row ∷ (lines ++ last) in
+    let last : List (List Column) = done_row ∷ [] in
+    let after : List (List Column) = schedule_row ∷ (lines ++ last) in
     let inner : flat_map row_text (tasks ++ after) ≡ flat_map row_text tasks ++ (codes "schedule\n" ++ (flat_map row_text lines ++ codes "done\n")) =
     flat_append tasks after ∙ ap (λ r. flat_map row_text tasks ++ (codes "schedule\n" ++ r)) (flat_append lines last) in
     ap (λ r. head ++ (sizes ++ r)) inner

@@ -3,9 +3,9 @@ use Rattle.std.specs.Prelude.{List}
 use Rattle.lapi_base.specs.declared.schedule.Line.{Line}
 use Rattle.lapi_base.specs.declared.script.Script.{Script}
 use Rattle.lapi_base.specs.declared.input.Input.{Input}
-use Rattle.lapi_base.specs.Spelling.{spells_packet}
-use Rattle.lapi_base.specs.Valid.{ValidScript, ValidSchedule}
-use Rattle.lapi_base.specs.Built.{IsBuilt}
+use Rattle.lapi_base.specs.Packet.Spelling.{spells_packet}
+use Rattle.lapi_base.specs.Record.Valid.{ValidScript, ValidSchedule}
+use Rattle.lapi_base.specs.Input.Built.{IsBuilt}
 
 abbrev pub input_of : Script → List Line → Input
 input_of script schedule = record { script = script; schedule = schedule }

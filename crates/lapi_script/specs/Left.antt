@@ -2,7 +2,7 @@
 use Rattle.std.specs.Prelude.{ℕ, ◌==◌, List, [], ◌∷◌, Option, Some, None}
 use Rattle.std.specs.Borrow.{Bor}
 use Rattle.std.specs.List.{slice_split}
-use Rattle.lapi_base.specs.Lines.{words_of}
+use Rattle.lapi_base.specs.Input.Lines.{words_of}
 
 -- the parts of what is left, if anything is
 abbrev pub parts_left : ℕ → Option (Bor (List ℕ)) → List (List ℕ)

@@ -6,6 +6,6 @@ pub mod Vectors
 pub mod ReadLines
 pub mod TaskLines
 pub mod States
-pub mod Answers
+pub mod ReaderAnswers
 pub mod Inputs
 pub mod Operations

@@ -4,8 +4,8 @@ use Rattle.std.specs.Fmt.{decimal}
 use Rattle.lapi_base.specs.declared.address.Addr.{Addr}
 use Rattle.lapi_base.specs.declared.statement.RmwOp.{RmwOp}
 use Rattle.lapi_base.specs.declared.statement.RmwOp.TheVariants.{Cas}
-use Rattle.lapi_base.specs.Tokens.{address_text}
-use Rattle.lapi_base.specs.Rows.{operation_word}
+use Rattle.lapi_base.specs.Input.Tokens.{address_text}
+use Rattle.lapi_base.specs.Input.Rows.{operation_word}
 
 -- a second operand behind a space, with a compare-and-swap alone
 abbrev pub second_text : RmwOp → ℕ → List ℕ

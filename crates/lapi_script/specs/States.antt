@@ -1,5 +1,5 @@
 -- What the reader's state stands for.
-use Rattle.lapi_base.specs.Reading.{State, First, Second, Start, Tasks, Lines, Finished}
+use Rattle.lapi_base.specs.Input.Reading.{State, First, Second, Start, Tasks, Lines, Finished}
 use Rattle.lapi_script.specs.declared.state.State.{State as Held}
 use Rattle.lapi_script.specs.declared.state.State.TheVariants as held
 

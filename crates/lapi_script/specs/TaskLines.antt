@@ -1,8 +1,8 @@
 -- The lines of tasks as they are held while they are read.
 use Rattle.std.specs.Prelude.{◌≡◌, false, Result, Ok, Err}
-use Rattle.lapi_base.specs.declared.input.Why.{Why}
-use Rattle.lapi_base.specs.Reading.{keeps_pieces}
-use Rattle.lapi_base.specs.Forms as forms
+use Rattle.lapi_base.specs.declared.input.LineError.{LineError}
+use Rattle.lapi_base.specs.Input.Reading.{keeps_pieces}
+use Rattle.lapi_base.specs.Input.Forms as forms
 use Rattle.lapi_script.specs.declared.fault.LineFault.{LineFault}
 use Rattle.lapi_script.specs.declared.statements.ReadStatement.{ReadStatement}
 use Rattle.lapi_script.specs.declared.statements.ReadStatement.TheVariants as read_statement
@@ -11,12 +11,12 @@ use Rattle.lapi_script.specs.declared.task_lines.TaskLine.TheVariants.{Task, Sch
 use Rattle.lapi_script.specs.Gives.{Fails}
 
 -- a statement with more pieces than a vector may have
-abbrev pub LineHasTooManyPieces : Result forms.TaskLine Why → Type 0
+abbrev pub LineHasTooManyPieces : Result forms.TaskLine LineError → Type 0
 LineHasTooManyPieces (Ok (forms.Does s)) = keeps_pieces s ≡ false
 LineHasTooManyPieces (Ok _) = ⊥
 LineHasTooManyPieces (Err why) = ⊥
 
-abbrev pub HoldsTaskLine : Result TaskLine LineFault → Result forms.TaskLine Why → Type 0
+abbrev pub HoldsTaskLine : Result TaskLine LineFault → Result forms.TaskLine LineError → Type 0
 HoldsTaskLine (Ok (Task t)) read = read ≡ Ok (forms.Task t)
 HoldsTaskLine (Ok Schedule) read = read ≡ Ok forms.Schedule
 HoldsTaskLine (Ok (Statement s)) read = read ≡ Ok (forms.Does s)

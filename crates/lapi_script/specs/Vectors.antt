@@ -4,8 +4,8 @@ use Rattle.lapi_base.specs.declared.address.Addr.{Addr}
 use Rattle.lapi_base.specs.declared.address.Addr.TheVariants.{Plain}
 use Rattle.lapi_base.specs.declared.vector.Vector.{Vector}
 use Rattle.lapi_base.specs.declared.vector.Vector.TheVariants.{Stride}
-use Rattle.lapi_base.specs.Tokens.{plain_address_of, address_of, vector_of}
-use Rattle.lapi_base.specs.Reading.{has_few_pieces}
+use Rattle.lapi_base.specs.Input.Tokens.{plain_address_of, address_of, vector_of}
+use Rattle.lapi_base.specs.Input.Reading.{has_few_pieces}
 use Rattle.lapi_script.specs.declared.pieces.Side.{Side}
 use Rattle.lapi_script.specs.declared.pieces.Side.TheVariants.{Origin, Target}
 

@@ -1,7 +1,7 @@
 //! The lines of a schedule.
 
 ghost use Rattle.std.specs.Prelude.{◌≡◌};
-ghost use Rattle.lapi_base.specs.Forms.{run, line_form, act_form, task_form, worker_form, deliver_form, cut_form, inject_form};
+ghost use Rattle.lapi_base.specs.Input.Forms.{run, line_form, act_form, task_form, worker_form, deliver_form, cut_form, inject_form};
 ghost use Rattle.lapi_base.specs.declared.schedule.Act.{Act};
 ghost use Rattle.lapi_base.specs.declared.schedule.Act.TheVariants.{Step, Poll, Tick};
 ghost use Rattle.lapi_script.specs.Gives.{Gives};
@@ -12,7 +12,7 @@ use crate::words::{Words, is_text};
 use lapi_base::{Act, Line};
 use std::alloc::Global;
 
-#[tactic(auto, unfolding(lapi_base::specs::Forms::deliver_form))]
+#[tactic(auto, unfolding(lapi_base::specs::Input::Forms::deliver_form))]
 fn deliver(words: &mut Words) -> Result<Act, LineFault>
     ensures { Gives (λ act. act) result (run deliver_form words.old) }
 {
@@ -23,7 +23,7 @@ fn deliver(words: &mut Words) -> Result<Act, LineFault>
     Ok(Act::Deliver { a, b, k })
 }
 
-#[tactic(auto, unfolding(lapi_base::specs::Forms::cut_form))]
+#[tactic(auto, unfolding(lapi_base::specs::Input::Forms::cut_form))]
 fn cut(words: &mut Words) -> Result<Act, LineFault>
     ensures { Gives (λ act. act) result (run cut_form words.old) }
 {
@@ -35,7 +35,7 @@ fn cut(words: &mut Words) -> Result<Act, LineFault>
     Ok(Act::Cut { a, b, k, n })
 }
 
-#[tactic(auto, unfolding(lapi_base::specs::Forms::inject_form))]
+#[tactic(auto, unfolding(lapi_base::specs::Input::Forms::inject_form))]
 fn inject(alloc: Global, words: &mut Words) -> Result<Act, LineFault>
     ensures { Gives (λ act. act) result (run inject_form words.old) }
 {
@@ -46,7 +46,7 @@ fn inject(alloc: Global, words: &mut Words) -> Result<Act, LineFault>
     Ok(Act::Inject { a, b, bytes })
 }
 
-#[tactic(auto, unfolding(lapi_base::specs::Forms::task_form))]
+#[tactic(auto, unfolding(lapi_base::specs::Input::Forms::task_form))]
 fn step(words: &mut Words) -> Result<Act, LineFault>
     ensures { Gives (λ act. act) result (run (task_form (λ t. Step t)) words.old) }
 {
@@ -55,7 +55,7 @@ fn step(words: &mut Words) -> Result<Act, LineFault>
     Ok(Act::Step(t))
 }
 
-#[tactic(auto, unfolding(lapi_base::specs::Forms::task_form))]
+#[tactic(auto, unfolding(lapi_base::specs::Input::Forms::task_form))]
 fn poll(words: &mut Words) -> Result<Act, LineFault>
     ensures { Gives (λ act. act) result (run (task_form (λ t. Poll t)) words.old) }
 {
@@ -64,7 +64,7 @@ fn poll(words: &mut Words) -> Result<Act, LineFault>
     Ok(Act::Poll(t))
 }
 
-#[tactic(auto, unfolding(lapi_base::specs::Forms::task_form))]
+#[tactic(auto, unfolding(lapi_base::specs::Input::Forms::task_form))]
 fn tick(words: &mut Words) -> Result<Act, LineFault>
     ensures { Gives (λ act. act) result (run (task_form (λ t. Tick t)) words.old) }
 {
@@ -73,7 +73,7 @@ fn tick(words: &mut Words) -> Result<Act, LineFault>
     Ok(Act::Tick(t))
 }
 
-#[tactic(auto, unfolding(lapi_base::specs::Forms::worker_form))]
+#[tactic(auto, unfolding(lapi_base::specs::Input::Forms::worker_form))]
 fn begin(words: &mut Words) -> Result<Act, LineFault>
     ensures { Gives (λ act. act) result (run (worker_form (λ t w. Act.Begin t w)) words.old) }
 {
@@ -83,7 +83,7 @@ fn begin(words: &mut Words) -> Result<Act, LineFault>
     Ok(Act::Begin { task, worker })
 }
 
-#[tactic(auto, unfolding(lapi_base::specs::Forms::worker_form))]
+#[tactic(auto, unfolding(lapi_base::specs::Input::Forms::worker_form))]
 fn end_job(words: &mut Words) -> Result<Act, LineFault>
     ensures { Gives (λ act. act) result (run (worker_form (λ t w. Act.End t w)) words.old) }
 {

@@ -2,7 +2,7 @@
 
 ghost use Rattle.std.specs.Prelude.{◌≡◌, ◌∷◌, ◌==◌, ◌<◌, [], length, MatchOption};
 ghost use Rattle.std.specs.List.{slice_split};
-ghost use Rattle.lapi_base.specs.Lines.{lines_of};
+ghost use Rattle.lapi_base.specs.Input.Lines.{lines_of};
 ghost use Rattle.lapi_script.specs.Left.{parts_left};
 
 use crate::scan::place_of;

@@ -1,15 +1,15 @@
 ghost use Rattle.std.specs.Prelude.{◌≡◌};
 ghost use Rattle.lapi_script.specs.declared.fault.LineFault.TheVariants as LineFault;
-ghost use Rattle.lapi_base.specs.declared.input.Why.TheVariants as Why;
+ghost use Rattle.lapi_base.specs.declared.input.LineError.TheVariants as LineError;
 
-use lapi_base::{Memory, Which, Why};
+use lapi_base::{LineError, Memory, Which};
 use std::alloc::AllocError;
 
 /// Why a line isn't taken.
 #[derive(Clone, Copy, Debug, Eq, PartialEq)]
 pub(crate) enum LineFault {
     Memory,
-    Wrong(Why),
+    Wrong(LineError),
 }
 
 impl From<AllocError> for LineFault {
@@ -34,14 +34,14 @@ impl From<Memory> for LineFault {
 
 /// The line is of no form that may stand there.
 pub(crate) fn syntax() -> LineFault
-    ensures { result ≡ LineFault.Wrong Why.Syntax }
+    ensures { result ≡ LineFault.Wrong LineError.Syntax }
 {
-    LineFault::Wrong(Why::Syntax)
+    LineFault::Wrong(LineError::Syntax)
 }
 
 /// The line has its form, and passes this limit.
 pub(crate) fn limit(which: Which) -> LineFault
-    ensures { result ≡ LineFault.Wrong (Why.Limit which) }
+    ensures { result ≡ LineFault.Wrong (LineError.Limit which) }
 {
-    LineFault::Wrong(Why::Limit(which))
+    LineFault::Wrong(LineError::Limit(which))
 }

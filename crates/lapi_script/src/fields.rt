@@ -1,8 +1,8 @@
 //! The values of a line, one after the other.
 
 ghost use Rattle.std.specs.Prelude.{◌≡◌};
-ghost use Rattle.lapi_base.specs.Tokens.{Number, Counter, Hex, OptionalHex, Address, PlainVector, TargetVector};
-ghost use Rattle.lapi_base.specs.Forms.{value_at, word_at, keyword_at, end_at};
+ghost use Rattle.lapi_base.specs.Input.Tokens.{Number, Counter, Hex, OptionalHex, Address, PlainVector, TargetVector};
+ghost use Rattle.lapi_base.specs.Input.Forms.{value_at, word_at, keyword_at, end_at};
 ghost use Rattle.lapi_script.specs.Gives.{Gives};
 
 use crate::fault::{LineFault, syntax};
@@ -42,7 +42,7 @@ pub(crate) fn end(words: &mut Words) -> Result<(), LineFault>
     }
 }
 
-#[tactic(auto, unfolding(lapi_base::specs::Tokens::value_of))]
+#[tactic(auto, unfolding(lapi_base::specs::Input::Tokens::value_of))]
 pub(crate) fn number(words: &mut Words) -> Result<u32, LineFault>
     ensures { Gives (λ n. (n, words.new)) result (value_at Number words.old) }
 {
@@ -53,7 +53,7 @@ pub(crate) fn number(words: &mut Words) -> Result<u32, LineFault>
     }
 }
 
-#[tactic(auto, unfolding(lapi_base::specs::Tokens::value_of))]
+#[tactic(auto, unfolding(lapi_base::specs::Input::Tokens::value_of))]
 pub(crate) fn counter(words: &mut Words) -> Result<Option<u32>, LineFault>
     ensures { Gives (λ c. (c, words.new)) result (value_at Counter words.old) }
 {
@@ -64,7 +64,7 @@ pub(crate) fn counter(words: &mut Words) -> Result<Option<u32>, LineFault>
     }
 }
 
-#[tactic(auto, unfolding(lapi_base::specs::Tokens::value_of))]
+#[tactic(auto, unfolding(lapi_base::specs::Input::Tokens::value_of))]
 pub(crate) fn address(words: &mut Words) -> Result<Addr, LineFault>
     ensures { Gives (λ at. (at, words.new)) result (value_at Address words.old) }
 {
@@ -75,7 +75,7 @@ pub(crate) fn address(words: &mut Words) -> Result<Addr, LineFault>
     }
 }
 
-#[tactic(auto, unfolding(lapi_base::specs::Tokens::value_of))]
+#[tactic(auto, unfolding(lapi_base::specs::Input::Tokens::value_of))]
 pub(crate) fn hex(alloc: Global, words: &mut Words) -> Result<Bytes, LineFault>
     ensures { Gives (λ bytes. (bytes, words.new)) result (value_at Hex words.old) }
 {
@@ -83,7 +83,7 @@ pub(crate) fn hex(alloc: Global, words: &mut Words) -> Result<Bytes, LineFault>
     hex_of(alloc, text)
 }
 
-#[tactic(auto, unfolding(lapi_base::specs::Tokens::value_of))]
+#[tactic(auto, unfolding(lapi_base::specs::Input::Tokens::value_of))]
 pub(crate) fn optional_hex(alloc: Global, words: &mut Words) -> Result<Bytes, LineFault>
     ensures { Gives (λ bytes. (bytes, words.new)) result (value_at OptionalHex words.old) }
 {
@@ -91,7 +91,7 @@ pub(crate) fn optional_hex(alloc: Global, words: &mut Words) -> Result<Bytes, Li
     optional_hex_of(alloc, text)
 }
 
-#[tactic(auto, unfolding(lapi_base::specs::Tokens::value_of))]
+#[tactic(auto, unfolding(lapi_base::specs::Input::Tokens::value_of))]
 pub(crate) fn plain_vector<'a>(words: &mut Words<'a>) -> Result<VectorWord<'a>, LineFault>
     ensures { Gives (λ vector. (vector, words.new)) result (value_at PlainVector words.old) }
 {
@@ -102,7 +102,7 @@ pub(crate) fn plain_vector<'a>(words: &mut Words<'a>) -> Result<VectorWord<'a>, 
     }
 }
 
-#[tactic(auto, unfolding(lapi_base::specs::Tokens::value_of))]
+#[tactic(auto, unfolding(lapi_base::specs::Input::Tokens::value_of))]
 pub(crate) fn target_vector<'a>(words: &mut Words<'a>) -> Result<VectorWord<'a>, LineFault>
     ensures { Gives (λ vector. (vector, words.new)) result (value_at TargetVector words.old) }
 {

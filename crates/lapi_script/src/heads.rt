@@ -1,7 +1,7 @@
 //! The first two lines.
 
 ghost use Rattle.std.specs.Prelude.{◌≡◌};
-ghost use Rattle.lapi_base.specs.Forms.{run, head_form, sizes_form};
+ghost use Rattle.lapi_base.specs.Input.Forms.{run, head_form, sizes_form};
 ghost use Rattle.lapi_script.specs.Gives.{Gives};
 
 use crate::fault::LineFault;
@@ -11,7 +11,7 @@ use lapi_base::{Script, StatementLists};
 use std::alloc::Global;
 
 /// The layout.
-#[tactic(auto, unfolding(lapi_base::specs::Forms::head_form))]
+#[tactic(auto, unfolding(lapi_base::specs::Input::Forms::head_form))]
 pub(crate) fn head(words: &mut Words) -> Result<u32, LineFault>
     ensures { Gives (λ layout. layout) result (run head_form words.old) }
 {
@@ -22,7 +22,7 @@ pub(crate) fn head(words: &mut Words) -> Result<u32, LineFault>
 }
 
 /// A script of these sizes without tasks.
-#[tactic(auto, unfolding(lapi_base::specs::Forms::sizes_form))]
+#[tactic(auto, unfolding(lapi_base::specs::Input::Forms::sizes_form))]
 pub(crate) fn sizes(alloc: Global, layout: u32, words: &mut Words) -> Result<Script, LineFault>
     ensures { Gives (λ script. script) result (run (sizes_form layout) words.old) }
 {

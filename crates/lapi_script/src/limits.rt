@@ -1,9 +1,9 @@
 //! What is judged of a line that has its form.
 
 ghost use Rattle.std.specs.Prelude.{◌≡◌};
-ghost use Rattle.lapi_base.specs.Reading.{checked_sizes, has_few_pieces, keeps_pieces, keeps_bytes, keeps_injected, names_known};
-ghost use Rattle.lapi_base.specs.Built.{is_plain, is_built_statement, is_built_act};
-ghost use Rattle.lapi_base.specs.Spelling.{spells_packet};
+ghost use Rattle.lapi_base.specs.Input.Reading.{checked_sizes, has_few_pieces, keeps_pieces, keeps_bytes, keeps_injected, names_known};
+ghost use Rattle.lapi_base.specs.Input.Built.{is_plain, is_built_statement, is_built_act};
+ghost use Rattle.lapi_base.specs.Packet.Spelling.{spells_packet};
 ghost use Rattle.lapi_script.specs.Gives.{Gives};
 
 use crate::fault::{LineFault, limit};
@@ -35,7 +35,7 @@ pub(crate) fn checked_sizes(script: Script) -> Result<Script, LineFault>
 }
 
 /// Whether statements of this form are performed yet.
-#[tactic(auto, unfolding(lapi_base::specs::Built::is_built_statement))]
+#[tactic(auto, unfolding(lapi_base::specs::Input::Built::is_built_statement))]
 pub(crate) fn is_built_statement(statement: &Statement) -> bool
     ensures { result ≡ is_built_statement statement.now }
 {
@@ -59,7 +59,7 @@ fn is_plain(at: Addr) -> bool
 }
 
 /// Whether lines of this form are performed yet.
-#[tactic(auto, unfolding(lapi_base::specs::Built::is_built_act))]
+#[tactic(auto, unfolding(lapi_base::specs::Input::Built::is_built_act))]
 pub(crate) fn is_built_act(act: &Act) -> bool
     ensures { result ≡ is_built_act act.now }
 {
@@ -78,7 +78,7 @@ fn has_few_pieces(vector: &Vector) -> bool
     }
 }
 
-#[tactic(auto, unfolding(lapi_base::specs::Reading::keeps_pieces))]
+#[tactic(auto, unfolding(lapi_base::specs::Input::Reading::keeps_pieces))]
 pub(crate) fn keeps_pieces(statement: &Statement) -> bool
     ensures { result ≡ keeps_pieces statement.now }
 {
@@ -89,7 +89,7 @@ pub(crate) fn keeps_pieces(statement: &Statement) -> bool
     }
 }
 
-#[tactic(auto, unfolding(lapi_base::specs::Reading::keeps_bytes))]
+#[tactic(auto, unfolding(lapi_base::specs::Input::Reading::keeps_bytes))]
 pub(crate) fn keeps_bytes(statement: &Statement) -> bool
     ensures { result ≡ keeps_bytes statement.now }
 {
@@ -100,7 +100,7 @@ pub(crate) fn keeps_bytes(statement: &Statement) -> bool
     }
 }
 
-#[tactic(auto, unfolding(lapi_base::specs::Reading::keeps_injected))]
+#[tactic(auto, unfolding(lapi_base::specs::Input::Reading::keeps_injected))]
 pub(crate) fn keeps_injected(script: &Script, act: &Act) -> bool
     ensures { result ≡ keeps_injected script.now act.now }
 {
@@ -110,7 +110,7 @@ pub(crate) fn keeps_injected(script: &Script, act: &Act) -> bool
     }
 }
 
-#[tactic(auto, unfolding(lapi_base::specs::Spelling::spells_packet))]
+#[tactic(auto, unfolding(lapi_base::specs::Packet::Spelling::spells_packet))]
 fn spells_packet(bytes: &[u8]) -> bool
     ensures { result ≡ spells_packet bytes.now }
 {
@@ -119,7 +119,7 @@ fn spells_packet(bytes: &[u8]) -> bool
 
 /// Whether the tasks and the worker that a line names are there, and what it injects spells no
 /// packet.
-#[tactic(auto, unfolding(lapi_base::specs::Reading::names_known))]
+#[tactic(auto, unfolding(lapi_base::specs::Input::Reading::names_known))]
 pub(crate) fn names_known(script: &Script, act: &Act) -> bool
     ensures { result ≡ names_known script.now act.now }
 {

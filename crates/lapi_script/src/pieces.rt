@@ -2,7 +2,7 @@
 
 ghost use Rattle.std.specs.Prelude.{◌≡◌, ◌∷◌, ◌==◌, Some, None, MatchOption, IfSome};
 ghost use Rattle.std.specs.List.{slice_split};
-ghost use Rattle.lapi_base.specs.Tokens.{piece_of, pieces_of, sizes_of, strided_of, listed_of, vector_of};
+ghost use Rattle.lapi_base.specs.Input.Tokens.{piece_of, pieces_of, sizes_of, strided_of, listed_of, vector_of};
 ghost use Rattle.lapi_script.specs.Vectors.{address_by, spelled, HoldsVector};
 ghost use Rattle.lapi_script.specs.Listed.{HoldsList};
 
@@ -29,7 +29,7 @@ fn address_by(side: Side, word: &[u8]) -> Option<Addr>
 }
 
 /// `AT:LEN`
-#[tactic(auto, unfolding(lapi_base::specs::Tokens::piece_of))]
+#[tactic(auto, unfolding(lapi_base::specs::Input::Tokens::piece_of))]
 fn piece_of(side: Side, text: &[u8]) -> Option<Piece>
     ensures { result ≡ piece_of (address_by side) text.now }
 {
@@ -102,7 +102,7 @@ fn sizes_of(base: Addr, parts: &mut Parts) -> Option<Vector>
 }
 
 /// `BASE:BLOCK:STRIDE:COUNT`
-#[tactic(auto, unfolding(lapi_base::specs::Tokens::strided_of))]
+#[tactic(auto, unfolding(lapi_base::specs::Input::Tokens::strided_of))]
 fn strided_of(side: Side, text: &[u8]) -> Option<Vector>
     ensures { result ≡ strided_of (address_by side) text.now }
 {
@@ -130,7 +130,7 @@ impl<'a> Model for VectorWord<'a> {
 }
 
 impl<'a> VectorWord<'a> {
-    #[tactic(auto, unfolding(lapi_base::specs::Tokens::vector_of, lapi_base::specs::Tokens::listed_of), using(crate::proofs::PieceLists::spelled_list))]
+    #[tactic(auto, unfolding(lapi_base::specs::Input::Tokens::vector_of, lapi_base::specs::Input::Tokens::listed_of), using(crate::proofs::PieceLists::spelled_list))]
     pub(crate) fn read(side: Side, word: &'a [u8]) -> Option<VectorWord<'a>>
         ensures { result ≡ vector_of (address_by side) word.now }
     {

@@ -2,16 +2,16 @@
 
 ghost use Rattle.std.specs.Prelude.{◌≡◌, ◌≤◌, length, Ok, IfOk};
 ghost use Rattle.lapi_base.specs.declared.input.Input.{Input};
-ghost use Rattle.lapi_base.specs.Lines.{lines_of};
-ghost use Rattle.lapi_base.specs.Rows.{Reads};
-ghost use Rattle.lapi_base.specs.Reading.{read, input_of, most_input};
-ghost use Rattle.lapi_script.specs.Answers.{GivesInput, FaultIsFirst, FailsAt};
+ghost use Rattle.lapi_base.specs.Input.Lines.{lines_of};
+ghost use Rattle.lapi_base.specs.Input.Rows.{IsInputText};
+ghost use Rattle.lapi_base.specs.Input.Reading.{read, input_of, most_input};
+ghost use Rattle.lapi_script.specs.ReaderAnswers.{GivesInput, FaultIsFirst, FailsAt};
 ghost use Rattle.lapi_script.specs.States.{state_of};
 
 use crate::cuts::first_line;
 use crate::fault::LineFault;
 use crate::state::{State, after};
-use lapi_base::{Input, LONGEST_INPUT, ReadFault, Which, Why};
+use lapi_base::{Input, LONGEST_INPUT, LineError, ReadFault, Which};
 use lapi_text::text_laws;
 use std::alloc::Global;
 
@@ -21,8 +21,8 @@ fn at_line(fault: LineFault, line: u32) -> ReadFault
 {
     match fault {
         LineFault::Memory => ReadFault::Memory,
-        LineFault::Wrong(Why::Syntax) => ReadFault::Syntax { line },
-        LineFault::Wrong(Why::Limit(which)) => ReadFault::Limit { which, line },
+        LineFault::Wrong(LineError::Syntax) => ReadFault::Syntax { line },
+        LineFault::Wrong(LineError::Limit(which)) => ReadFault::Limit { which, line },
     }
 }
 
@@ -65,9 +65,9 @@ fn read_lines(alloc: Global, bytes: &[u8]) -> Result<Input, ReadFault>
 /// [`LONGEST_INPUT`] are refused before all lines.
 pub fn read_input(alloc: Global, bytes: &[u8]) -> Result<Input, ReadFault>
     // What is read is spelled so, within all limits.
-    ensures found { IfOk result (λ x. Reads x bytes.now) }
+    ensures found { IfOk result (λ x. IsInputText x bytes.now) }
     // What is spelled so is read, unless memory runs out.
-    ensures only { (x : Input) → length bytes.now ≤ most_input → Reads x bytes.now → GivesInput result (Ok x) }
+    ensures only { (x : Input) → length bytes.now ≤ most_input → IsInputText x bytes.now → GivesInput result (Ok x) }
     // The line of a fault is the first up to which the lines begin no input.
     ensures first { length bytes.now ≤ most_input → FaultIsFirst (lines_of bytes.now) result }
     // Which fault it is, and at which line.

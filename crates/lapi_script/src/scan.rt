@@ -2,7 +2,7 @@
 
 ghost use Rattle.std.specs.Prelude.{◌≡◌, ◌==◌, position};
 ghost use Rattle.std.specs.List.{list_any};
-ghost use Rattle.lapi_base.specs.Lines.{is_clean};
+ghost use Rattle.lapi_base.specs.Input.Lines.{is_clean};
 
 /// Where a byte is looked for one by one first, since most words and many lines are short.
 const NEAR: usize = 16;

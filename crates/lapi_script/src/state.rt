@@ -5,11 +5,11 @@
 //! ```
 
 ghost use Rattle.std.specs.Prelude.{◌≡◌, Result, Ok};
-ghost use Rattle.lapi_base.specs.declared.input.Why.{Why};
-ghost use Rattle.lapi_base.specs.Lines.{words_of};
-ghost use Rattle.lapi_base.specs.Forms.{and_then};
-ghost use Rattle.lapi_base.specs.Forms as forms;
-ghost use Rattle.lapi_base.specs.Reading.{step, after, on_first_task, on_task_line, on_statement, on_line};
+ghost use Rattle.lapi_base.specs.declared.input.LineError.{LineError};
+ghost use Rattle.lapi_base.specs.Input.Lines.{words_of};
+ghost use Rattle.lapi_base.specs.Input.Forms.{and_then};
+ghost use Rattle.lapi_base.specs.Input.Forms as forms;
+ghost use Rattle.lapi_base.specs.Input.Reading.{step, after, on_first_task, on_task_line, on_statement, on_line};
 ghost use Rattle.lapi_script.specs.Gives.{Gives};
 ghost use Rattle.lapi_script.specs.TaskLines.{HoldsTaskLine};
 ghost use Rattle.lapi_script.specs.States.{state_of};
@@ -45,7 +45,7 @@ pub(crate) enum State {
 
 #[tactic(auto, using(crate::proofs::TaskLineSteps::too_many_pieces_first))]
 fn on_first_task(alloc: Global, script: Script, row: TaskLine) -> Result<State, LineFault>
-    ensures { (read : Result forms.TaskLine Why) → HoldsTaskLine (Ok row) read → Gives state_of result (and_then read (on_first_task script)) }
+    ensures { (read : Result forms.TaskLine LineError) → HoldsTaskLine (Ok row) read → Gives state_of result (and_then read (on_first_task script)) }
 {
     match row {
         TaskLine::Task(0) => Ok(State::Tasks {
@@ -86,7 +86,7 @@ fn on_task_line(
     current: Statements,
     row: TaskLine,
 ) -> Result<State, LineFault>
-    ensures { (read : Result forms.TaskLine Why) → HoldsTaskLine (Ok row) read → Gives state_of result (and_then read (on_task_line script current)) }
+    ensures { (read : Result forms.TaskLine LineError) → HoldsTaskLine (Ok row) read → Gives state_of result (and_then read (on_task_line script current)) }
 {
     let next = script.lists.as_slice().len() as u64 + 1;
     match row {
@@ -138,7 +138,7 @@ fn on_line(script: Script, mut schedule: Schedule, line: Line) -> Result<State, 
 }
 
 /// What a line of these words adds.
-#[tactic(auto, unfolding(lapi_base::specs::Reading::step))]
+#[tactic(auto, unfolding(lapi_base::specs::Input::Reading::step))]
 pub(crate) fn step(alloc: Global, state: State, words: &mut Words) -> Result<State, LineFault>
     ensures { Gives state_of result (step (state_of state) words.old) }
 {
@@ -169,7 +169,7 @@ pub(crate) fn step(alloc: Global, state: State, words: &mut Words) -> Result<Sta
 }
 
 /// What a line adds.
-#[tactic(auto, unfolding(lapi_base::specs::Reading::after))]
+#[tactic(auto, unfolding(lapi_base::specs::Input::Reading::after))]
 pub(crate) fn after(alloc: Global, state: &mut State, line: &[u8]) -> Result<(), LineFault>
     ensures { Gives (λ _. state_of state.new) result (after (state_of state.old) line.now) }
 {

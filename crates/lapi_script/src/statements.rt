@@ -6,8 +6,8 @@ mod transfers;
 mod vectors;
 
 ghost use Rattle.std.specs.Prelude.{◌≡◌, Result};
-ghost use Rattle.lapi_base.specs.Forms.{run, End, statement_form};
-ghost use Rattle.lapi_base.specs.declared.input.Why.{Why};
+ghost use Rattle.lapi_base.specs.Input.Forms.{run, End, statement_form};
+ghost use Rattle.lapi_base.specs.declared.input.LineError.{LineError};
 ghost use Rattle.lapi_base.specs.declared.statement.Statement.{Statement};
 ghost use Rattle.lapi_script.specs.Gives.{Gives};
 ghost use Rattle.lapi_script.specs.ReadLines.{HoldsStatement};
@@ -74,7 +74,7 @@ fn alone(statement: Statement, words: &mut Words) -> Result<Statement, LineFault
 }
 
 fn held(read: Result<Statement, LineFault>) -> Result<ReadStatement, LineFault>
-    ensures { (reading : Result Statement Why) → Gives (λ s. s) read reading → HoldsStatement result reading }
+    ensures { (reading : Result Statement LineError) → Gives (λ s. s) read reading → HoldsStatement result reading }
 {
     Ok(ReadStatement::Held(read?))
 }

@@ -1,7 +1,7 @@
 //! The lines of the tasks.
 
 ghost use Rattle.std.specs.Prelude.{◌≡◌};
-ghost use Rattle.lapi_base.specs.Forms.{run, task_line_form};
+ghost use Rattle.lapi_base.specs.Input.Forms.{run, task_line_form};
 ghost use Rattle.lapi_script.specs.TaskLines.{HoldsTaskLine};
 
 use crate::fault::LineFault;
@@ -34,7 +34,7 @@ impl From<ReadStatement> for TaskLine {
     }
 }
 
-#[tactic(auto, unfolding(lapi_base::specs::Forms::task_line_form), using(lapi_base::proofs::Runs::run_does, crate::proofs::TaskLineSteps::does))]
+#[tactic(auto, unfolding(lapi_base::specs::Input::Forms::task_line_form), using(lapi_base::proofs::Runs::run_does, crate::proofs::TaskLineSteps::does))]
 pub(crate) fn task_line(alloc: Global, words: &mut Words) -> Result<TaskLine, LineFault>
     ensures { HoldsTaskLine result (run task_line_form words.old) }
 {

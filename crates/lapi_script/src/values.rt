@@ -1,8 +1,8 @@
 //! The value that a word stands for.
 
 ghost use Rattle.std.specs.Prelude.{◌≡◌, ◌∷◌};
-ghost use Rattle.lapi_base.specs.Tokens.{number_of, is_padded, digits_from, counter_of, plain_address_of, address_of, table_of, hex_of, optional_hex_of, only_part};
-ghost use Rattle.lapi_base.specs.Forms.{well_formed};
+ghost use Rattle.lapi_base.specs.Input.Tokens.{number_of, is_padded, digits_from, counter_of, plain_address_of, address_of, table_of, hex_of, optional_hex_of, only_part};
+ghost use Rattle.lapi_base.specs.Input.Forms.{well_formed};
 ghost use Rattle.lapi_script.specs.Gives.{Gives};
 
 use crate::cuts::{Parts, split};
@@ -32,14 +32,14 @@ fn digits(word: &[u8]) -> Option<u32>
     Some(number)
 }
 
-#[tactic(auto, unfolding(lapi_base::specs::Tokens::number_of))]
+#[tactic(auto, unfolding(lapi_base::specs::Input::Tokens::number_of))]
 pub(crate) fn number_of(word: &[u8]) -> Option<u32>
     ensures { result ≡ number_of word.now }
 {
     if is_padded(word) { None } else { digits(word) }
 }
 
-#[tactic(auto, unfolding(lapi_base::specs::Tokens::counter_of))]
+#[tactic(auto, unfolding(lapi_base::specs::Input::Tokens::counter_of))]
 pub(crate) fn counter_of(word: &[u8]) -> Option<Option<u32>>
     ensures { result ≡ counter_of word.now }
 {
@@ -72,7 +72,7 @@ pub(crate) fn only_number(parts: &mut Parts) -> Option<u32>
     }
 }
 
-#[tactic(auto, unfolding(lapi_base::specs::Tokens::plain_address_of))]
+#[tactic(auto, unfolding(lapi_base::specs::Input::Tokens::plain_address_of))]
 pub(crate) fn plain_address_of(word: &[u8]) -> Option<Addr>
     ensures { result ≡ plain_address_of word.now }
 {
@@ -83,7 +83,7 @@ pub(crate) fn plain_address_of(word: &[u8]) -> Option<Addr>
 }
 
 /// The address that stands behind the @.
-#[tactic(auto, unfolding(lapi_base::specs::Tokens::table_of))]
+#[tactic(auto, unfolding(lapi_base::specs::Input::Tokens::table_of))]
 fn table_of(text: &[u8]) -> Option<Addr>
     ensures { result ≡ table_of text.now }
 {
@@ -98,7 +98,7 @@ fn table_of(text: &[u8]) -> Option<Addr>
     }
 }
 
-#[tactic(auto, unfolding(lapi_base::specs::Tokens::address_of))]
+#[tactic(auto, unfolding(lapi_base::specs::Input::Tokens::address_of))]
 pub(crate) fn address_of(word: &[u8]) -> Option<Addr>
     ensures { result ≡ address_of word.now }
 {
@@ -115,7 +115,7 @@ pub(crate) fn address_of(word: &[u8]) -> Option<Addr>
 }
 
 /// One byte or more.
-#[tactic(auto, unfolding(lapi_base::specs::Tokens::hex_of))]
+#[tactic(auto, unfolding(lapi_base::specs::Input::Tokens::hex_of))]
 pub(crate) fn hex_of(alloc: Global, word: &[u8]) -> Result<Bytes, LineFault>
     ensures { Gives (λ bytes. bytes) result (well_formed (hex_of word.now)) }
 {
@@ -131,7 +131,7 @@ pub(crate) fn hex_of(alloc: Global, word: &[u8]) -> Result<Bytes, LineFault>
     }
 }
 
-#[tactic(auto, unfolding(lapi_base::specs::Tokens::optional_hex_of))]
+#[tactic(auto, unfolding(lapi_base::specs::Input::Tokens::optional_hex_of))]
 pub(crate) fn optional_hex_of(alloc: Global, word: &[u8]) -> Result<Bytes, LineFault>
     ensures { Gives (λ bytes. bytes) result (well_formed (optional_hex_of word.now)) }
 {

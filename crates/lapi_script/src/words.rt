@@ -1,9 +1,9 @@
 //! The words of a line.
 
 ghost use Rattle.std.specs.Prelude.{◌≡◌, ◌∷◌, [], MatchOption};
-ghost use Rattle.lapi_base.specs.Lines.{words_of, is_skipped};
-ghost use Rattle.lapi_base.specs.Tokens.{same_text};
-ghost use Rattle.lapi_base.specs.Reading.{is_word};
+ghost use Rattle.lapi_base.specs.Input.Lines.{words_of, is_skipped};
+ghost use Rattle.lapi_base.specs.Input.Tokens.{same_text};
+ghost use Rattle.lapi_base.specs.Input.Reading.{is_word};
 
 use crate::cuts::cut;
 use std::marker::Model;

@@ -7,8 +7,8 @@ mod values;
 ghost use Rattle.std.specs.Prelude.{◌≡◌, ◌++◌, ◌∷◌, OnOk, IfOk, Ok, map, length, ◌≤◌};
 ghost use Rattle.std.specs.List.{flat_map};
 ghost use Rattle.std.specs.Fmt.{decimal};
-ghost use Rattle.lapi_base.specs.Rows.{statement_row, task_row, head_row, sizes_row, line_row, row_line, row_text, task_rows, canon};
-ghost use Rattle.lapi_base.specs.Reading.{read, most_input};
+ghost use Rattle.lapi_base.specs.Input.Rows.{statement_row, task_row, head_row, sizes_row, line_row, row_line, row_text, task_rows, canon};
+ghost use Rattle.lapi_base.specs.Input.Reading.{read, most_input};
 ghost use Rattle.lapi_script.specs.Inputs.{input_of, IsWritable};
 
 use crate::write::act_rows::act;

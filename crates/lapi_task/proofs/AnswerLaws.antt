@@ -7,20 +7,21 @@ use Rattle.lapi_base.specs.declared.packet.Packet.{Packet}
 use Rattle.lapi_base.specs.declared.packet.Packet.TheVariants.{Data, Ack}
 use Rattle.lapi_base.specs.declared.packet.DataPacket.{DataPacket}
 use Rattle.lapi_base.specs.declared.wire.WireEntry.{WireEntry}
-use Rattle.lapi_base.specs.Arrived.{least_number, ack_of}
-use Rattle.lapi_base.specs.Below.{bits_of}
-use Rattle.lapi_base.specs.Layout.{window_of}
-use Rattle.lapi_base.specs.Record.{Run, has_number, ack, with_handed, hand_over, deliver_entry, deliver}
-use Rattle.lapi_base.specs.Seen.{no_rules, IsRecord}
-use Rattle.lapi_base.specs.Spelling.{HasSpelling}
-use Rattle.lapi_base.specs.Written as written
+use Rattle.lapi_base.specs.Record.Arrived.{least_number, ack_of}
+use Rattle.lapi_base.specs.Record.Below.{bits_of}
+use Rattle.lapi_base.specs.Packet.Layout.{window_of}
+use Rattle.lapi_base.specs.Record.Wires.{Run, has_number, ack}
+use Rattle.lapi_base.specs.Record.Acts.{with_handed, hand_over, deliver_entry, deliver}
+use Rattle.lapi_base.specs.Record.WorldView.{no_rules, IsRecord}
+use Rattle.lapi_base.specs.Packet.Spelling.{HasSpelling}
+use Rattle.lapi_base.specs.Packet.PacketBytes as written
 use Rattle.lapi_link.specs.Receiver.{ReceivingEnd, ReceivesFor}
 use Rattle.lapi_parts.proofs.ArrivingPackets.{next-acks-told}
 use Rattle.lapi_task.specs.declared.task.Task.{Task}
-use Rattle.lapi_task.specs.Answers.{HasTaken, answer}
+use Rattle.lapi_task.specs.Acknowledging.{HasTaken, answer}
 use Rattle.lapi_task.specs.StandsFor.{ReceiverAt}
 use Rattle.lapi_task.proofs.AnswerSpelled.{ack-spelled}
-use Rattle.lapi_base.specs.Valid.{ValidScript}
+use Rattle.lapi_base.specs.Record.Valid.{ValidScript}
 use Rattle.lapi_base.proofs.ListLaws.{at-place}
 use Rattle.lapi_base.proofs.TestLaws.{eqb-refl}
 use Rattle.lapi_parts.proofs.FirstLayout.{first-window, told-at-once}

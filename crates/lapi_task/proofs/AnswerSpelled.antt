@@ -3,12 +3,12 @@ use Rattle.std.proofs.Common.{◌≡◌, ℕ, ◌+◌, ◌^◌, ◌<◌, ◌≤�
 use Rattle.lapi_base.specs.declared.script.Script.{Script}
 use Rattle.lapi_base.specs.declared.packet.Packet.{Packet}
 use Rattle.lapi_base.specs.declared.packet.Packet.TheVariants.{Ack}
-use Rattle.lapi_base.specs.Arrived.{least_number, ack_of}
-use Rattle.lapi_base.specs.Below.{bits_of}
-use Rattle.lapi_base.specs.Record.{has_number}
-use Rattle.lapi_base.specs.Spelling.{HasSpelling}
-use Rattle.lapi_base.specs.Valid.{ValidScript}
-use Rattle.lapi_base.specs.Written as written
+use Rattle.lapi_base.specs.Record.Arrived.{least_number, ack_of}
+use Rattle.lapi_base.specs.Record.Below.{bits_of}
+use Rattle.lapi_base.specs.Record.Wires.{has_number}
+use Rattle.lapi_base.specs.Packet.Spelling.{HasSpelling}
+use Rattle.lapi_base.specs.Record.Valid.{ValidScript}
+use Rattle.lapi_base.specs.Packet.PacketBytes as written
 use Rattle.lapi_base.proofs.BitLaws.{bits_of-even, bits_of-lt}
 use Rattle.lapi_base.proofs.PacketNumbers.{least-absent, least-small}
 use Rattle.lapi_parts.proofs.FirstLayout.{first-window}

@@ -9,18 +9,18 @@ use Rattle.lapi_base.specs.declared.message.MsgName.{MsgName}
 use Rattle.lapi_base.specs.declared.event.Event.{Event}
 use Rattle.lapi_base.specs.declared.event.Event.TheVariants.{Issue, Refuse, Enter, Pass, Copy, Head, Land, Begin, End}
 use Rattle.lapi_base.specs.declared.packet.Packet.{Packet}
-use Rattle.lapi_base.specs.Below.{below}
-use Rattle.lapi_base.specs.ByPart.{SameStatements, SameLinks}
-use Rattle.lapi_base.specs.Names.{Issued, Copied, done, message}
-use Rattle.lapi_base.specs.Operations.{upto, statements, statement, is_data}
-use Rattle.lapi_base.specs.Packets.{data_packet}
-use Rattle.lapi_base.specs.Record.{Run, out, has_number, has_ack}
-use Rattle.lapi_base.specs.Refusals.{refusals}
-use Rattle.lapi_base.specs.Seen.{no_rules, performed, IsRecord}
-use Rattle.lapi_base.specs.TaskPart.{is_at, events_at, part_at}
-use Rattle.lapi_base.specs.Values.{values, memory_bytes}
-use Rattle.lapi_base.specs.Written as written
-use Rattle.lapi_laws.proofs.Out.{out-copied}
+use Rattle.lapi_base.specs.Record.Below.{below}
+use Rattle.lapi_base.specs.Laws.Locality.{SameStatements, SameLinks}
+use Rattle.lapi_base.specs.Record.Names.{Issued, Copied, happened, message}
+use Rattle.lapi_base.specs.Record.Operations.{numbers_below, statements, statement, is_data}
+use Rattle.lapi_base.specs.Record.Packets.{data_packet}
+use Rattle.lapi_base.specs.Record.Wires.{Run, numbered, has_number, has_ack}
+use Rattle.lapi_base.specs.Record.Refusals.{refusals}
+use Rattle.lapi_base.specs.Record.WorldView.{no_rules, performed, IsRecord}
+use Rattle.lapi_base.specs.Record.TaskPart.{is_at, events_at, part_at}
+use Rattle.lapi_base.specs.Record.Values.{values, memory_bytes}
+use Rattle.lapi_base.specs.Packet.PacketBytes as written
+use Rattle.lapi_laws.proofs.Out.{numbered-copied}
 use Rattle.lapi_link.specs.Sender.{SendingEnd}
 use Rattle.lapi_parts.proofs.ExactBytes.{record-exact}
 use Rattle.lapi_parts.proofs.LinesTaken.{more-record}
@@ -83,18 +83,18 @@ module _ (script : Script) (t : ℕ) where
     uncopied-same : is_uncopied script r.journal t ≡ is_uncopied script s.journal t
     uncopied-same =
         by_points _ _ (λ i.
-        ap (λ x. is_data (statement script t i) && (x && not (done (Copied (message t i Go)) r.journal))) (acts.happened (Issued t i) refl)
-        ∙ ap (λ x. is_data (statement script t i) && (done (Issued t i) s.journal && not x)) (acts.happened (Copied (message t i Go)) refl))
+        ap (λ x. is_data (statement script t i) && (x && not (happened (Copied (message t i Go)) r.journal))) (acts.same_events (Issued t i) refl)
+        ∙ ap (λ x. is_data (statement script t i) && (happened (Issued t i) s.journal && not x)) (acts.same_events (Copied (message t i Go)) refl))
 
     memory-same : memory_bytes script no_rules r.journal t ≡ memory_bytes script no_rules s.journal t
     unfolding memory_bytes
-    memory-same = ap (λ (f : ℕ → ℕ). map f (upto script.memory)) (by_points ((values script no_rules r.journal).memory t) ((values script no_rules s.journal).memory t) (told-memory script no_rules t r s ir is e))
+    memory-same = ap (λ (f : ℕ → ℕ). map f (numbers_below script.memory)) (by_points ((values script no_rules r.journal).memory t) ((values script no_rules s.journal).memory t) (told-memory script no_rules t r s ir is e))
 
     pub holds-same : (task : Task) → HoldsFor script t task r.journal → HoldsFor script t task s.journal
     holds-same task h = record {
       number = h.number;
       next = h.next ∙ acts.next;
-      ahead = λ i le. sym (acts.happened (Issued t i) refl) ∙ h.ahead i le;
+      ahead = λ i le. sym (acts.same_events (Issued t i) refl) ∙ h.ahead i le;
       reads = h.reads ∙ acts.reads;
       refusals = h.refusals ∙ refusals-same;
       memory = h.memory ∙ memory-same;
@@ -107,12 +107,12 @@ module _ (script : Script) (t : ℕ) where
     -- the packet of a number
     packet-same : (b n : ℕ) → packet_at script r.journal t b n ≡ packet_at script s.journal t b n
     unfolding packet_at
-    packet-same b n = ap (λ (pairs : List (MsgName × ℕ)). option_map (spelled script r.journal n) (slice_get pairs n)) (links.numbers b) ∙ one (slice_get (out script s.journal t b) n) refl
+    packet-same b n = ap (λ (pairs : List (MsgName × ℕ)). option_map (spelled script r.journal n) (slice_get pairs n)) (links.numbers b) ∙ one (slice_get (numbered script s.journal t b) n) refl
       where
-        one : (o : Option (MsgName × ℕ)) → slice_get (out script s.journal t b) n ≡ o → option_map (spelled script r.journal n) o ≡ option_map (spelled script s.journal n) o
+        one : (o : Option (MsgName × ℕ)) → slice_get (numbered script s.journal t b) n ≡ o → option_map (spelled script r.journal n) o ≡ option_map (spelled script s.journal n) o
         one None at = refl
         one (Some pair) at =
-            let bytes = bytes-same script no_rules t r s same (record-sound script no_rules r ir) (record-exact script no_rules r ir) (record-sound script no_rules s is) (record-exact script no_rules s is) pair.0 (out-copied script s.journal t b n pair at).1 in
+            let bytes = bytes-same script no_rules t r s same (record-sound script no_rules r ir) (record-exact script no_rules r ir) (record-sound script no_rules s is) (record-exact script no_rules s is) pair.0 (numbered-copied script s.journal t b n pair at).1 in
             ap (λ (bs : List ℕ). Some (written.packet (data_packet script pair.0 n pair.1 bs))) bytes
 
     sends-same : (end : SendingEnd) (b : ℕ) → SendsFor script end r t b → SendsFor script end s t b

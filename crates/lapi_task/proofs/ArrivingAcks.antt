@@ -12,11 +12,12 @@ use Rattle.lapi_base.specs.declared.packet.Packet.{Packet}
 use Rattle.lapi_base.specs.declared.packet.Packet.TheVariants.{Ack}
 use Rattle.lapi_base.specs.declared.packet.DataPacket.{DataPacket}
 use Rattle.lapi_base.specs.declared.reply.Reply.TheVariants.{Did}
-use Rattle.lapi_base.specs.Arrived.{has_fragment, payload_of, whole_by}
-use Rattle.lapi_base.specs.Record.{Run, has_number, has_ack, with_handed, hand_over, deliver_entry, deliver, reply_with, followed}
-use Rattle.lapi_base.specs.Seen.{no_rules}
-use Rattle.lapi_base.specs.Valid.{ValidScript}
-use Rattle.lapi_base.specs.Written as written
+use Rattle.lapi_base.specs.Record.Arrived.{has_fragment, payload_of, whole_by}
+use Rattle.lapi_base.specs.Record.Wires.{Run, has_number, has_ack}
+use Rattle.lapi_base.specs.Record.Acts.{with_handed, hand_over, deliver_entry, deliver, reply_with, followed}
+use Rattle.lapi_base.specs.Record.WorldView.{no_rules}
+use Rattle.lapi_base.specs.Record.Valid.{ValidScript}
+use Rattle.lapi_base.specs.Packet.PacketBytes as written
 use Rattle.lapi_base.proofs.ListLaws.{at-place, get-set, get-set-other}
 use Rattle.lapi_base.proofs.TestLaws.{eqb-refl}
 use Rattle.lapi_link.specs.Receiver.{ReceivingEnd, packet_of, partial_by, partial_of, ReceivesFor}
@@ -28,7 +29,7 @@ use Rattle.lapi_window.specs.SendWindow.{sent_count}
 use Rattle.lapi_window.specs.SendWindow as window
 use Rattle.lapi_task.specs.declared.outcome.Outcome.{Outcome}
 use Rattle.lapi_task.specs.declared.task.Task.{Task}
-use Rattle.lapi_task.specs.Does.{IsAt, Does}
+use Rattle.lapi_task.specs.HasEffect.{IsAt, HasEffect}
 use Rattle.lapi_task.specs.Sends.{SendsFor, packet_at}
 use Rattle.lapi_task.specs.StandsFor.{SenderAt, ReceiverAt, HoldsFor, StandsFor}
 
@@ -155,12 +156,12 @@ module _ (script : Script) (r : Run) (from t k x y base bits : ℕ) where
   unfolding followed
   same-journal = refl
 
-  noted-does : (task : Task) (out : Outcome) → StandsFor script t task noted → Does script t r noted task out out
+  noted-does : (task : Task) (out : Outcome) → StandsFor script t task noted → HasEffect script t r noted task out out
   noted-does task out h = record {
     events = [];
     entries = [];
     stands = h;
-    happened = same-journal;
+    journal = same-journal;
     events_added = sym (append-nil out.events);
     put = λ b lt. sym (append-nil (map written.packet (r.wire t b)));
     entries_added = sym (append-nil out.entries);
@@ -185,7 +186,7 @@ module _ (script : Script) (r : Run) (from t k x y base bits : ℕ) where
     is-narrow valid = let size = here.1.numbers.size in let width = first-window script valid in omega (arith, size, width)
 
     -- and so the task is told of it.
-    pub acked-does : (new : SendingEnd) → IsAcked end new base bits → (out : Outcome) → Does script t r (deliver script no_rules r from t k) (with_sender task new) out out
+    pub acked-does : (new : SendingEnd) → IsAcked end new base bits → (out : Outcome) → HasEffect script t r (deliver script no_rules r from t k) (with_sender task new) out out
     acked-does new g out =
-        subst (λ s. Does script t r s (with_sender task new) out out) (sym (delivered entry))
+        subst (λ s. HasEffect script t r s (with_sender task new) out out) (sym (delivered entry))
         (noted-does (with_sender task new) out (stands-after task end new here.0 g here.1 at.stands))

@@ -9,27 +9,27 @@ use Rattle.lapi_base.specs.declared.event.Event.{Event}
 use Rattle.lapi_base.specs.declared.packet.Packet.{Packet}
 use Rattle.lapi_base.specs.declared.packet.Packet.TheVariants.{Data, Ack}
 use Rattle.lapi_base.specs.declared.packet.DataPacket.{DataPacket}
-use Rattle.lapi_base.specs.Arrived.{has_some, has_fragment, whole_by, is_whole, count_of}
-use Rattle.lapi_base.specs.Entries.{carried}
-use Rattle.lapi_base.specs.Layout.{unit_of}
-use Rattle.lapi_base.specs.Operations.{message_length}
-use Rattle.lapi_base.specs.Packets.{data_packet}
-use Rattle.lapi_base.specs.Receiving.{FitsScript, IsThereInPart}
-use Rattle.lapi_base.specs.Record.{Run, is_delivered}
-use Rattle.lapi_base.specs.Seen.{no_rules, IsRecord}
-use Rattle.lapi_laws.proofs.Out.{out-copied}
+use Rattle.lapi_base.specs.Record.Arrived.{has_some, has_fragment, whole_by, is_whole, count_of}
+use Rattle.lapi_base.specs.Laws.Entries.{carried}
+use Rattle.lapi_base.specs.Packet.Layout.{unit_of}
+use Rattle.lapi_base.specs.Record.Operations.{message_length}
+use Rattle.lapi_base.specs.Record.Packets.{data_packet}
+use Rattle.lapi_base.specs.Laws.Receiving.{FitsScript, IsThereInPart}
+use Rattle.lapi_base.specs.Record.Wires.{Run, is_delivered}
+use Rattle.lapi_base.specs.Record.WorldView.{no_rules, IsRecord}
+use Rattle.lapi_laws.proofs.Out.{numbered-copied}
 use Rattle.lapi_laws.proofs.Shorts.{copied-short}
 use Rattle.lapi_laws.proofs.Sound.{Fits as IsOf}
-use Rattle.lapi_link.specs.Receiver.{is_complete, IsPartOnly, Fits}
+use Rattle.lapi_link.specs.Receiver.{is_complete, IsPartOnly, MayArrive}
 use Rattle.lapi_link.proofs.HeldPackets.{packet-found}
 use Rattle.lapi_parts.proofs.ArrivingPackets.{counts-is, length-is, repeats-known}
 use Rattle.lapi_parts.proofs.ExactBytes.{Exact, record-exact}
 use Rattle.lapi_parts.proofs.InReach.{packets-in-reach}
 use Rattle.lapi_parts.proofs.Receivable.{packets-fit, heads-agree, new-open, new-room}
 use Rattle.lapi_parts.proofs.Records.{record-sound}
-use Rattle.lapi_task.specs.Performed.{IsPerformed}
+use Rattle.lapi_task.specs.Supported.{IsSupported}
 use Rattle.lapi_parts.proofs.FirstLayout.{first-unit, first-longest}
-use Rattle.lapi_base.specs.Valid.{ValidScript}
+use Rattle.lapi_base.specs.Record.Valid.{ValidScript}
 use Rattle.lapi_base.proofs.BelowLaws.{every_below-at}
 use Rattle.lapi_base.proofs.ListLaws.{all-get}
 use Rattle.lapi_base.proofs.PacketNumbers.{some-there}
@@ -74,14 +74,14 @@ module _ (script : Script) where
   all-in-part J ps [] exact all = tt
   all-in-part J ps (m ∷ ms) exact all = (in-part J ps m exact all.0, all-in-part J ps ms exact all.1)
 
-  pub arriving-fits : IsPerformed script → (r : Run) (a b k : ℕ) (p : DataPacket) → IsRecord script no_rules r → slice_get (r.wire a b) k ≡ Some (Data p) → Fits script (r.handed a b) p
+  pub arriving-fits : IsSupported script → (r : Run) (a b k : ℕ) (p : DataPacket) → IsRecord script no_rules r → slice_get (r.wire a b) k ≡ Some (Data p) → MayArrive script (r.handed a b) p
   arriving-fits performed r a b k p is at =
       let J = r.journal in
       let ps = r.handed a b in
       let sound = record-sound script no_rules r is in
       let exact = record-exact script no_rules r is in
       let own = all-get (Exact script no_rules J) (r.wire a b) k (Data p) (exact.wires a b) at in
-      let copied = (out-copied script J a b p.seq (p.name, p.fragment) (all-get (IsOf script no_rules J r.handed a b) (r.wire a b) k (Data p) (sound.wires a b) at)).0 in
+      let copied = (numbered-copied script J a b p.seq (p.name, p.fragment) (all-get (IsOf script no_rules J r.handed a b) (r.wire a b) k (Data p) (sound.wires a b) at)).0 in
       let fits : FitsScript script no_rules p = packets-fit script no_rules r is performed.valid (omega arith, omega arith) a b k p at in
       let missing : is_delivered r a b p.seq ≡ false → has_fragment ps p.name p.fragment ≡ false = λ fresh. (new-open script no_rules r is a b k p at fresh).1 in
       record {

@@ -14,29 +14,29 @@ use Rattle.lapi_base.specs.declared.message.Leg.TheVariants.{Go}
 use Rattle.lapi_base.specs.declared.message.MsgName.{MsgName}
 use Rattle.lapi_base.specs.declared.packet.Packet.{Packet}
 use Rattle.lapi_base.specs.declared.packet.Packet.TheVariants.{Data}
-use Rattle.lapi_base.specs.Atomic.{Atomic}
-use Rattle.lapi_base.specs.Below.{below}
-use Rattle.lapi_base.specs.Counters.{count, reads, tells, copy_tells, is_counter}
-use Rattle.lapi_base.specs.Entries.{carried}
-use Rattle.lapi_base.specs.Layout.{unit_of}
-use Rattle.lapi_base.specs.Fragments.{fragments_in, fragment_bytes}
-use Rattle.lapi_base.specs.Jobs.{runs}
-use Rattle.lapi_base.specs.Names.{message, name_eq, done, Issued, Copied}
-use Rattle.lapi_base.specs.Operations.{upto, statement, statements, is_data, target, sender, receiver, message_length, fragment_count, fragments, address, origin_pieces, org_counter}
-use Rattle.lapi_base.specs.Operations as operations
-use Rattle.lapi_base.specs.Packets.{data_packet}
-use Rattle.lapi_base.specs.Receiving.{NamesCounter}
-use Rattle.lapi_base.specs.Record.{Run, out}
-use Rattle.lapi_base.specs.Refusals.{next, refusals, option_any}
-use Rattle.lapi_base.specs.Seen.{no_rules}
-use Rattle.lapi_base.specs.Spelling.{HasSpelling}
-use Rattle.lapi_base.specs.Values.{values, memory_bytes, gathered}
-use Rattle.lapi_base.specs.Written as written
+use Rattle.lapi_base.specs.Record.Atomic.{Atomic}
+use Rattle.lapi_base.specs.Record.Below.{below}
+use Rattle.lapi_base.specs.Record.Counters.{count, reads, tells, copy_tells, is_counter}
+use Rattle.lapi_base.specs.Laws.Entries.{carried}
+use Rattle.lapi_base.specs.Packet.Layout.{unit_of}
+use Rattle.lapi_base.specs.Record.Fragments.{fragments_in, fragment_bytes}
+use Rattle.lapi_base.specs.Record.Jobs.{runs}
+use Rattle.lapi_base.specs.Record.Names.{message, name_eq, happened, Issued, Copied}
+use Rattle.lapi_base.specs.Record.Operations.{numbers_below, statement, statements, is_data, target, sender, receiver, message_length, fragment_count, fragments, address, origin_pieces, org_counter}
+use Rattle.lapi_base.specs.Record.Operations as operations
+use Rattle.lapi_base.specs.Record.Packets.{data_packet}
+use Rattle.lapi_base.specs.Laws.Receiving.{NamesCounter}
+use Rattle.lapi_base.specs.Record.Wires.{Run, numbered}
+use Rattle.lapi_base.specs.Record.Refusals.{next, refusals, option_any}
+use Rattle.lapi_base.specs.Record.WorldView.{no_rules}
+use Rattle.lapi_base.specs.Packet.Spelling.{HasSpelling}
+use Rattle.lapi_base.specs.Record.Values.{values, memory_bytes, gathered}
+use Rattle.lapi_base.specs.Packet.PacketBytes as written
 use Rattle.lapi_base.proofs.BelowLaws.{below-all}
 use Rattle.lapi_base.proofs.ListLaws.{get-after, get-before, get-set, get-set-other, get-some}
-use Rattle.lapi_base.proofs.NameLaws.{done-head, done-other, name_eq-refl}
+use Rattle.lapi_base.proofs.NameLaws.{happened-head, happened-other, name_eq-refl}
 use Rattle.lapi_base.proofs.TestLaws.{eqb-refl}
-use Rattle.lapi_base.proofs.UptoLaws.{upto-length}
+use Rattle.lapi_base.proofs.UptoLaws.{numbers_below-length}
 use Rattle.lapi_laws.proofs.Shorts.{copied-short}
 use Rattle.lapi_link.specs.Sender.{SendingEnd}
 use Rattle.lapi_parts.proofs.Accepted.{copied-accepted}
@@ -47,35 +47,35 @@ use Rattle.lapi_task.specs.declared.put.Put.{Put}
 use Rattle.lapi_task.specs.declared.task.Task.{Task}
 use Rattle.lapi_task.specs.Copies.{source, IsCopyable, IsCopied, CopiesNext}
 use Rattle.lapi_task.specs.Counting.{announced}
-use Rattle.lapi_task.specs.Performed.{IsPerformed}
+use Rattle.lapi_task.specs.Supported.{IsSupported}
 use Rattle.lapi_task.specs.Puts.{put_of, statement_of, put_packet, put_bytes, put_packets, extended}
 use Rattle.lapi_task.specs.Sends.{packet_at, SendsFor}
 use Rattle.lapi_task.specs.StandsFor.{is_uncopied, SenderAt, ReceiverAt, HoldsFor, StandsFor}
 use Rattle.lapi_task.proofs.CopyLists.{below-less, other-message}
 use Rattle.lapi_task.proofs.Forms.{data-put, statement-is}
 use Rattle.lapi_laws.proofs.Places.{fragments-length}
-use Rattle.lapi_task.proofs.Packets.{packet-stays, packet-same, packet-new, out-own}
+use Rattle.lapi_task.proofs.Packets.{packet-stays, packet-same, packet-new, numbered-own}
 use Rattle.lapi_task.proofs.ReceiveCounts.{announced-length, announced-at}
 use Rattle.lapi_task.proofs.StepMemories.{read-over, memory-none, memory-length}
 
 -- ---- the link
 
-upto-at : (c k j : ℕ) → slice_get (upto c) k ≡ Some j → j ≡ k
-unfolding upto below
-upto-at zero k j h = absurd (cc)
-upto-at (suc c) k j h =
+numbers_below-at : (c k j : ℕ) → slice_get (numbers_below c) k ≡ Some j → j ≡ k
+unfolding numbers_below below
+numbers_below-at zero k j h = absurd (cc)
+numbers_below-at (suc c) k j h =
     ⊎_elim
-    (λ (lt : k < c). upto-at c k j (sym (get-before (upto c) (c ∷ []) k (let n = upto-length c in omega (arith, lt, n))) ∙ h))
+    (λ (lt : k < c). numbers_below-at c k j (sym (get-before (numbers_below c) (c ∷ []) k (let n = numbers_below-length c in omega (arith, lt, n))) ∙ h))
     (λ (ge : c ≤ k).
-    let at : k ≡ length (upto c) + (k - c) = (let n = upto-length c in omega (arith, ge, n)) in
-    last (k - c) (sym (get-after (upto c) (c ∷ []) (k - c)) ∙ ap (slice_get (upto c ++ c ∷ [])) (sym at) ∙ h) (omega arith))
+    let at : k ≡ length (numbers_below c) + (k - c) = (let n = numbers_below-length c in omega (arith, ge, n)) in
+    last (k - c) (sym (get-after (numbers_below c) (c ∷ []) (k - c)) ∙ ap (slice_get (numbers_below c ++ c ∷ [])) (sym at) ∙ h) (omega arith))
     (cases_lt k c)
   where
     last : (d : ℕ) → slice_get (c ∷ []) d ≡ Some j → c + d ≡ k → j ≡ k
     last zero e at = (let q : c ≡ j = cc in omega (arith, q, at))
     last (suc d) e at = absurd (cc)
 
-module _ (script : Script) (perf : IsPerformed script) where
+module _ (script : Script) (perf : IsSupported script) where
   -- the put of a message, with its ends, its length and its packets
   module _ (t i : ℕ) (put : Put) (e : statement script t i ≡ statement_of put) where
     abbrev m : MsgName
@@ -97,36 +97,36 @@ module _ (script : Script) (perf : IsPerformed script) where
     packet-is n j bytes = rw e refl
 
     -- what it carries
-    pub carried-is : (J : List Event) → carried script no_rules (Copy m ∷ J) m ≡ map (λ k. (values script no_rules J).memory t (put.from + k)) (upto put.len)
+    pub carried-is : (J : List Event) → carried script no_rules (Copy m ∷ J) m ≡ map (λ k. (values script no_rules J).memory t (put.from + k)) (numbers_below put.len)
     unfolding values gathered address
-    carried-is J = cond-true (name_eq m m) _ ((values script no_rules J).bytes m) (name_eq-refl m) ∙ rw e (append-nil (map (λ k. (values script no_rules J).memory t (put.from + k)) (upto put.len)))
+    carried-is J = cond-true (name_eq m m) _ ((values script no_rules J).bytes m) (name_eq-refl m) ∙ rw e (append-nil (map (λ k. (values script no_rules J).memory t (put.from + k)) (numbers_below put.len)))
 
     pub source-is : (J : List Event) (task : Task) → task.memory ≡ memory_bytes script no_rules J t → put.from + put.len ≤ script.memory → source task put ≡ carried script no_rules (Copy m ∷ J) m
     unfolding memory_bytes
     source-is J task h l = ap (λ (xs : List ℕ). take put.len (drop put.from xs)) h ∙ read-over ((values script no_rules J).memory t) script.memory put.from put.len l ∙ sym (carried-is J)
 
     -- The link from t to the target.
-    abbrev numbered : List Event → ℕ → ℕ → List ℕ
-    numbered J n j = put_bytes (unit_of script) put t i n (carried script no_rules (Copy m ∷ J) m) j
+    abbrev spelled-fragment : List Event → ℕ → ℕ → List ℕ
+    spelled-fragment J n j = put_bytes (unit_of script) put t i n (carried script no_rules (Copy m ∷ J) m) j
 
-    new-packet : (J : List Event) (k : ℕ) → let n = length (out script J t put.target) in packet_at script (Copy m ∷ J) t put.target (n + k) ≡ slice_get (map (numbered J n) (upto (fragments_in (unit_of script) put.len))) k
+    new-packet : (J : List Event) (k : ℕ) → let n = length (numbered script J t put.target) in packet_at script (Copy m ∷ J) t put.target (n + k) ≡ slice_get (map (spelled-fragment J n) (numbers_below (fragments_in (unit_of script) put.len))) k
     new-packet J k =
-        let n = length (out script J t put.target) in
-        let js = upto (fragments_in (unit_of script) put.len) in
-        subst (λ b. packet_at script (Copy m ∷ J) t b (length (out script J t b) + k) ≡ option_map (λ j. written.packet (data_packet script m (length (out script J t b) + k) j (carried script no_rules (Copy m ∷ J) m))) (slice_get (upto (fragment_count script m)) k)) receiver-is (packet-new script m J k)
-        ∙ ap (λ (c : ℕ). option_map (λ j. written.packet (data_packet script m (n + k) j (carried script no_rules (Copy m ∷ J) m))) (slice_get (upto c) k)) count-is
+        let n = length (numbered script J t put.target) in
+        let js = numbers_below (fragments_in (unit_of script) put.len) in
+        subst (λ b. packet_at script (Copy m ∷ J) t b (length (numbered script J t b) + k) ≡ option_map (λ j. written.packet (data_packet script m (length (numbered script J t b) + k) j (carried script no_rules (Copy m ∷ J) m))) (slice_get (numbers_below (fragment_count script m)) k)) receiver-is (packet-new script m J k)
+        ∙ ap (λ (c : ℕ). option_map (λ j. written.packet (data_packet script m (n + k) j (carried script no_rules (Copy m ∷ J) m))) (slice_get (numbers_below c) k)) count-is
         ∙ at-place (slice_get js k) refl
-        ∙ sym (slice_get-map (numbered J n) js k)
+        ∙ sym (slice_get-map (spelled-fragment J n) js k)
       where
-        at-place : (o : Option ℕ) → slice_get (upto (fragments_in (unit_of script) put.len)) k ≡ o → option_map (λ j. written.packet (data_packet script m (length (out script J t put.target) + k) j (carried script no_rules (Copy m ∷ J) m))) o ≡ option_map (numbered J (length (out script J t put.target))) o
+        at-place : (o : Option ℕ) → slice_get (numbers_below (fragments_in (unit_of script) put.len)) k ≡ o → option_map (λ j. written.packet (data_packet script m (length (numbered script J t put.target) + k) j (carried script no_rules (Copy m ∷ J) m))) o ≡ option_map (spelled-fragment J (length (numbered script J t put.target))) o
         at-place None h = refl
         at-place (Some j) h =
-            let n = length (out script J t put.target) in
+            let n = length (numbered script J t put.target) in
             ap (λ (p : Packet). Some (written.packet p)) (packet-is (n + k) j (carried script no_rules (Copy m ∷ J) m))
-            ∙ ap (λ (x : ℕ). Some (written.packet (Data (put_packet put t i (n + x) j (fragment_bytes (unit_of script) j (carried script no_rules (Copy m ∷ J) m)))))) (sym (upto-at (fragments_in (unit_of script) put.len) k j h))
+            ∙ ap (λ (x : ℕ). Some (written.packet (Data (put_packet put t i (n + x) j (fragment_bytes (unit_of script) j (carried script no_rules (Copy m ∷ J) m)))))) (sym (numbers_below-at (fragments_in (unit_of script) put.len) k j h))
 
-    pub out-more : (J : List Event) → out script (Copy m ∷ J) t put.target ≡ out script J t put.target ++ fragments script m
-    out-more J = subst (λ b. out script (Copy m ∷ J) t b ≡ out script J t b ++ fragments script m) receiver-is (out-own script m J)
+    pub numbered-more : (J : List Event) → numbered script (Copy m ∷ J) t put.target ≡ numbered script J t put.target ++ fragments script m
+    numbered-more J = subst (λ b. numbered script (Copy m ∷ J) t b ≡ numbered script J t b ++ fragments script m) receiver-is (numbered-own script m J)
 
     -- The end of the link, where the message was copied.
     module _ (r : Run) (s : SendingEnd) (h : SendsFor script s r t put.target) (atomic : Atomic script no_rules (Copy m ∷ r.journal)) where
@@ -137,17 +137,17 @@ module _ (script : Script) (perf : IsPerformed script) where
       K = Copy m ∷ J
 
       abbrev xs : List (List ℕ)
-      xs = map (numbered J (length (out script J t put.target))) (upto (fragments_in (unit_of script) put.len))
+      xs = map (spelled-fragment J (length (numbered script J t put.target))) (numbers_below (fragments_in (unit_of script) put.len))
 
       xs-length : length xs ≡ fragment_count script m
-      xs-length = length-map (upto (fragments_in (unit_of script) put.len)) (numbered J (length (out script J t put.target))) ∙ upto-length (fragments_in (unit_of script) put.len) ∙ sym count-is
+      xs-length = length-map (numbers_below (fragments_in (unit_of script) put.len)) (spelled-fragment J (length (numbered script J t put.target))) ∙ numbers_below-length (fragments_in (unit_of script) put.len) ∙ sym count-is
 
-      out-length : length (out script K t put.target) ≡ length (out script J t put.target) + length xs
-      out-length = ap length (out-more J) ∙ length-append (out script J t put.target) (fragments script m) ∙ ap (λ k. length (out script J t put.target) + k) (fragments-length script m ∙ sym xs-length)
+      numbered-length : length (numbered script K t put.target) ≡ length (numbered script J t put.target) + length xs
+      numbered-length = ap length (numbered-more J) ∙ length-append (numbered script J t put.target) (fragments script m) ∙ ap (λ k. length (numbered script J t put.target) + k) (fragments-length script m ∙ sym xs-length)
 
       waits : (k : ℕ) → slice_get (s.waiting ++ xs) k ≡ packet_at script K t put.target (sent_count s.window + k)
       waits k =
-          let n = length (out script J t put.target) in
+          let n = length (numbered script J t put.target) in
           let counted : sent_count s.window + length s.waiting ≡ n = h.whole ∙ h.numbers.numbers in
           ⊎_elim
           (λ (lt : k < length s.waiting).
@@ -161,7 +161,7 @@ module _ (script : Script) (perf : IsPerformed script) where
       extended-now : SendsFor script (extended s xs) (record r { journal = K }) t put.target
       unfolding bytes_of
       extended-now = record {
-        numbers = record { size = h.numbers.size; numbers = ap (λ k. k + length xs) h.numbers.numbers ∙ sym out-length; sent = h.numbers.sent; acked = h.numbers.acked };
+        numbers = record { size = h.numbers.size; numbers = ap (λ k. k + length xs) h.numbers.numbers ∙ sym numbered-length; sent = h.numbers.sent; acked = h.numbers.acked };
         whole = (let w = h.whole in let l = length-append s.waiting xs in omega (arith, w, l));
         kept = λ n l u. h.kept n l u ∙ sym (packet-stays script (Copy m) J t put.target n atomic (let w = h.whole in let c = h.numbers.numbers in omega (arith, w, c, l)));
         waiting = waits;
@@ -171,14 +171,14 @@ module _ (script : Script) (perf : IsPerformed script) where
       copied-sends bytes same = subst (λ (ys : List (List ℕ)). SendsFor script (extended s ys) (record r { journal = K }) t put.target) (λ k. put_packets (unit_of script) put t i (sym h.numbers.numbers k) (sym same k)) extended-now
 
     -- Another link stays as it was.
-    out-other : (J : List Event) (b : ℕ) → b ≢ put.target → out script (Copy m ∷ J) t b ≡ out script J t b
-    unfolding out
-    out-other J b ne = cond-false (sender script m == t && receiver script m == b) _ (out script J t b) (and_right (t == t) (receiver script m == b) (ne_eqb (receiver script m) b (λ same. ne (sym same ∙ receiver-is))))
+    numbered-other : (J : List Event) (b : ℕ) → b ≢ put.target → numbered script (Copy m ∷ J) t b ≡ numbered script J t b
+    unfolding numbered
+    numbered-other J b ne = cond-false (sender script m == t && receiver script m == b) _ (numbered script J t b) (and_right (t == t) (receiver script m == b) (ne_eqb (receiver script m) b (λ same. ne (sym same ∙ receiver-is))))
 
     pub other-sends : (r : Run) (b : ℕ) (o : Option SendingEnd) → b ≢ put.target → Atomic script no_rules (Copy m ∷ r.journal) → SenderAt script r t b o → SenderAt script (record r { journal = Copy m ∷ r.journal }) t b o
     other-sends r b None ne atomic h = absurd h
     other-sends r b (Some s) ne atomic h =
-        let same = out-other r.journal b ne in
+        let same = numbered-other r.journal b ne in
         record {
           numbers = record { size = h.numbers.size; numbers = h.numbers.numbers ∙ sym (ap length same); sent = h.numbers.sent; acked = h.numbers.acked };
           whole = h.whole;
@@ -197,7 +197,7 @@ pub record IsPopped (before after : Task) (rest : List ℕ) : Type 0 where
   pub list : after.uncopied.items ≡ rest
   pub others : after ≡ record before { uncopied = after.uncopied }
 
-module _ (script : Script) (perf : IsPerformed script) (t : ℕ) (task : Task) (r : Run) (i : ℕ) (rest : List ℕ) (h : CopiesNext script t task r i rest) where
+module _ (script : Script) (perf : IsSupported script) (t : ℕ) (task : Task) (r : Run) (i : ℕ) (rest : List ℕ) (h : CopiesNext script t task r i rest) where
   abbrev go : MsgName
   go = message t i Go
 
@@ -223,11 +223,11 @@ module _ (script : Script) (perf : IsPerformed script) (t : ℕ) (task : Task) (
     accepted-put : (put.target < script.tasks) × (put.from + put.len ≤ script.memory) × ((c : ℕ) → put.org ≡ Some c → c < script.counters) × (put.len ≤ 16384)
     unfolding address
     accepted-put =
-        let acc = copied-accepted script no_rules L go h.atomic (done-head (Copy go) r.journal) in (
+        let acc = copied-accepted script no_rules L go h.atomic (happened-head (Copy go) r.journal) in (
           subst (λ k. k < script.tasks) (receiver-is script perf t i put e) acc.target,
           (subst (λ (s : Statement). AllByRecursion (λ (p : _). address script (target script t i) p.at + p.len ≤ script.memory) (origin_pieces s)) e acc.from).0,
           (λ c at. subst (λ (o : Option ℕ). NamesCounter script o) at (subst (λ (s : Statement). NamesCounter script (org_counter s)) e acc.org)),
-          subst (λ k. k ≤ 16384) (length-is script perf t i put e) (subst (λ n. message_length script go ≤ n) (first-longest script perf.valid) (copied-short script no_rules L go h.atomic (done-head (Copy go) r.journal))),
+          subst (λ k. k ≤ 16384) (length-is script perf t i put e) (subst (λ n. message_length script go ≤ n) (first-longest script perf.valid) (copied-short script no_rules L go h.atomic (happened-head (Copy go) r.journal))),
         )
 
     pub counters-then : (counters : List ℕ) → length counters ≡ script.counters → ((c : ℕ) → c < script.counters → slice_index counters c ≡ count script no_rules r.journal t c) → (c : ℕ) → c < script.counters → slice_index (announced counters put.org) c ≡ count script no_rules L t c
@@ -246,7 +246,7 @@ module _ (script : Script) (perf : IsPerformed script) (t : ℕ) (task : Task) (
     source-spelled : (n j : ℕ) → n < 2 ^ 32 → j < fragments_in (unit_of script) put.len → HasSpelling (Data (put_packet put t i n j (fragment_bytes (unit_of script) j (carried script no_rules L go))))
     source-spelled n j ln lj =
         subst HasSpelling (packet-is script perf t i put e n j (carried script no_rules L go))
-        (written.packet (data_packet script go n j (carried script no_rules L go)), message-spelled script no_rules perf.valid (lit≤ tt, lit≤ tt) L go n j h.atomic (done-head (Copy go) r.journal) ln (subst (λ (c : ℕ). j < c) (sym (count-is script perf t i put e)) lj))
+        (written.packet (data_packet script go n j (carried script no_rules L go)), message-spelled script no_rules perf.valid (lit≤ tt, lit≤ tt) L go n j h.atomic (happened-head (Copy go) r.journal) ln (subst (λ (c : ℕ). j < c) (sym (count-is script perf t i put e)) lj))
 
     pub carries : source task put ≡ carried script no_rules L go
     carries = source-is script perf t i put e r.journal task h.stands.holds.memory accepted-put.1
@@ -267,8 +267,8 @@ module _ (script : Script) (perf : IsPerformed script) (t : ℕ) (task : Task) (
     uncopied-then : below (length (statements script t)) (is_uncopied script L t) ≡ rest
     uncopied-then =
         below-less (length (statements script t)) (is_uncopied script r.journal t) (is_uncopied script L t) i rest listed
-        (and_right (is_data-of i) _ (and_right (done (Issued t i) L) _ (ap not (done-head (Copy go) r.journal))))
-        (λ k ne. λ j. is_data-of k && (done-other (Issued t k) (Copy go) r.journal refl j && not (done-other (Copied (message t k Go)) (Copy go) r.journal (other-message t i k ne) j)))
+        (and_right (is_data-of i) _ (and_right (happened (Issued t i) L) _ (ap not (happened-head (Copy go) r.journal))))
+        (λ k ne. λ j. is_data-of k && (happened-other (Issued t k) (Copy go) r.journal refl j && not (happened-other (Copied (message t k Go)) (Copy go) r.journal (other-message t i k ne) j)))
       where
         is_data-of : ℕ → Bool
         is_data-of k = operations.is_data (statement script t k)
@@ -279,7 +279,7 @@ module _ (script : Script) (perf : IsPerformed script) (t : ℕ) (task : Task) (
         let g = h.stands.holds in record {
           number = ap (λ (x : Task). x.number) same ∙ g.number;
           next = ap (λ (x : Task). x.next) same ∙ g.next;
-          ahead = λ k l. done-other (Issued t k) (Copy go) r.journal refl ∙ g.ahead k (subst (λ n. n ≤ k) (ap (λ (x : Task). x.next) same) l);
+          ahead = λ k l. happened-other (Issued t k) (Copy go) r.journal refl ∙ g.ahead k (subst (λ n. n ≤ k) (ap (λ (x : Task). x.next) same) l);
           reads = ap (λ (x : Task). x.reads.items) same ∙ g.reads;
           refusals = ap (λ (x : Task). x.refusals.items) same ∙ g.refusals;
           memory = ap (λ (x : Task). x.memory) same ∙ g.memory ∙ sym (memory-none script (Copy go) r.journal t refl);
@@ -333,7 +333,7 @@ popped-is (Some y) old new rest x i made is first =
     let same : y ∷ new ≡ i ∷ rest = sym made ∙ first in
     ((let q : x ≡ i = cc in q), (let q : new ≡ rest = cc in q))
 
-module _ (script : Script) (perf : IsPerformed script) (t : ℕ) (task : Task) (r : Run) (i : ℕ) (rest : List ℕ) (h : CopiesNext script t task r i rest) where
+module _ (script : Script) (perf : IsSupported script) (t : ℕ) (task : Task) (r : Run) (i : ℕ) (rest : List ℕ) (h : CopiesNext script t task r i rest) where
   put-there : (number x : ℕ) (o : Option Put) → number ≡ t → x ≡ i → o ≡ option_and_then put_of (slice_get (statements script number) x) → o ≡ Some (next-put script perf t task r i rest h).0
   put-there number x o same at made =
       let next = next-put script perf t task r i rest h in

@@ -8,13 +8,13 @@ use Rattle.lapi_base.specs.declared.event.Event.{Event}
 use Rattle.lapi_base.specs.declared.event.Event.TheVariants.{Copy}
 use Rattle.lapi_base.specs.declared.message.Leg.TheVariants.{Go}
 use Rattle.lapi_base.specs.declared.message.MsgName.{MsgName}
-use Rattle.lapi_base.specs.Below.{below}
-use Rattle.lapi_base.specs.Names.{Issued, Copied, Entered, done, message, name_eq}
-use Rattle.lapi_base.specs.Operations.{upto, statement, statements, is_data}
-use Rattle.lapi_base.specs.Record.{copy_each, ready, to_copy_of, joins, followed}
+use Rattle.lapi_base.specs.Record.Below.{below}
+use Rattle.lapi_base.specs.Record.Names.{Issued, Copied, Entered, happened, message, name_eq}
+use Rattle.lapi_base.specs.Record.Operations.{numbers_below, statement, statements, is_data}
+use Rattle.lapi_base.specs.Record.Acts.{copy_each, ready, to_copy_of, joins, followed}
 use Rattle.lapi_base.proofs.ListLaws.{all-append, flat_map-push}
-use Rattle.lapi_base.proofs.NameLaws.{done-other}
-use Rattle.lapi_task.specs.Performed.{IsPerformed}
+use Rattle.lapi_base.proofs.NameLaws.{happened-other}
+use Rattle.lapi_task.specs.Supported.{IsSupported}
 use Rattle.lapi_task.specs.StandsFor.{is_uncopied}
 use Rattle.lapi_task.proofs.Forms.{no-join}
 
@@ -47,12 +47,12 @@ unfolding name_eq
 other-message t i k ne = and_left (t == t && k == i) true (and_right (t == t) (k == i) (ne_eqb k i ne))
 
 -- the copies of other statements leave a message uncopied
-not-among : (t n : ℕ) (numbers : List ℕ) (J : List Event) → AllByRecursion (λ i. i < n) numbers → done (Copied (message t n Go)) (followed J (copies t numbers)) ≡ done (Copied (message t n Go)) J
+not-among : (t n : ℕ) (numbers : List ℕ) (J : List Event) → AllByRecursion (λ i. i < n) numbers → happened (Copied (message t n Go)) (followed J (copies t numbers)) ≡ happened (Copied (message t n Go)) J
 unfolding followed
 not-among t n [] J h = refl
 not-among t n (i ∷ numbers) J h =
     not-among t n numbers (Copy (message t i Go) ∷ J) h.1
-    ∙ done-other (Copied (message t n Go)) (Copy (message t i Go)) J (other-message t i n (let l = h.0 in λ same. absurd (omega (arith, l, same))))
+    ∙ happened-other (Copied (message t n Go)) (Copy (message t i Go)) J (other-message t i n (let l = h.0 in λ same. absurd (omega (arith, l, same))))
 
 below-bound : (n : ℕ) (p : ℕ → Bool) (m : ℕ) → n ≤ m → AllByRecursion (λ i. i < m) (below n p)
 unfolding below
@@ -66,9 +66,9 @@ below-bound (suc n) p m l =
 copy_each-append : (J : List Event) (ms ns : List MsgName) → copy_each J (ms ++ ns) ≡ copy_each (copy_each J ms) ns
 unfolding copy_each
 copy_each-append J [] ns = refl
-copy_each-append J (m ∷ ms) ns = copy_each-append (cond (done (Copied m) J) J (Copy m ∷ J)) ms ns
+copy_each-append J (m ∷ ms) ns = copy_each-append (cond (happened (Copied m) J) J (Copy m ∷ J)) ms ns
 
-one-copy : (K : List Event) (m : MsgName) → copy_each K (m ∷ []) ≡ cond (done (Copied m) K) K (Copy m ∷ K)
+one-copy : (K : List Event) (m : MsgName) → copy_each K (m ∷ []) ≡ cond (happened (Copied m) K) K (Copy m ∷ K)
 unfolding copy_each
 one-copy K m = refl
 
@@ -76,31 +76,31 @@ no-copy : (K : List Event) → copy_each K [] ≡ K
 unfolding copy_each
 no-copy K = refl
 
-module _ (script : Script) (perf : IsPerformed script) (J : List Event) (t : ℕ) where
+module _ (script : Script) (perf : IsSupported script) (J : List Event) (t : ℕ) where
   -- what statement i has to copy: the data of a put that was issued
-  to-copy : (i : ℕ) → to_copy_of script J t i ≡ cond (is_data (statement script t i) && done (Issued t i) J) (message t i Go ∷ []) []
-  to-copy i = ap (λ b. cond (is_data (statement script t i) && done (Issued t i) J) (message t i Go ∷ []) (cond (b && done (Entered t i) J) (joins script t i) [])) (no-join script perf t i)
+  to-copy : (i : ℕ) → to_copy_of script J t i ≡ cond (is_data (statement script t i) && happened (Issued t i) J) (message t i Go ∷ []) []
+  to-copy i = ap (λ b. cond (is_data (statement script t i) && happened (Issued t i) J) (message t i Go ∷ []) (cond (b && happened (Entered t i) J) (joins script t i) [])) (no-join script perf t i)
 
   abbrev copied_first : ℕ → List Event
-  copied_first n = copy_each J (flat_map (to_copy_of script J t) (upto n))
+  copied_first n = copy_each J (flat_map (to_copy_of script J t) (numbers_below n))
 
   abbrev list_first : ℕ → List Event
   list_first n = followed J (copies t (below n (is_uncopied script J t)))
 
   copied-more : (n : ℕ) → copied_first (suc n) ≡ copy_each (copied_first n) (to_copy_of script J t n)
-  unfolding upto below
-  copied-more n = ap (copy_each J) (flat_map-push (to_copy_of script J t) (upto n) n) ∙ copy_each-append J (flat_map (to_copy_of script J t) (upto n)) (to_copy_of script J t n)
+  unfolding numbers_below below
+  copied-more n = ap (copy_each J) (flat_map-push (to_copy_of script J t) (numbers_below n) n) ∙ copy_each-append J (flat_map (to_copy_of script J t) (numbers_below n)) (to_copy_of script J t n)
 
-  fresh-still : (n : ℕ) → done (Copied (message t n Go)) (list_first n) ≡ done (Copied (message t n Go)) J
+  fresh-still : (n : ℕ) → happened (Copied (message t n Go)) (list_first n) ≡ happened (Copied (message t n Go)) J
   fresh-still n = not-among t n (below n (is_uncopied script J t)) J (below-bound n (is_uncopied script J t) n (omega arith))
 
   copies-first : (n : ℕ) → copied_first n ≡ list_first n
-  unfolding upto below followed copy_each
+  unfolding numbers_below below followed copy_each
   copies-first zero = refl
   copies-first (suc n) =
       let d = is_data (statement script t n) in
-      let i = done (Issued t n) J in
-      let c = done (Copied (message t n Go)) J in
+      let i = happened (Issued t n) J in
+      let c = happened (Copied (message t n Go)) J in
       let go = message t n Go in
       let K = list_first n in
       copied-more n
@@ -111,7 +111,7 @@ module _ (script : Script) (perf : IsPerformed script) (J : List Event) (t : ℕ
             let two = and_parts i (not c) one.1 in
             ap (copy_each K) (to-copy n ∙ cond-true (d && i) (go ∷ []) [] (and_from d i one.0 two.0))
             ∙ one-copy K go
-            ∙ cond-false (done (Copied go) K) K (Copy go ∷ K) (fresh-still n ∙ not-true c two.1)
+            ∙ cond-false (happened (Copied go) K) K (Copy go ∷ K) (fresh-still n ∙ not-true c two.1)
             ∙ sym (followed-push J t (below n (is_uncopied script J t)) n)
         | false ↦ λ e.
             ap (copy_each K) (to-copy n)
@@ -119,7 +119,7 @@ module _ (script : Script) (perf : IsPerformed script) (J : List Event) (t : ℕ
               | true ↦ λ both.
                   let parts = and_parts d i both in
                   let copied : c ≡ true = ⊎_elim (λ (x : d ≡ false). absurd (both_ways d x parts.0)) (λ (x : (i && not c) ≡ false). ⊎_elim (λ (y : i ≡ false). absurd (both_ways i y parts.1)) (λ (y : not c ≡ false). not-false c y) (and_cases i (not c) x)) (and_cases d (i && not c) e) in
-                  one-copy K go ∙ cond-true (done (Copied go) K) K (Copy go ∷ K) (fresh-still n ∙ copied)
+                  one-copy K go ∙ cond-true (happened (Copied go) K) K (Copy go ∷ K) (fresh-still n ∙ copied)
               | false ↦ λ both. no-copy K
             ] refl
       ] refl

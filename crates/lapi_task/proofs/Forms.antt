@@ -9,12 +9,12 @@ use Rattle.lapi_base.specs.declared.address.Addr.TheVariants.{Plain, Table}
 use Rattle.lapi_base.specs.declared.statement.Statement.{Statement}
 use Rattle.lapi_base.specs.declared.statement.Statement.TheVariants as statements
 use Rattle.lapi_base.specs.declared.script.Script.{Script}
-use Rattle.lapi_base.specs.Built.{is_plain, is_built_statement, IsBuiltList}
-use Rattle.lapi_base.specs.Operations.{statement, is_data, is_am, is_rmw, has_back, has_join}
-use Rattle.lapi_base.specs.Operations as operations
+use Rattle.lapi_base.specs.Input.Built.{is_plain, is_built_statement, IsBuiltList}
+use Rattle.lapi_base.specs.Record.Operations.{statement, is_data, is_am, is_rmw, has_back, has_join}
+use Rattle.lapi_base.specs.Record.Operations as operations
 use Rattle.lapi_base.proofs.ListLaws.{all-get, all-or, get-some}
 use Rattle.lapi_task.specs.declared.put.Put.{Put}
-use Rattle.lapi_task.specs.Performed.{IsPerformed}
+use Rattle.lapi_task.specs.Supported.{IsSupported}
 use Rattle.lapi_task.specs.Puts.{statement_of}
 
 plain-is : (a : Addr) → is_plain a ≡ true → (x : ℕ) × (a ≡ Plain x)
@@ -55,7 +55,7 @@ pub statement-is : (script : Script) (a i : ℕ) (s : Statement) → slice_get (
 unfolding statement
 statement-is script a i s h = get_or_from_slice_get (operations.statements script a) i s statements.Fence h
 
-module _ (script : Script) (perf : IsPerformed script) where
+module _ (script : Script) (perf : IsSupported script) where
   pub list-built : (a : ℕ) → IsBuiltList (operations.statements script a)
   list-built a = all-or IsBuiltList script.lists a [] perf.built tt
 

@@ -1,19 +1,18 @@
 -- Without handlers no message has a completion, so no job waits or runs.
-use Rattle.std.proofs.Common.{◌≡◌, ℕ, zero, suc, ◌==◌, Bool, false, cond, not, ◌&&◌, List, [], ◌∷◌, length, filter, Option, Some, None, refl, ap, ◌∙◌}
+use Rattle.std.proofs.Common.{◌≡◌, ℕ, zero, suc, ◌==◌, Bool, false, cond, not, ◌&&◌, List, [], ◌∷◌, length, filter, Option, Some, None, refl, ap, ◌∙◌, arith}
 use Rattle.std.specs.Prelude.{is_some}
 use Rattle.std.proofs.lemmas.Bool.{cond-false, and_right, le-ltb}
-use Rattle.std.proofs.Common.{arith}
 use Rattle.lapi_base.specs.declared.script.Script.{Script}
 use Rattle.lapi_base.specs.declared.event.Event.{Event}
 use Rattle.lapi_base.specs.declared.event.Event.TheVariants.{Issue, Refuse, Enter, Pass, Copy, Head, Land, Begin, End}
 use Rattle.lapi_base.specs.declared.message.Leg.TheVariants.{Go}
 use Rattle.lapi_base.specs.declared.message.MsgName.{MsgName}
-use Rattle.lapi_base.specs.Below.{below}
-use Rattle.lapi_base.specs.Handlers.{has_completion, completion, kept_choice, header_out}
-use Rattle.lapi_base.specs.Jobs.{is_job, landed_jobs, queue, runs, busy}
-use Rattle.lapi_base.specs.Names.{leg_eq, Begun, done}
-use Rattle.lapi_base.specs.Operations.{statement, is_am, receiver}
-use Rattle.lapi_base.specs.Seen.{no_rules}
+use Rattle.lapi_base.specs.Record.Below.{below}
+use Rattle.lapi_base.specs.Record.Handlers.{has_completion, completion, kept_choice, header_out}
+use Rattle.lapi_base.specs.Record.Jobs.{is_job, landed_jobs, queue, runs, busy}
+use Rattle.lapi_base.specs.Record.Names.{leg_eq, Begun, happened}
+use Rattle.lapi_base.specs.Record.Operations.{statement, is_am, receiver}
+use Rattle.lapi_base.specs.Record.WorldView.{no_rules}
 
 no-choice : (o : Option ℕ) → is_some (kept_choice 0 o) ≡ false
 no-choice None = refl
@@ -43,7 +42,7 @@ module _ (script : Script) where
 
   pub no-queue : (J : List Event) (t : ℕ) → queue script no_rules J t ≡ []
   unfolding queue
-  no-queue J t = ap (filter (λ m. not (done (Begun m) J))) (no-jobs J t)
+  no-queue J t = ap (filter (λ m. not (happened (Begun m) J))) (no-jobs J t)
 
   pub nothing-queued : (J : List Event) (t : ℕ) → length (queue script no_rules J t) ≡ 0
   nothing-queued J t = ap length (no-queue J t)

@@ -5,14 +5,14 @@ use Rattle.std.specs.List.{AllByRecursion}
 use Rattle.std.proofs.lemmas.Bool.{and_right, le-ltb}
 use Rattle.std.proofs.lemmas.List.{length-replicate, get_or-replicate}
 use Rattle.lapi_base.specs.declared.script.Script.{Script}
-use Rattle.lapi_base.specs.Counters.{count, reads}
-use Rattle.lapi_base.specs.Jobs.{runs}
-use Rattle.lapi_base.specs.Layout.{window_of, unit_of}
-use Rattle.lapi_base.specs.Names.{done}
-use Rattle.lapi_base.specs.Operations.{statements, statement, is_data}
-use Rattle.lapi_base.specs.Record.{start, out, has_number, has_ack}
-use Rattle.lapi_base.specs.Refusals.{next, refusals}
-use Rattle.lapi_link.specs.Sender.{SendingEnd, IsFresh}
+use Rattle.lapi_base.specs.Record.Counters.{count, reads}
+use Rattle.lapi_base.specs.Record.Jobs.{runs}
+use Rattle.lapi_base.specs.Packet.Layout.{window_of, unit_of}
+use Rattle.lapi_base.specs.Record.Names.{happened}
+use Rattle.lapi_base.specs.Record.Operations.{statements, statement, is_data}
+use Rattle.lapi_base.specs.Record.Wires.{start, numbered, has_number, has_ack}
+use Rattle.lapi_base.specs.Record.Refusals.{next, refusals}
+use Rattle.lapi_link.specs.Sender.{SendingEnd, IsNewSender}
 use Rattle.lapi_task.specs.declared.task.Task.{Task}
 use Rattle.lapi_task.specs.Sends.{packet_at, SendsFor}
 use Rattle.lapi_task.specs.StandsFor.{SenderAt, ReceiverAt, is_uncopied, HoldsFor, StandsFor}
@@ -21,7 +21,7 @@ use Rattle.lapi_task.proofs.StepMemories.{memory-blank}
 use Rattle.lapi_base.proofs.BelowLaws.{below-none}
 use Rattle.lapi_base.proofs.ListLaws.{all-get, get-some}
 
--- the task has done nothing
+-- the task has happened nothing
 pub record IsNew (script : Script) (t : ℕ) (task : Task) : Type 0 where
   pub number : task.number ≡ t
   pub next : task.next ≡ 0
@@ -30,16 +30,16 @@ pub record IsNew (script : Script) (t : ℕ) (task : Task) : Type 0 where
   pub reads : task.reads.items ≡ []
   pub refusals : task.refusals.items ≡ []
   pub uncopied : task.uncopied.items ≡ []
-  pub senders : (length task.senders.items ≡ script.tasks) × AllByRecursion (IsFresh (window_of script)) task.senders.items
+  pub senders : (length task.senders.items ≡ script.tasks) × AllByRecursion (IsNewSender (window_of script)) task.senders.items
   pub receivers : (length task.receivers.items ≡ script.tasks) × AllByRecursion (IsBlank (window_of script) (unit_of script)) task.receivers.items
 
 module _ (script : Script) where
   nothing-uncopied : (t k : ℕ) → is_uncopied script [] t k ≡ false
-  unfolding done
+  unfolding happened
   nothing-uncopied t k = and_right (is_data (statement script t k)) false refl
 
   new-holds : (t : ℕ) (task : Task) → IsNew script t task → HoldsFor script t task []
-  unfolding next done reads refusals count runs
+  unfolding next happened reads refusals count runs
   new-holds t task h = record {
     number = h.number;
     next = h.next;
@@ -53,8 +53,8 @@ module _ (script : Script) where
     jobless = λ w. refl;
   }
 
-  fresh-sends : (a b : ℕ) (s : SendingEnd) → IsFresh (window_of script) s → SendsFor script s start a b
-  unfolding out has_number has_ack packet_at
+  fresh-sends : (a b : ℕ) (s : SendingEnd) → IsNewSender (window_of script) s → SendsFor script s start a b
+  unfolding numbered has_number has_ack packet_at
   fresh-sends a b s h = record {
     numbers = record {
       size = h.size;
@@ -74,7 +74,7 @@ module _ (script : Script) where
     receiver_count = h.receivers.0;
     senders = λ b l.
         let x = get-some task.senders.items b (let n = h.senders.0 in omega (arith, l, n)) in
-        subst (SenderAt script start t b) (sym x.1) (fresh-sends t b x.0 (all-get (IsFresh (window_of script)) task.senders.items b x.0 h.senders.1 x.1));
+        subst (SenderAt script start t b) (sym x.1) (fresh-sends t b x.0 (all-get (IsNewSender (window_of script)) task.senders.items b x.0 h.senders.1 x.1));
     receivers = λ a l.
         let x = get-some task.receivers.items a (let n = h.receivers.0 in omega (arith, l, n)) in
         subst (ReceiverAt script []) (sym x.1) (all-get (IsBlank (window_of script) (unit_of script)) task.receivers.items a x.0 h.receivers.1 x.1 script refl refl);

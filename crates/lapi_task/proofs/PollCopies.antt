@@ -5,19 +5,20 @@ use Rattle.lapi_base.specs.declared.script.Script.{Script}
 use Rattle.lapi_base.specs.declared.event.Event.{Event}
 use Rattle.lapi_base.specs.declared.event.Event.TheVariants.{Copy}
 use Rattle.lapi_base.specs.declared.message.Leg.TheVariants.{Go}
-use Rattle.lapi_base.specs.Atomic.{Atomic}
-use Rattle.lapi_base.specs.Below.{below}
-use Rattle.lapi_base.specs.Names.{message}
-use Rattle.lapi_base.specs.Operations.{statements}
-use Rattle.lapi_base.specs.Record.{Run, followed, copy_each, ready, poll}
-use Rattle.lapi_base.specs.Seen.{no_rules}
+use Rattle.lapi_base.specs.Record.Atomic.{Atomic}
+use Rattle.lapi_base.specs.Record.Below.{below}
+use Rattle.lapi_base.specs.Record.Names.{message}
+use Rattle.lapi_base.specs.Record.Operations.{statements}
+use Rattle.lapi_base.specs.Record.Wires.{Run}
+use Rattle.lapi_base.specs.Record.Acts.{followed, copy_each, ready, poll}
+use Rattle.lapi_base.specs.Record.WorldView.{no_rules}
 use Rattle.lapi_laws.proofs.Lines.{poll-sound}
 use Rattle.lapi_laws.proofs.Once.{atomic-end}
 use Rattle.lapi_parts.proofs.Records.{record-sound}
 use Rattle.lapi_task.specs.declared.task.Task.{Task}
 use Rattle.lapi_task.specs.Copies.{CopiesNext, AllCopied}
-use Rattle.lapi_task.specs.Does.{IsAt}
-use Rattle.lapi_task.specs.Performed.{IsPerformed}
+use Rattle.lapi_task.specs.HasEffect.{IsAt}
+use Rattle.lapi_task.specs.Supported.{IsSupported}
 use Rattle.lapi_task.specs.StandsFor.{is_uncopied, StandsFor}
 use Rattle.lapi_task.proofs.CopyLists.{copies, copies-push, followed-append, followed-none, followed-push, copies-all}
 
@@ -35,7 +36,7 @@ unfolding followed
 ends-in [] J = ([], refl)
 ends-in (e ∷ es) J = let x = ends-in es (e ∷ J) in (x.0 ++ e ∷ [], x.1 ∙ sym (append_assoc x.0 (e ∷ []) J))
 
-module _ (script : Script) (perf : IsPerformed script) (t : ℕ) (r : Run) where
+module _ (script : Script) (perf : IsSupported script) (t : ℕ) (r : Run) where
   pub none-copied : (task : Task) (events : List Event) → IsAt script t task r → SomeCopied script t r task events events 0
   none-copied task events at = record {
     copied = [];

@@ -10,15 +10,16 @@ use Rattle.lapi_base.specs.declared.script.Script.{Script}
 use Rattle.lapi_base.specs.declared.event.Event.{Event}
 use Rattle.lapi_base.specs.declared.message.MsgName.{MsgName}
 use Rattle.lapi_base.specs.declared.packet.Packet.{Packet}
-use Rattle.lapi_base.specs.Below.{below, least_missing}
-use Rattle.lapi_base.specs.Layout.{window_of}
-use Rattle.lapi_base.specs.Operations.{upto}
-use Rattle.lapi_base.specs.Packets.{data_packet}
-use Rattle.lapi_base.specs.Record.{Run, out, base, fresh, packets, is_number, has_number, is_acked, poll, copy_each, ready, followed}
-use Rattle.lapi_base.specs.Record as record_of
-use Rattle.lapi_base.specs.ByPart.{copied, polled}
-use Rattle.lapi_base.specs.Seen.{no_rules, IsRecord}
-use Rattle.lapi_base.specs.Written as written
+use Rattle.lapi_base.specs.Record.Below.{below, least_missing}
+use Rattle.lapi_base.specs.Packet.Layout.{window_of}
+use Rattle.lapi_base.specs.Record.Operations.{numbers_below}
+use Rattle.lapi_base.specs.Record.Packets.{data_packet}
+use Rattle.lapi_base.specs.Record.Wires.{Run, numbered, base, to_send, packets, is_number, has_number, is_acked}
+use Rattle.lapi_base.specs.Record.Acts.{poll, copy_each, ready, followed}
+use Rattle.lapi_base.specs.Record.Wires as on_wires
+use Rattle.lapi_base.specs.Laws.Locality.{copied, polled}
+use Rattle.lapi_base.specs.Record.WorldView.{no_rules, IsRecord}
+use Rattle.lapi_base.specs.Packet.PacketBytes as written
 use Rattle.lapi_link.specs.Sender.{SendingEnd, sendable}
 use Rattle.lapi_parts.proofs.SentFront.{polls-next}
 use Rattle.lapi_window.specs.SendWindow.{sent_count, base_of, bytes_of}
@@ -26,15 +27,15 @@ use Rattle.lapi_window.specs.SendWindow as window
 use Rattle.lapi_task.specs.declared.outcome.Outcome.{Outcome}
 use Rattle.lapi_task.specs.declared.task.Task.{Task}
 use Rattle.lapi_task.specs.Copies.{AllCopied, AllSent, sent_now, packets_now}
-use Rattle.lapi_task.specs.Does.{Does}
+use Rattle.lapi_task.specs.HasEffect.{HasEffect}
 use Rattle.lapi_task.specs.Sends.{packet_at, spelled, SendsFor, of_end, entries_of}
 use Rattle.lapi_task.specs.StandsFor.{SenderAt, ReceiverAt, HoldsFor, StandsFor}
 use Rattle.lapi_task.proofs.SenderLaws.{bytes-of-end, entries-within}
 use Rattle.lapi_task.proofs.StillLaws.{room}
-use Rattle.lapi_base.specs.Valid.{ValidScript}
+use Rattle.lapi_base.specs.Record.Valid.{ValidScript}
 use Rattle.lapi_base.proofs.ListLaws.{flat_map-push, get-after, get-before, get-set, get-set-other, get-some}
 use Rattle.lapi_base.proofs.TestLaws.{eqb-refl}
-use Rattle.lapi_base.proofs.UptoLaws.{upto-more}
+use Rattle.lapi_base.proofs.UptoLaws.{numbers_below-more}
 use Rattle.lapi_parts.proofs.FirstLayout.{sends-data}
 
 -- Lists by their places.
@@ -56,10 +57,10 @@ take-push (y ∷ ys) (suc k) x h = ap (λ (zs : List _). y ∷ zs) (take-push ys
 
 -- the numbers from one on
 abbrev pub next-numbers : (low k : ℕ) → List ℕ
-next-numbers low k = map (λ i. low + i) (upto k)
+next-numbers low k = map (λ i. low + i) (numbers_below k)
 
 next-more : (low k : ℕ) → next-numbers low (suc k) ≡ next-numbers low k ++ (low + k) ∷ []
-next-more low k = ap (λ n. map (λ i. low + i) (upto n)) (sym (add-one k)) ∙ ap (map (λ i. low + i)) (upto-more k) ∙ map-append (λ i. low + i) (upto k) (k ∷ [])
+next-more low k = ap (λ n. map (λ i. low + i) (numbers_below n)) (sym (add-one k)) ∙ ap (map (λ i. low + i)) (numbers_below-more k) ∙ map-append (λ i. low + i) (numbers_below k) (k ∷ [])
 
 one-beyond : (n low k : ℕ) → (nat_lt n (low + k) || (low + k) == n) ≡ nat_lt n (low + suc k)
 one-beyond n low k =
@@ -82,25 +83,25 @@ or-three true y z = refl
 or-three false y z = refl
 
 module _ (script : Script) (J : List Event) (a b : ℕ) where
-  one-packet : (n : ℕ) (o : Option (MsgName × ℕ)) (x : List ℕ) → option_map (spelled script J n) o ≡ Some x → (p : Packet) × (record_of.packet_of script no_rules J n o ≡ p ∷ []) × (written.packet p ≡ x) × ((k : ℕ) → is_number k p ≡ (n == k))
+  one-packet : (n : ℕ) (o : Option (MsgName × ℕ)) (x : List ℕ) → option_map (spelled script J n) o ≡ Some x → (p : Packet) × (on_wires.packet_of script no_rules J n o ≡ p ∷ []) × (written.packet p ≡ x) × ((k : ℕ) → is_number k p ≡ (n == k))
   unfolding data_packet
   one-packet n None x h = absurd (cc)
   one-packet n (Some pair) x h = (_, refl, (let e : spelled script J n pair ≡ x = cc in e), λ k. refl)
 
-  the-packet : (n : ℕ) (x : List ℕ) → packet_at script J a b n ≡ Some x → (p : Packet) × (record_of.packet_of script no_rules J n (slice_get (out script J a b) n) ≡ p ∷ []) × (written.packet p ≡ x) × ((k : ℕ) → is_number k p ≡ (n == k))
+  the-packet : (n : ℕ) (x : List ℕ) → packet_at script J a b n ≡ Some x → (p : Packet) × (on_wires.packet_of script no_rules J n (slice_get (numbered script J a b) n) ≡ p ∷ []) × (written.packet p ≡ x) × ((k : ℕ) → is_number k p ≡ (n == k))
   unfolding packet_at
-  the-packet n x h = one-packet n (slice_get (out script J a b) n) x h
+  the-packet n x h = one-packet n (slice_get (numbered script J a b) n) x h
 
   -- The packets of the numbers from one on whose bytes wait.
   module _ (low : ℕ) (waits : List (List ℕ)) (at : (i : ℕ) → slice_get waits i ≡ packet_at script J a b (low + i)) where
-    packets-more : (k : ℕ) (p : Packet) → record_of.packet_of script no_rules J (low + k) (slice_get (out script J a b) (low + k)) ≡ p ∷ [] → packets script no_rules J a b (next-numbers low (suc k)) ≡ packets script no_rules J a b (next-numbers low k) ++ p ∷ []
+    packets-more : (k : ℕ) (p : Packet) → on_wires.packet_of script no_rules J (low + k) (slice_get (numbered script J a b) (low + k)) ≡ p ∷ [] → packets script no_rules J a b (next-numbers low (suc k)) ≡ packets script no_rules J a b (next-numbers low k) ++ p ∷ []
     unfolding packets
     packets-more k p is =
-        let f = λ (n : ℕ). record_of.packet_of script no_rules J n (slice_get (out script J a b) n) in
+        let f = λ (n : ℕ). on_wires.packet_of script no_rules J n (slice_get (numbered script J a b) n) in
         ap (flat_map f) (next-more low k) ∙ flat_map-push f (next-numbers low k) (low + k) ∙ ap (λ ps. flat_map f (next-numbers low k) ++ ps) is
 
     pub packets-waiting : (k : ℕ) → k ≤ length waits → map written.packet (packets script no_rules J a b (next-numbers low k)) ≡ take k waits
-    unfolding packets upto below
+    unfolding packets numbers_below below
     packets-waiting zero l = refl
     packets-waiting (suc k) l =
         let some = get-some waits k (let q : k < length waits = omega arith in q) in
@@ -111,7 +112,7 @@ module _ (script : Script) (J : List Event) (a b : ℕ) where
         ∙ sym (take-push waits k some.0 some.1)
 
     pub numbers-waiting : (k n : ℕ) → k ≤ length waits → (nat_lt n low || has_number (packets script no_rules J a b (next-numbers low k)) n) ≡ nat_lt n (low + k)
-    unfolding packets upto below has_number
+    unfolding packets numbers_below below has_number
     numbers-waiting zero n l = or-off (nat_lt n low) ∙ ap (nat_lt n) (let e : low ≡ low + 0 = omega arith in e)
       where
         or-off : (x : Bool) → (x || false) ≡ x
@@ -158,10 +159,10 @@ module _ (script : Script) (valid : ValidScript script) (t : ℕ) (r : Run) (rec
     count-fits : count ≤ length s.waiting
     count-fits = omega arith
 
-    fresh-is : fresh script no_rules r J t b ≡ next-numbers low count
+    fresh-is : to_send script no_rules r J t b ≡ next-numbers low count
     fresh-is =
         polls-next script no_rules r recorded J t b low h.numbers.sent
-        ∙ ap (λ n. map (λ i. low + i) (upto n)) (room (length (out script J t b)) s.window.numbers (base script then_ t b) (base_of s.window) (window_of script) s.window.window low (length s.waiting) (sym h.numbers.numbers) base-is h.numbers.size h.whole)
+        ∙ ap (λ n. map (λ i. low + i) (numbers_below n)) (room (length (numbered script J t b)) s.window.numbers (base script then_ t b) (base_of s.window) (window_of script) s.window.window low (length s.waiting) (sym h.numbers.numbers) base-is h.numbers.size h.whole)
 
     pub polled-spelled : map written.packet (polled script no_rules r t b) ≡ packets_now s
     polled-spelled = ap (map written.packet) (sends-data script no_rules valid r recorded J t b) ∙ ap (λ ns. map written.packet (packets script no_rules J t b ns)) fresh-is ∙ packets-waiting script J t b low s.waiting h.waiting count count-fits
@@ -243,7 +244,7 @@ module _ (script : Script) (valid : ValidScript script) (t : ℕ) (r : Run) (rec
   holds-with task after h = record { number = h.number; next = h.next; ahead = h.ahead; reads = h.reads; refusals = h.refusals; memory = h.memory; counter_count = h.counter_count; counters = h.counters; uncopied = h.uncopied; jobless = h.jobless }
 
   -- what stands after a poll
-  pub poll-does : (task after : Task) (old new : Outcome) (es : List Event) → t < script.tasks → AllCopied script t r task old.events es → new.events ≡ es → AllSent script.tasks task.senders.items after.senders.items → after ≡ record task { senders = after.senders } → new.entries ≡ old.entries ++ entries_of packets_now task.senders.items script.tasks → Does script t r (poll script no_rules r t) after old new
+  pub poll-does : (task after : Task) (old new : Outcome) (es : List Event) → t < script.tasks → AllCopied script t r task old.events es → new.events ≡ es → AllSent script.tasks task.senders.items after.senders.items → after ≡ record task { senders = after.senders } → new.entries ≡ old.entries ++ entries_of packets_now task.senders.items script.tasks → HasEffect script t r (poll script no_rules r t) after old new
   unfolding poll
   poll-does task after old new es lt h same sends rest put =
       let stands : StandsFor script t task (then_ script valid t r recorded) = subst (λ (K : List Event). StandsFor script t task (record r { journal = K })) h.copied h.stands in
@@ -257,7 +258,7 @@ module _ (script : Script) (valid : ValidScript script) (t : ℕ) (r : Run) (rec
           senders = λ b l. subst (SenderAt script (poll script no_rules r t) t b) (sym (sends.done b l)) (sender-polled b (slice_get task.senders.items b) (stands.senders b l));
           receivers = λ a l. subst (λ (x : Task). ReceiverAt script (r.handed a t) (slice_get x.receivers.items a)) (sym rest) (stands.receivers a l);
         };
-        happened = sym h.copied;
+        journal = sym h.copied;
         events_added = same ∙ h.added;
         put = λ b l. wire-polled b (slice_get task.senders.items b) (stands.senders b l) ∙ ap (λ xs. map written.packet (r.wire t b) ++ xs) (sym (bytes-of-end packets_now task.senders.items b script.tasks l));
         entries_added = put;

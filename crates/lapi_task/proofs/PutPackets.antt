@@ -2,28 +2,28 @@
 use Rattle.std.proofs.Common.{◌≡◌, ℕ, ◌+◌, ◌*◌, ◌<◌, ◌≤◌, List, [], ◌∷◌, ◌++◌, map, length, max, refl, sym, ap, ◌∙◌, arith, append_assoc, add-one, subst, inl, inr}
 use Rattle.std.proofs.lemmas.List.{append-nil, length-append, length-map, map-append}
 use Rattle.std.specs.Int.{div_ceil}
-use Rattle.lapi_base.specs.Fragments.{fragments_in}
-use Rattle.lapi_base.specs.Below.{below}
-use Rattle.lapi_base.specs.Operations.{upto}
-use Rattle.lapi_base.proofs.UptoLaws.{upto-length, upto-more}
+use Rattle.lapi_base.specs.Record.Fragments.{fragments_in}
+use Rattle.lapi_base.specs.Record.Below.{below}
+use Rattle.lapi_base.specs.Record.Operations.{numbers_below}
+use Rattle.lapi_base.proofs.UptoLaws.{numbers_below-length, numbers_below-more}
 use Rattle.lapi_reassembly.specs.Partial.{IsUnit}
 use Rattle.lapi_link.specs.Sender.{SendingEnd, appended}
 use Rattle.lapi_task.specs.Puts.{extended}
 
-pub extended-none : (s : SendingEnd) (f : ℕ → List ℕ) → s ≡ extended s (map f (upto 0))
-unfolding upto below
+pub extended-none : (s : SendingEnd) (f : ℕ → List ℕ) → s ≡ extended s (map f (numbers_below 0))
+unfolding numbers_below below
 extended-none s f = λ i. record { window = record { window = s.window.window; numbers = sym (let e : s.window.numbers + 0 ≡ s.window.numbers = omega arith in e) i; acked = s.window.acked; packets = s.window.packets }; waiting = sym (append-nil s.waiting) i }
 
-pub extended-more : (s : SendingEnd) (f : ℕ → List ℕ) (n : ℕ) → appended (extended s (map f (upto n))) (f n) ≡ extended s (map f (upto (n + 1)))
+pub extended-more : (s : SendingEnd) (f : ℕ → List ℕ) (n : ℕ) → appended (extended s (map f (numbers_below n))) (f n) ≡ extended s (map f (numbers_below (n + 1)))
 extended-more s f n =
-    let xs = map f (upto n) in
-    let more : map f (upto (n + 1)) ≡ xs ++ f n ∷ [] = ap (map f) (upto-more n) ∙ map-append f (upto n) (n ∷ []) in
-    let count : s.window.numbers + length xs + 1 ≡ s.window.numbers + length (map f (upto (n + 1))) = sym (ap (λ (ys : List (List ℕ)). s.window.numbers + length ys) more ∙ (let e = length-append xs (f n ∷ []) in omega (arith, e))) in
-    let list : (s.waiting ++ xs) ++ f n ∷ [] ≡ s.waiting ++ map f (upto (n + 1)) = append_assoc s.waiting xs (f n ∷ []) ∙ ap (λ (ys : List (List ℕ)). s.waiting ++ ys) (sym more) in
+    let xs = map f (numbers_below n) in
+    let more : map f (numbers_below (n + 1)) ≡ xs ++ f n ∷ [] = ap (map f) (numbers_below-more n) ∙ map-append f (numbers_below n) (n ∷ []) in
+    let count : s.window.numbers + length xs + 1 ≡ s.window.numbers + length (map f (numbers_below (n + 1))) = sym (ap (λ (ys : List (List ℕ)). s.window.numbers + length ys) more ∙ (let e = length-append xs (f n ∷ []) in omega (arith, e))) in
+    let list : (s.waiting ++ xs) ++ f n ∷ [] ≡ s.waiting ++ map f (numbers_below (n + 1)) = append_assoc s.waiting xs (f n ∷ []) ∙ ap (λ (ys : List (List ℕ)). s.waiting ++ ys) (sym more) in
     λ i. record { window = record { window = s.window.window; numbers = count i; acked = s.window.acked; packets = s.window.packets }; waiting = list i }
 
-pub extended-count : (s : SendingEnd) (f : ℕ → List ℕ) (n : ℕ) → (extended s (map f (upto n))).window.numbers ≡ s.window.numbers + n
-extended-count s f n = ap (λ k. s.window.numbers + k) (length-map (upto n) f ∙ upto-length n)
+pub extended-count : (s : SendingEnd) (f : ℕ → List ℕ) (n : ℕ) → (extended s (map f (numbers_below n))).window.numbers ≡ s.window.numbers + n
+extended-count s f n = ap (λ k. s.window.numbers + k) (length-map (numbers_below n) f ∙ numbers_below-length n)
 
 -- as many as the length says
 pub fragment-count : (unit len : ℕ) → IsUnit unit → max (div_ceil len unit) 1 ≡ fragments_in unit len

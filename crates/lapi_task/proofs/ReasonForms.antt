@@ -1,4 +1,4 @@
--- The statements of a script that is performed: why they are refused, and what they do otherwise.
+-- The statements of a script that is performed: refusal_of they are refused, and what they do otherwise.
 use Rattle.std.proofs.Common.{◌≡◌, ℕ, ◌+◌, ◌<◌, ◌≤◌, Bool, true, false, cond, not, ◌||◌, List, [], ◌∷◌, length, Option, Some, None, refl, sym, ap, ◌∙◌, ⊎_elim, lit≤}
 use Rattle.std.specs.Prelude.{nat_le, nat_lt}
 use Rattle.std.specs.List.{AllByRecursion}
@@ -9,15 +9,15 @@ use Rattle.lapi_base.specs.declared.statement.Statement.TheVariants as statement
 use Rattle.lapi_base.specs.declared.script.Script.{Script}
 use Rattle.lapi_base.specs.declared.refusal.Refusal.TheVariants.{BadTask, BadTargetRange, BadOriginRange, BadCounter, TooLong}
 use Rattle.lapi_base.specs.declared.event.Event.{Event}
-use Rattle.lapi_base.specs.Layout.{longest_of}
-use Rattle.lapi_base.specs.Built.{is_built_statement}
-use Rattle.lapi_base.specs.Operations.{statement, address}
-use Rattle.lapi_base.specs.Operations as operations
-use Rattle.lapi_base.specs.Refusals.{first_reason, why_by, why}
-use Rattle.lapi_base.specs.Seen.{no_rules}
-use Rattle.lapi_base.specs.Valid.{ValidStatement}
+use Rattle.lapi_base.specs.Packet.Layout.{longest_of}
+use Rattle.lapi_base.specs.Input.Built.{is_built_statement}
+use Rattle.lapi_base.specs.Record.Operations.{statement, address}
+use Rattle.lapi_base.specs.Record.Operations as operations
+use Rattle.lapi_base.specs.Record.Refusals.{first_reason, refusal_by, refusal_of}
+use Rattle.lapi_base.specs.Record.WorldView.{no_rules}
+use Rattle.lapi_base.specs.Record.Valid.{ValidStatement}
 use Rattle.lapi_base.proofs.ListLaws.{all-or}
-use Rattle.lapi_task.specs.Performed.{IsPerformed, names_no_counter, reason_of}
+use Rattle.lapi_task.specs.Supported.{IsSupported, names_no_counter, reason_of}
 
 lt-is-not-le : (a b : ℕ) → nat_lt a b ≡ not (nat_le b a)
 lt-is-not-le a b =
@@ -27,16 +27,16 @@ lt-is-not-le a b =
     (cases_lt a b)
 
 module _ (script : Script) (J : List Event) (a i : ℕ) where
-  why-store : (at : ℕ) (bytes : List ℕ) → statement script a i ≡ statements.Store at bytes → why script no_rules J a i ≡ reason_of script (statements.Store at bytes)
-  unfolding why why_by first_reason address
+  why-store : (at : ℕ) (bytes : List ℕ) → statement script a i ≡ statements.Store at bytes → refusal_of script no_rules J a i ≡ reason_of script (statements.Store at bytes)
+  unfolding refusal_of refusal_by first_reason address
   why-store at bytes e = rw e (tests (nat_le (at + length bytes) script.memory))
     where
       tests : (b : Bool) → cond (not b || false) (Some BadOriginRange) None ≡ cond b None (Some BadOriginRange)
       tests true = refl
       tests false = refl
 
-  why-put : (target to from len : ℕ) (tgt org cmpl : Option ℕ) → statement script a i ≡ statements.Put target (Plain to) from len tgt org cmpl → why script no_rules J a i ≡ reason_of script (statements.Put target (Plain to) from len tgt org cmpl)
-  unfolding why why_by first_reason address
+  why-put : (target to from len : ℕ) (tgt org cmpl : Option ℕ) → statement script a i ≡ statements.Put target (Plain to) from len tgt org cmpl → refusal_of script no_rules J a i ≡ reason_of script (statements.Put target (Plain to) from len tgt org cmpl)
+  unfolding refusal_of refusal_by first_reason address
   why-put target to from len tgt org cmpl e =
       rw e (tests (nat_lt target script.tasks) (nat_le (to + len) script.memory) (nat_le (from + len) script.memory) (names_no_counter script (statements.Put target (Plain to) from len tgt org cmpl)) (nat_lt (longest_of script) len) (nat_le len (longest_of script)) (lt-is-not-le (longest_of script) len))
     where
@@ -52,20 +52,20 @@ module _ (script : Script) (J : List Event) (a i : ℕ) where
   counter-test true = refl
   counter-test false = refl
 
-  why-wait : (counter value : ℕ) → statement script a i ≡ statements.Wait counter value → why script no_rules J a i ≡ reason_of script (statements.Wait counter value)
-  unfolding why why_by first_reason
+  why-wait : (counter value : ℕ) → statement script a i ≡ statements.Wait counter value → refusal_of script no_rules J a i ≡ reason_of script (statements.Wait counter value)
+  unfolding refusal_of refusal_by first_reason
   why-wait counter value e = rw e (counter-test (nat_lt counter script.counters))
 
-  why-set : (counter value : ℕ) → statement script a i ≡ statements.Set counter value → why script no_rules J a i ≡ reason_of script (statements.Set counter value)
-  unfolding why why_by first_reason
+  why-set : (counter value : ℕ) → statement script a i ≡ statements.Set counter value → refusal_of script no_rules J a i ≡ reason_of script (statements.Set counter value)
+  unfolding refusal_of refusal_by first_reason
   why-set counter value e = rw e (counter-test (nat_lt counter script.counters))
 
-  why-read : (counter : ℕ) → statement script a i ≡ statements.Read counter → why script no_rules J a i ≡ reason_of script (statements.Read counter)
-  unfolding why why_by first_reason
+  why-read : (counter : ℕ) → statement script a i ≡ statements.Read counter → refusal_of script no_rules J a i ≡ reason_of script (statements.Read counter)
+  unfolding refusal_of refusal_by first_reason
   why-read counter e = rw e (counter-test (nat_lt counter script.counters))
 
   -- the reason does not depend on the journal
-  pub why-is : (s : Statement) → statement script a i ≡ s → is_built_statement s ≡ true → why script no_rules J a i ≡ reason_of script s
+  pub why-is : (s : Statement) → statement script a i ≡ s → is_built_statement s ≡ true → refusal_of script no_rules J a i ≡ reason_of script s
   unfolding is_built_statement
   why-is (statements.Store at bytes) e h = why-store at bytes e
   why-is (statements.Put target (Plain to) from len tgt org cmpl) e h = why-put target to from len tgt org cmpl e
@@ -75,7 +75,7 @@ module _ (script : Script) (J : List Event) (a i : ℕ) where
   why-is _ e h = absurd (false≢true h)
 
 -- a task has few statements
-pub few-statements : (script : Script) → IsPerformed script → (a : ℕ) → length (operations.statements script a) ≤ 512
+pub few-statements : (script : Script) → IsSupported script → (a : ℕ) → length (operations.statements script a) ≤ 512
 few-statements script p a = all-or (λ (list : List Statement). length list ≤ 512) script.lists a [] (firsts script.lists p.valid.lists) (lit≤ tt)
   where
     firsts : (lists : List (List Statement)) → AllByRecursion (λ (list : List Statement). (length list ≤ 512) × AllByRecursion ValidStatement list) lists → AllByRecursion (λ (list : List Statement). length list ≤ 512) lists

@@ -13,16 +13,17 @@ use Rattle.lapi_base.specs.declared.message.MsgName.{MsgName}
 use Rattle.lapi_base.specs.declared.packet.Packet.{Packet}
 use Rattle.lapi_base.specs.declared.packet.DataPacket.{DataPacket}
 use Rattle.lapi_base.specs.declared.packet.Packet.TheVariants.{Data}
-use Rattle.lapi_base.specs.Arrived.{count_of, has_some, whole_by, assembled, is_active, noted, follows, comes}
-use Rattle.lapi_base.specs.Counters.{reads}
-use Rattle.lapi_base.specs.Handlers.{has_completion}
-use Rattle.lapi_base.specs.Jobs.{runs}
-use Rattle.lapi_base.specs.Names.{message, leg_eq, name_eq, Issued, Copied, done}
-use Rattle.lapi_base.specs.Operations.{is_data, statement}
-use Rattle.lapi_base.specs.Record.{followed, has_number}
-use Rattle.lapi_base.specs.Refusals.{next, refusals}
-use Rattle.lapi_base.specs.Seen.{no_rules}
-use Rattle.lapi_base.proofs.NameLaws.{done-other}
+use Rattle.lapi_base.specs.Record.Arrived.{count_of, has_some, whole_by, assembled, is_active, noted, follows, comes}
+use Rattle.lapi_base.specs.Record.Counters.{reads}
+use Rattle.lapi_base.specs.Record.Handlers.{has_completion}
+use Rattle.lapi_base.specs.Record.Jobs.{runs}
+use Rattle.lapi_base.specs.Record.Names.{message, leg_eq, name_eq, Issued, Copied, happened}
+use Rattle.lapi_base.specs.Record.Operations.{is_data, statement}
+use Rattle.lapi_base.specs.Record.Wires.{has_number}
+use Rattle.lapi_base.specs.Record.Acts.{followed}
+use Rattle.lapi_base.specs.Record.Refusals.{next, refusals}
+use Rattle.lapi_base.specs.Record.WorldView.{no_rules}
+use Rattle.lapi_base.proofs.NameLaws.{happened-other}
 use Rattle.lapi_link.specs.declared.arrival.Arrival.{Arrival}
 use Rattle.lapi_link.specs.declared.arrival.Arrival.TheVariants.{Repeat, Part, Whole}
 use Rattle.lapi_link.specs.Receiver.{arrival_of}
@@ -84,8 +85,8 @@ module _ (script : Script) (t : ℕ) where
   -- what the task did is as it was
   pub record DidSame (J K : List Event) : Type 0 where
     pub next : next K t ≡ next J t
-    pub issued : (i : ℕ) → done (Issued t i) K ≡ done (Issued t i) J
-    pub copied : (i : ℕ) → done (Copied (message t i Go)) K ≡ done (Copied (message t i Go)) J
+    pub issued : (i : ℕ) → happened (Issued t i) K ≡ happened (Issued t i) J
+    pub copied : (i : ℕ) → happened (Copied (message t i Go)) K ≡ happened (Copied (message t i Go)) J
     pub reads : reads script no_rules K t ≡ reads script no_rules J t
     pub refusals : refusals K t ≡ refusals J t
     pub running : (w : ℕ) → runs K t w ≡ runs J t w
@@ -101,16 +102,16 @@ module _ (script : Script) (t : ℕ) where
   unfolding next reads refusals runs
   mild-one (Land m) J h = record {
     next = refl;
-    issued = λ i. done-other (Issued t i) (Land m) J refl;
-    copied = λ i. done-other (Copied (message t i Go)) (Land m) J refl;
+    issued = λ i. happened-other (Issued t i) (Land m) J refl;
+    copied = λ i. happened-other (Copied (message t i Go)) (Land m) J refl;
     reads = refl;
     refusals = refl;
     running = λ w. refl;
   }
   mild-one (Copy m) J h = record {
     next = refl;
-    issued = λ i. done-other (Issued t i) (Copy m) J refl;
-    copied = λ i. done-other (Copied (message t i Go)) (Copy m) J (not-copied i m h);
+    issued = λ i. happened-other (Issued t i) (Copy m) J refl;
+    copied = λ i. happened-other (Copied (message t i Go)) (Copy m) J (not-copied i m h);
     reads = refl;
     refusals = refl;
     running = λ w. refl;
@@ -134,5 +135,5 @@ module _ (script : Script) (t : ℕ) where
 
   pub uncopied-same : (J K : List Event) → DidSame J K → (k : ℕ) → is_uncopied script J t k ≡ is_uncopied script K t k
   uncopied-same J K h k =
-      ap (λ b. is_data (statement script t k) && (b && not (done (Copied (message t k Go)) J))) (sym (h.issued k))
-      ∙ ap (λ b. is_data (statement script t k) && (done (Issued t k) K && not b)) (sym (h.copied k))
+      ap (λ b. is_data (statement script t k) && (b && not (happened (Copied (message t k Go)) J))) (sym (h.issued k))
+      ∙ ap (λ b. is_data (statement script t k) && (happened (Issued t k) K && not b)) (sym (h.copied k))

@@ -9,17 +9,18 @@ use Rattle.lapi_base.specs.declared.head.Head.TheVariants as heads
 use Rattle.lapi_base.specs.declared.message.MsgName.{MsgName}
 use Rattle.lapi_base.specs.declared.packet.Packet.TheVariants.{Data}
 use Rattle.lapi_base.specs.declared.packet.DataPacket.{DataPacket}
-use Rattle.lapi_base.specs.Arrived.{whole_by, is_whole, assembled, count_of}
-use Rattle.lapi_base.specs.Counters.{count}
-use Rattle.lapi_base.specs.Handlers.{has_completion}
-use Rattle.lapi_base.specs.Landing.{announces, lands, one_span}
-use Rattle.lapi_base.specs.Operations.{statements, fragment_count}
-use Rattle.lapi_base.specs.Record.{Run, is_delivered, deliver, perform}
+use Rattle.lapi_base.specs.Record.Arrived.{whole_by, is_whole, assembled, count_of}
+use Rattle.lapi_base.specs.Record.Counters.{count}
+use Rattle.lapi_base.specs.Record.Handlers.{has_completion}
+use Rattle.lapi_base.specs.Laws.Landing.{announces, lands, one_span}
+use Rattle.lapi_base.specs.Record.Operations.{statements, fragment_count}
+use Rattle.lapi_base.specs.Record.Wires.{Run, is_delivered}
+use Rattle.lapi_base.specs.Record.Acts.{deliver, perform}
 use Rattle.lapi_base.specs.declared.schedule.Act.TheVariants.{Deliver}
-use Rattle.lapi_base.specs.Receiving.{HeadFits}
-use Rattle.lapi_base.specs.Refusals.{option_any}
-use Rattle.lapi_base.specs.Seen.{no_rules, performed, IsRecord}
-use Rattle.lapi_base.specs.Values.{values, memory_bytes, byte_after, scattered}
+use Rattle.lapi_base.specs.Laws.Receiving.{HeadFits}
+use Rattle.lapi_base.specs.Record.Refusals.{option_any}
+use Rattle.lapi_base.specs.Record.WorldView.{no_rules, performed, IsRecord}
+use Rattle.lapi_base.specs.Record.Values.{values, memory_bytes, byte_after, scattered}
 use Rattle.lapi_base.proofs.BelowLaws.{below-same}
 use Rattle.lapi_base.proofs.UptoLaws.{over-same}
 use Rattle.lapi_memory.specs.TaskMemory.{written}

@@ -12,26 +12,26 @@ use Rattle.lapi_base.specs.declared.message.Leg.TheVariants.{Go, Back, Note, Ech
 use Rattle.lapi_base.specs.declared.message.MsgName.{MsgName}
 use Rattle.lapi_base.specs.declared.packet.Packet.TheVariants.{Data}
 use Rattle.lapi_base.specs.declared.packet.DataPacket.{DataPacket}
-use Rattle.lapi_base.specs.Atomic.{Atomic}
-use Rattle.lapi_base.specs.Names.{Copied, done}
-use Rattle.lapi_base.specs.Operations.{statement, sender, receiver, address, has_leg, has_join, message_length}
-use Rattle.lapi_base.specs.Packets.{head_by}
-use Rattle.lapi_base.specs.Record.{Run}
-use Rattle.lapi_base.specs.Receiving.{FitsScript}
-use Rattle.lapi_base.specs.Seen.{no_rules, IsRecord}
-use Rattle.lapi_base.specs.Valid.{ValidRules}
+use Rattle.lapi_base.specs.Record.Atomic.{Atomic}
+use Rattle.lapi_base.specs.Record.Names.{Copied, happened}
+use Rattle.lapi_base.specs.Record.Operations.{statement, sender, receiver, address, has_leg, has_join, message_length}
+use Rattle.lapi_base.specs.Record.Packets.{head_by}
+use Rattle.lapi_base.specs.Record.Wires.{Run}
+use Rattle.lapi_base.specs.Laws.Receiving.{FitsScript}
+use Rattle.lapi_base.specs.Record.WorldView.{no_rules, IsRecord}
+use Rattle.lapi_base.specs.Record.Valid.{ValidRules}
 use Rattle.lapi_laws.proofs.Backward.{there}
-use Rattle.lapi_laws.proofs.Out.{out-copied}
+use Rattle.lapi_laws.proofs.Out.{numbered-copied}
 use Rattle.lapi_laws.proofs.Sound.{Fits as IsOf}
 use Rattle.lapi_parts.proofs.ArrivingPackets.{head-is, length-is}
 use Rattle.lapi_parts.proofs.ExactBytes.{Exact, record-exact}
 use Rattle.lapi_parts.proofs.Receivable.{packets-fit}
 use Rattle.lapi_parts.proofs.Records.{record-sound}
 use Rattle.lapi_task.specs.declared.put.Put.{Put}
-use Rattle.lapi_task.specs.Performed.{IsPerformed}
+use Rattle.lapi_task.specs.Supported.{IsSupported}
 use Rattle.lapi_task.specs.Puts.{statement_of}
 use Rattle.lapi_task.proofs.Forms.{data-put, no-back, no-join}
-use Rattle.lapi_base.specs.Handlers.{answers}
+use Rattle.lapi_base.specs.Record.Handlers.{answers}
 use Rattle.lapi_base.proofs.ListLaws.{all-get}
 use Rattle.lapi_parts.proofs.MessageHeads.{no-answers}
 
@@ -58,7 +58,7 @@ module _ (script : Script) where
 
   pub record Comes (r : Run) (a t : ℕ) (p : DataPacket) : Type 0 where
     pub atomic : Atomic script no_rules r.journal
-    pub copied : done (Copied p.name) r.journal ≡ true
+    pub copied : happened (Copied p.name) r.journal ≡ true
     pub from : sender script p.name ≡ a
     pub to : receiver script p.name ≡ t
     pub kind : IsPut p.name p.head ⊎ IsNote p.name p.head
@@ -72,7 +72,7 @@ module _ (script : Script) where
   note-kind : (m : MsgName) (s : Statement) → IsKind (head_by script m Note s)
   note-kind m s = tt
 
-  module _ (performed : IsPerformed script) where
+  module _ (performed : IsSupported script) where
     kind-by : (m : MsgName) (leg : Leg) (h : Head) → m.leg ≡ leg → has_leg script (answers script no_rules m.origin m.statement) m.origin leg (statement script m.origin m.statement) ≡ true → h ≡ head_by script m leg (statement script m.origin m.statement) → IsPut m h ⊎ IsNote m h
     unfolding address
     kind-by m Go h e g head =
@@ -90,7 +90,7 @@ module _ (script : Script) where
         let sound = record-sound script no_rules r is in
         let exact = record-exact script no_rules r is in
         let own = all-get (Exact script no_rules r.journal) (r.wire a t) k (Data p) (exact.wires a t) at in
-        let ends = out-copied script r.journal a t p.seq (p.name, p.fragment) (all-get (IsOf script no_rules r.journal r.handed a t) (r.wire a t) k (Data p) (sound.wires a t) at) in
+        let ends = numbered-copied script r.journal a t p.seq (p.name, p.fragment) (all-get (IsOf script no_rules r.journal r.handed a t) (r.wire a t) k (Data p) (sound.wires a t) at) in
         let leg : has_leg script (answers script no_rules p.name.origin p.name.statement) p.name.origin p.name.leg (statement script p.name.origin p.name.statement) ≡ true = (and_parts _ _ (there script no_rules (Copied p.name) r.journal sound.atomic ends.0)).1 in
         record {
           atomic = sound.atomic;

@@ -18,22 +18,23 @@ use Rattle.lapi_base.specs.declared.packet.Packet.{Packet}
 use Rattle.lapi_base.specs.declared.packet.Packet.TheVariants.{Data}
 use Rattle.lapi_base.specs.declared.packet.DataPacket.{DataPacket}
 use Rattle.lapi_base.specs.declared.reply.Reply.TheVariants.{Did}
-use Rattle.lapi_base.specs.Arrived.{ack_of}
-use Rattle.lapi_base.specs.Atomic.{Atomic}
-use Rattle.lapi_base.specs.Entries.{carried}
-use Rattle.lapi_base.specs.Names.{message}
-use Rattle.lapi_base.specs.Operations.{statement, sender, receiver}
-use Rattle.lapi_base.specs.Record.{Run, followed, is_number, has_number, has_ack, is_delivered, arrival, hand_over, deliver_entry, deliver}
-use Rattle.lapi_base.specs.Receiving.{HeadFits, NamesCounter}
-use Rattle.lapi_base.specs.Seen.{no_rules}
-use Rattle.lapi_base.specs.Spelling.{HasSpelling}
-use Rattle.lapi_base.specs.Written as written
+use Rattle.lapi_base.specs.Record.Arrived.{ack_of}
+use Rattle.lapi_base.specs.Record.Atomic.{Atomic}
+use Rattle.lapi_base.specs.Laws.Entries.{carried}
+use Rattle.lapi_base.specs.Record.Names.{message}
+use Rattle.lapi_base.specs.Record.Operations.{statement, sender, receiver}
+use Rattle.lapi_base.specs.Record.Wires.{Run, is_number, has_number, has_ack, is_delivered}
+use Rattle.lapi_base.specs.Record.Acts.{followed, first_delivery, hand_over, deliver_entry, deliver}
+use Rattle.lapi_base.specs.Laws.Receiving.{HeadFits, NamesCounter}
+use Rattle.lapi_base.specs.Record.WorldView.{no_rules}
+use Rattle.lapi_base.specs.Packet.Spelling.{HasSpelling}
+use Rattle.lapi_base.specs.Packet.PacketBytes as written
 use Rattle.lapi_base.proofs.ListLaws.{get-set, get-set-other}
-use Rattle.lapi_base.proofs.NameLaws.{done-head}
+use Rattle.lapi_base.proofs.NameLaws.{happened-head}
 use Rattle.lapi_base.proofs.TestLaws.{eqb-refl}
 use Rattle.lapi_laws.proofs.Lines.{deliver-sound}
 use Rattle.lapi_link.specs.declared.arrival.Arrival.{Arrival}
-use Rattle.lapi_link.specs.Receiver.{ReceivingEnd, ReceivesFor, Fits, arrival_of}
+use Rattle.lapi_link.specs.Receiver.{ReceivingEnd, ReceivesFor, MayArrive, arrival_of}
 use Rattle.lapi_link.specs.Sender.{entries_to}
 use Rattle.lapi_parts.proofs.ArrivingPackets.{arrivals-told, next-acks-told}
 use Rattle.lapi_parts.proofs.Records.{record-sound}
@@ -41,10 +42,10 @@ use Rattle.lapi_parts.proofs.SpelledPackets.{message-spelled}
 use Rattle.lapi_task.specs.declared.outcome.Outcome.{Outcome}
 use Rattle.lapi_task.specs.declared.put.Put.{Put}
 use Rattle.lapi_task.specs.declared.task.Task.{Task}
-use Rattle.lapi_task.specs.Answers.{HasTaken, answer}
-use Rattle.lapi_task.specs.Does.{IsAt, Does, bytes_to}
-use Rattle.lapi_task.specs.Landed.{note_packet, ends_after, events_of, ArrivalSuits, HeadSuits, HasArrived, MayTake, HasCome}
-use Rattle.lapi_task.specs.Performed.{IsPerformed}
+use Rattle.lapi_task.specs.Acknowledging.{HasTaken, answer}
+use Rattle.lapi_task.specs.HasEffect.{IsAt, HasEffect, bytes_to}
+use Rattle.lapi_task.specs.Landed.{note_packet, ends_after, events_of, ArrivalMayLand, HeadMayLand, HasArrived, MayTake, HasCome}
+use Rattle.lapi_task.specs.Supported.{IsSupported}
 use Rattle.lapi_task.specs.Puts.{statement_of}
 use Rattle.lapi_task.specs.StandsFor.{SenderAt, ReceiverAt, HoldsFor}
 use Rattle.lapi_task.proofs.ArrivingFits.{arriving-fits}
@@ -72,7 +73,7 @@ abbrev pub Takes : (a : ℕ) → DataPacket → (before after : List ReceivingEn
 Takes a p before after = (end : ReceivingEnd) → slice_get before a ≡ Some end → HasCome before after a p end
 
 abbrev pub Tells : (a : ℕ) → DataPacket → Arrival → List ReceivingEnd → Type 0
-Tells a p arrival ends = (end : ReceivingEnd) (script : Script) (ps : List Packet) → slice_get ends a ≡ Some end → ReceivesFor script end ps → Fits script ps p → arrival ≡ arrival_of script ps p
+Tells a p first_delivery ends = (end : ReceivingEnd) (script : Script) (ps : List Packet) → slice_get ends a ≡ Some end → ReceivesFor script end ps → MayArrive script ps p → first_delivery ≡ arrival_of script ps p
 
 pub takes-over : {Z : Type 0} (v : Vec ReceivingEnd Z) (a : ℕ) (p : DataPacket) (before after : List ReceivingEnd) → before ≡ v.items → Takes a p before after → Takes a p v.items (with_items v after).items
 takes-over v a p before after e h = λ end here.
@@ -165,32 +166,32 @@ module _ (script : Script) where
 
   -- ---- what a message finds at its task
 
-  notice-spelled : (performed : IsPerformed script) (J : List Event) (m : MsgName) (a t : ℕ) (put : Put) → statement script m.origin m.statement ≡ statement_of put → IsPut script m (heads.Put put.to put.tgt put.cmpl) → sender script m ≡ a → receiver script m ≡ t → (c n : ℕ) → put.cmpl ≡ Some c → n < 2 ^ 32 → Atomic script no_rules (Copy (message m.origin m.statement Note) ∷ J) → HasSpelling (Data (note_packet t a n m c))
+  notice-spelled : (performed : IsSupported script) (J : List Event) (m : MsgName) (a t : ℕ) (put : Put) → statement script m.origin m.statement ≡ statement_of put → IsPut script m (heads.Put put.to put.tgt put.cmpl) → sender script m ≡ a → receiver script m ≡ t → (c n : ℕ) → put.cmpl ≡ Some c → n < 2 ^ 32 → Atomic script no_rules (Copy (message m.origin m.statement Note) ∷ J) → HasSpelling (Data (note_packet t a n m c))
   notice-spelled performed J m a t put is kind from to c n named few atomic =
       let note = message m.origin m.statement Note in
       let K = Copy note ∷ J in
       let own = notice-ends script m a t kind.leg from to in
       let bytes = carried script no_rules K note in
-      let spells = message-spelled script no_rules performed.valid none-valid K note n 0 atomic (done-head (Copy note) J) few (let e = notice-count script m put is c named in omega (arith, e)) in
+      let spells = message-spelled script no_rules performed.valid none-valid K note n 0 atomic (happened-head (Copy note) J) few (let e = notice-count script m put is c named in omega (arith, e)) in
       subst HasSpelling (notice-data script m put is c named n bytes (notice-carries script m put is c named J) ∙ (λ i. Data (note_packet (own.0 i) (own.1 i) n m c))) (_, spells)
 
   counter-there : (o : Option ℕ) (counters : List ℕ) → NamesCounter script o → length counters ≡ script.counters → (c : ℕ) → o ≡ Some c → c < length counters
   counter-there None counters h e c x = absurd (cc)
   counter-there (Some d) counters h e c x = let same : d ≡ c = cc in omega (arith, h, e, same)
 
-  module _ (performed : IsPerformed script) (r : Run) (a t : ℕ) (m : MsgName) (from : sender script m ≡ a) (to : receiver script m ≡ t) (n : ℕ) (bytes memory counters : List ℕ) (places : length memory ≡ script.memory) (count : length counters ≡ script.counters) where
-    suits-put : (put : Put) (cmpl : Option ℕ) → put.cmpl ≡ cmpl → IsPut script m (heads.Put put.to put.tgt put.cmpl) → statement script m.origin m.statement ≡ statement_of put → HeadFits script no_rules n (heads.Put put.to put.tgt cmpl) → length bytes ≡ n → Atomic script no_rules (followed r.journal (events_of (come false true m (heads.Put put.to put.tgt cmpl) bytes))) → HeadSuits t a m (heads.Put put.to put.tgt cmpl) bytes memory counters
+  module _ (performed : IsSupported script) (r : Run) (a t : ℕ) (m : MsgName) (from : sender script m ≡ a) (to : receiver script m ≡ t) (n : ℕ) (bytes memory counters : List ℕ) (places : length memory ≡ script.memory) (count : length counters ≡ script.counters) where
+    suits-put : (put : Put) (cmpl : Option ℕ) → put.cmpl ≡ cmpl → IsPut script m (heads.Put put.to put.tgt put.cmpl) → statement script m.origin m.statement ≡ statement_of put → HeadFits script no_rules n (heads.Put put.to put.tgt cmpl) → length bytes ≡ n → Atomic script no_rules (followed r.journal (events_of (come false true m (heads.Put put.to put.tgt cmpl) bytes))) → HeadMayLand t a m (heads.Put put.to put.tgt cmpl) bytes memory counters
     unfolding followed
     suits-put put None named kind is f size atomic = ((let l = f.0 in omega (arith, l, size, places)), counter-there put.tgt counters f.1 count, λ c k x few. absurd (cc))
     suits-put put (Some d) named kind is f size atomic =
         ((let l = f.0 in omega (arith, l, size, places)), counter-there put.tgt counters f.1 count, λ c k x few. let same : d ≡ c = cc in notice-spelled performed (Land m ∷ r.journal) m a t put is kind from to c k (named ∙ ap Some same) few atomic)
 
-    suits-note : (h : Head) → IsNote script m h → HeadFits script no_rules n h → HeadSuits t a m h bytes memory counters
+    suits-note : (h : Head) → IsNote script m h → HeadFits script no_rules n h → HeadMayLand t a m h bytes memory counters
     suits-note (heads.Note op cmpl) note f = omega (arith, f, count)
     suits-note (heads.Put at tgt cmpl) note f = absurd (note.counter at tgt cmpl refl)
     suits-note _ note f = absurd note.head
 
-    suits-come : (known whole : Bool) (h : Head) → IsPut script m h ⊎ IsNote script m h → HeadFits script no_rules n h → (whole ≡ true → length bytes ≡ n) → Atomic script no_rules (followed r.journal (events_of (come known whole m h bytes))) → ArrivalSuits t a (come known whole m h bytes) memory counters
+    suits-come : (known whole : Bool) (h : Head) → IsPut script m h ⊎ IsNote script m h → HeadFits script no_rules n h → (whole ≡ true → length bytes ≡ n) → Atomic script no_rules (followed r.journal (events_of (come known whole m h bytes))) → ArrivalMayLand t a (come known whole m h bytes) memory counters
     suits-come true whole h kind f size atomic = tt
     suits-come false false h kind f size atomic = tt
     suits-come false true h kind f size atomic =
@@ -198,13 +199,13 @@ module _ (script : Script) where
         (λ (x : IsPut script m h).
         let head = x.head in
         let good = λ (g : Head). Atomic script no_rules (followed r.journal (events_of (come false true m g bytes))) in
-        subst (λ (g : Head). HeadSuits t a m g bytes memory counters) (sym head) (suits-put x.put x.put.cmpl refl (subst (IsPut script m) head x) x.is (subst (HeadFits script no_rules n) head f) (size refl) (subst good head atomic)))
+        subst (λ (g : Head). HeadMayLand t a m g bytes memory counters) (sym head) (suits-put x.put x.put.cmpl refl (subst (IsPut script m) head x) x.is (subst (HeadFits script no_rules n) head f) (size refl) (subst good head atomic)))
         (λ (x : IsNote script m h). suits-note h x f)
         kind
 
   -- ---- a delivery
 
-  module _ (performed : IsPerformed script) (t : ℕ) (r : Run) (task : Task) (at : IsAt script t task r) (a k : ℕ) (known_task : a < script.tasks) (p : DataPacket) (entry : slice_get (r.wire a t) k ≡ Some (Data p)) where
+  module _ (performed : IsSupported script) (t : ℕ) (r : Run) (task : Task) (at : IsAt script t task r) (a k : ℕ) (known_task : a < script.tasks) (p : DataPacket) (entry : slice_get (r.wire a t) k ≡ Some (Data p)) where
     abbrev arrives : Arrival
     arrives = come (is_delivered r a t p.seq) (is_all script (r.handed a t) p) p.name p.head (came_bytes script (r.handed a t) p)
 
@@ -245,15 +246,15 @@ module _ (script : Script) where
     atomic : Atomic script no_rules then
     atomic = subst (λ (x : Run). Atomic script no_rules x.journal) delivered (deliver-sound script no_rules r a t k (record-sound script no_rules r at.recorded)).atomic
 
-    pub arrival-is : (arrival : Arrival) → Tells a p arrival task.receivers.items → arrival ≡ arrives
-    arrival-is arrival h = h end-there.0 script (r.handed a t) end-there.1 end-there.2 (arriving-fits script performed r a t k p at.recorded entry) ∙ come-is script (r.handed a t) p
+    pub arrival-is : (first_delivery : Arrival) → Tells a p first_delivery task.receivers.items → first_delivery ≡ arrives
+    arrival-is first_delivery h = h end-there.0 script (r.handed a t) end-there.1 end-there.2 (arriving-fits script performed r a t k p at.recorded entry) ∙ come-is script (r.handed a t) p
 
-    pub suits-arrival : (mid : Task) (arrival : Arrival) → KeepsRest task mid → arrival ≡ arrives → ArrivalSuits mid.number a arrival mid.memory mid.counters
-    suits-arrival mid arrival g e =
+    pub suits-arrival : (mid : Task) (first_delivery : Arrival) → KeepsRest task mid → first_delivery ≡ arrives → ArrivalMayLand mid.number a first_delivery mid.memory mid.counters
+    suits-arrival mid first_delivery g e =
         let h = at.stands.holds in
         let c = packet-comes in
-        subst (λ x. ArrivalSuits mid.number a x mid.memory mid.counters) (sym e)
-        (subst (λ n. ArrivalSuits n a arrives mid.memory mid.counters) (sym (g.number ∙ h.number))
+        subst (λ x. ArrivalMayLand mid.number a x mid.memory mid.counters) (sym e)
+        (subst (λ n. ArrivalMayLand n a arrives mid.memory mid.counters) (sym (g.number ∙ h.number))
         (suits-come performed r a t p.name c.from c.to p.length (came_bytes script (r.handed a t) p) mid.memory mid.counters
         (ap length (g.memory ∙ h.memory) ∙ memory-length script r.journal t)
         (ap length g.counters ∙ h.counter_count)
@@ -267,8 +268,8 @@ module _ (script : Script) where
         let x = took end-there.0 end-there.1 in
         (x.end, same ∙ x.ends, x.stands script (r.handed a t) end-there.2 (arriving-fits script performed r a t k p at.recorded entry))
 
-    pub has-taken : (mid after : Task) (arrival : Arrival) (old new : List Event) → KeepsRest task mid → Takes a p task.receivers.items mid.receivers.items → HasArrived a arrival mid after old new → HasTaken script t after a (Data p ∷ r.handed a t)
-    has-taken mid after arrival old new g took h =
+    pub has-taken : (mid after : Task) (first_delivery : Arrival) (old new : List Event) → KeepsRest task mid → Takes a p task.receivers.items mid.receivers.items → HasArrived a first_delivery mid after old new → HasTaken script t after a (Data p ∷ r.handed a t)
+    has-taken mid after first_delivery old new g took h =
         let x = receives mid after took h.receivers in
         record {
           performed = performed;
@@ -278,8 +279,8 @@ module _ (script : Script) where
           receiver = subst (ReceiverAt script (Data p ∷ r.handed a t)) (sym (ap (λ xs. slice_get xs a) x.1 ∙ get-set task.receivers.items a end-there.0 x.0 end-there.1)) x.2;
         }
 
-    pub arrived-does : (mid after : Task) (arrival : Arrival) (old new : Outcome) → KeepsRest task mid → arrival ≡ arrives → Takes a p task.receivers.items mid.receivers.items → HasArrived a arrival mid after old.events new.events → new.entries ≡ old.entries ++ answer script (Data p ∷ r.handed a t) a t ∷ [] → Does script t r (deliver script no_rules r a t k) after old new
-    arrived-does mid after arrival old new g e took h added =
+    pub arrived-does : (mid after : Task) (first_delivery : Arrival) (old new : Outcome) → KeepsRest task mid → first_delivery ≡ arrives → Takes a p task.receivers.items mid.receivers.items → HasArrived a first_delivery mid after old.events new.events → new.entries ≡ old.entries ++ answer script (Data p ∷ r.handed a t) a t ∷ [] → HasEffect script t r (deliver script no_rules r a t k) after old new
+    arrived-does mid after first_delivery old new g e took h added =
         let ps = Data p ∷ r.handed a t in
         let q = ack_of script ps a t in
         let known = is_delivered r a t p.seq in
@@ -291,7 +292,7 @@ module _ (script : Script) where
         let same = mild-all script t (events_of arrives) r.journal (come-mild known whole p.name p.head bytes kind) in
         let ends : after.senders.items ≡ ends_after t a arrives task.senders.items = own.senders ∙ ap (λ n. ends_after n a arrives mid.senders.items) (g.number ∙ s.holds.number) ∙ ap (ends_after t a arrives) g.senders in
         let x = receives mid after took h.receivers in
-        subst (λ y. Does script t r y after old new) (sym delivered)
+        subst (λ y. HasEffect script t r y after old new) (sym delivered)
         (record {
           events = events_of arrives;
           entries = answer script ps a t ∷ [];
@@ -302,7 +303,7 @@ module _ (script : Script) where
             senders = λ b l. subst (λ xs. SenderAt script next_run t b (slice_get xs b)) (sym ends) (ends-come script r (handed_on r a t p q) a t task.senders.items (λ y. settled r a t p ps y) known_task s.senders known whole p.name p.head bytes c.from c.to c.kind atomic b l);
             receivers = handed-ends r a t p q task.receivers.items after.receivers.items end-there.0 x.0 end-there.1 x.1 x.2 s.receivers;
           };
-          happened = refl;
+          journal = refl;
           events_added = own.events;
           put = λ b l. wires r a t p q b;
           entries_added = added;

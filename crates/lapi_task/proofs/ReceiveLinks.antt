@@ -12,18 +12,19 @@ use Rattle.lapi_base.specs.declared.head.NoteOp.{NoteOp}
 use Rattle.lapi_base.specs.declared.message.Leg.TheVariants.{Go, Note}
 use Rattle.lapi_base.specs.declared.message.MsgName.{MsgName}
 use Rattle.lapi_base.specs.declared.packet.Packet.TheVariants.{Data}
-use Rattle.lapi_base.specs.Atomic.{Atomic}
-use Rattle.lapi_base.specs.Below.{below}
-use Rattle.lapi_base.specs.Entries.{carried}
-use Rattle.lapi_base.specs.Fragments.{fragments_in, fragment_bytes}
-use Rattle.lapi_base.specs.Layout.{Layout, First, Second, layout_of, unit, unit_of}
-use Rattle.lapi_base.specs.Names.{message, name_eq}
-use Rattle.lapi_base.specs.Operations.{upto, statement, target, from_by, to_by, sender, receiver, message_length, fragment_count, fragments}
-use Rattle.lapi_base.specs.Packets.{data_packet, head_by}
-use Rattle.lapi_base.specs.Record.{Run, out, followed, is_sent, is_acked}
-use Rattle.lapi_base.specs.Seen.{no_rules}
-use Rattle.lapi_base.specs.Values.{values}
-use Rattle.lapi_base.specs.Written as written
+use Rattle.lapi_base.specs.Record.Atomic.{Atomic}
+use Rattle.lapi_base.specs.Record.Below.{below}
+use Rattle.lapi_base.specs.Laws.Entries.{carried}
+use Rattle.lapi_base.specs.Record.Fragments.{fragments_in, fragment_bytes}
+use Rattle.lapi_base.specs.Packet.Layout.{Layout, First, Second, layout_of, unit, unit_of}
+use Rattle.lapi_base.specs.Record.Names.{message, name_eq}
+use Rattle.lapi_base.specs.Record.Operations.{numbers_below, statement, target, from_by, to_by, sender, receiver, message_length, fragment_count, fragments}
+use Rattle.lapi_base.specs.Record.Packets.{data_packet, head_by}
+use Rattle.lapi_base.specs.Record.Wires.{Run, numbered, is_sent, is_acked}
+use Rattle.lapi_base.specs.Record.Acts.{followed}
+use Rattle.lapi_base.specs.Record.WorldView.{no_rules}
+use Rattle.lapi_base.specs.Record.Values.{values}
+use Rattle.lapi_base.specs.Packet.PacketBytes as written
 use Rattle.lapi_base.proofs.ListLaws.{get-after, get-before, get-past, get-set, get-set-other}
 use Rattle.lapi_base.proofs.NameLaws.{name_eq-refl}
 use Rattle.lapi_laws.proofs.Backward.{Atomic-tail}
@@ -35,20 +36,20 @@ use Rattle.lapi_task.specs.Puts.{statement_of}
 use Rattle.lapi_task.specs.Sends.{packet_at, SendsFor}
 use Rattle.lapi_task.specs.StandsFor.{SenderAt}
 use Rattle.lapi_laws.proofs.Places.{fragments-length}
-use Rattle.lapi_task.proofs.Packets.{packet-none, packet-same, packet-stays, out-own, copied_packet, packet-new}
+use Rattle.lapi_task.proofs.Packets.{packet-none, packet-same, packet-stays, numbered-own, copied_packet, packet-new}
 use Rattle.lapi_task.proofs.ReceiveEvents.{come}
 use Rattle.lapi_task.proofs.ReceiveKinds.{IsPut, IsNote}
 
 module _ (script : Script) where
   -- A link has the same numbers, or one more.
   pub record Stays (J K : List Event) (x y : ℕ) : Type 0 where
-    pub numbers : length (out script K x y) ≡ length (out script J x y)
+    pub numbers : length (numbered script K x y) ≡ length (numbered script J x y)
     pub packets : (n : ℕ) → packet_at script K x y n ≡ packet_at script J x y n
 
   pub record Grows (J K : List Event) (x y : ℕ) (bytes : List ℕ) : Type 0 where
-    pub numbers : length (out script K x y) ≡ length (out script J x y) + 1
-    pub old : (n : ℕ) → n < length (out script J x y) → packet_at script K x y n ≡ packet_at script J x y n
-    pub new : packet_at script K x y (length (out script J x y)) ≡ Some bytes
+    pub numbers : length (numbered script K x y) ≡ length (numbered script J x y) + 1
+    pub old : (n : ℕ) → n < length (numbered script J x y) → packet_at script K x y n ≡ packet_at script J x y n
+    pub new : packet_at script K x y (length (numbered script J x y)) ≡ Some bytes
 
   -- what was sent and acknowledged is as before
   pub record Settled (r w : Run) (x y : ℕ) : Type 0 where
@@ -74,7 +75,7 @@ module _ (script : Script) where
   sends-grow : (r w : Run) (K : List Event) (x y : ℕ) (s : SendingEnd) (bytes : List ℕ) → Settled r w x y → Grows r.journal K x y bytes → SendsFor script s r x y → SendsFor script (appended s bytes) (told w K) x y
   unfolding bytes_of
   sends-grow r w K x y s bytes m g h =
-      let count = length (out script r.journal x y) in
+      let count = length (numbered script r.journal x y) in
       let numbers = h.numbers.numbers in
       let whole = h.whole in
       let more = g.numbers in
@@ -125,19 +126,19 @@ module _ (script : Script) where
         new = ap (packet_at script K x y) (sym s.numbers) ∙ g.new;
       }
 
-  out-land : (m : MsgName) (J : List Event) (x y : ℕ) → out script (Land m ∷ J) x y ≡ out script J x y
-  unfolding out
-  out-land m J x y = refl
+  numbered-land : (m : MsgName) (J : List Event) (x y : ℕ) → numbered script (Land m ∷ J) x y ≡ numbered script J x y
+  unfolding numbered
+  numbered-land m J x y = refl
 
   stays-land : (m : MsgName) (J : List Event) (x y : ℕ) → Atomic script no_rules (Land m ∷ J) → Stays J (Land m ∷ J) x y
-  stays-land m J x y atomic = record { numbers = ap (λ (ps : List (MsgName × ℕ)). length ps) (out-land m J x y); packets = packet-same script (Land m) J x y atomic (out-land m J x y) }
+  stays-land m J x y atomic = record { numbers = ap (λ (ps : List (MsgName × ℕ)). length ps) (numbered-land m J x y); packets = packet-same script (Land m) J x y atomic (numbered-land m J x y) }
 
-  out-other : (n : MsgName) (J : List Event) (x y : ℕ) → (sender script n == x && receiver script n == y) ≡ false → out script (Copy n ∷ J) x y ≡ out script J x y
-  unfolding out
-  out-other n J x y e = cond-false (sender script n == x && receiver script n == y) (out script J x y ++ fragments script n) (out script J x y) e
+  numbered-other : (n : MsgName) (J : List Event) (x y : ℕ) → (sender script n == x && receiver script n == y) ≡ false → numbered script (Copy n ∷ J) x y ≡ numbered script J x y
+  unfolding numbered
+  numbered-other n J x y e = cond-false (sender script n == x && receiver script n == y) (numbered script J x y ++ fragments script n) (numbered script J x y) e
 
   stays-copy : (n : MsgName) (J : List Event) (x y : ℕ) → Atomic script no_rules (Copy n ∷ J) → (sender script n == x && receiver script n == y) ≡ false → Stays J (Copy n ∷ J) x y
-  stays-copy n J x y atomic e = record { numbers = ap (λ (ps : List (MsgName × ℕ)). length ps) (out-other n J x y e); packets = packet-same script (Copy n) J x y atomic (out-other n J x y e) }
+  stays-copy n J x y atomic e = record { numbers = ap (λ (ps : List (MsgName × ℕ)). length ps) (numbered-other n J x y e); packets = packet-same script (Copy n) J x y atomic (numbered-other n J x y e) }
 
   -- ---- the notice of a put: one fragment without bytes, in each layout
 
@@ -178,26 +179,26 @@ module _ (script : Script) where
     unfolding fragment_count message_length
     notice-count = one-fragment
 
-    first : slice_get (upto 1) 0 ≡ Some 0
-    unfolding upto below
+    first : slice_get (numbers_below 1) 0 ≡ Some 0
+    unfolding numbers_below below
     first = refl
 
     abbrev notice_bytes : List Event → (x y : ℕ) → List ℕ
-    notice_bytes J x y = written.packet (Data (note_packet x y (length (out script J x y)) m c))
+    notice_bytes J x y = written.packet (Data (note_packet x y (length (numbered script J x y)) m c))
 
     grows-own : (J : List Event) → Atomic script no_rules (Copy notice ∷ J) → Grows J (Copy notice ∷ J) (sender script notice) (receiver script notice) (notice_bytes J (sender script notice) (receiver script notice))
     grows-own J atomic =
         let x = sender script notice in
         let y = receiver script notice in
-        let n = length (out script J x y) in
+        let n = length (numbered script J x y) in
         let at : n + 0 ≡ n = omega arith in
         record {
-          numbers = ap (λ (ps : List (MsgName × ℕ)). length ps) (out-own script notice J) ∙ length-append (out script J x y) (fragments script notice) ∙ ap (λ k. n + k) (fragments-length script notice ∙ notice-count);
+          numbers = ap (λ (ps : List (MsgName × ℕ)). length ps) (numbered-own script notice J) ∙ length-append (numbered script J x y) (fragments script notice) ∙ ap (λ k. n + k) (fragments-length script notice ∙ notice-count);
           old = λ k l. packet-stays script (Copy notice) J x y k atomic l;
           new =
               ap (packet_at script (Copy notice ∷ J) x y) (sym at)
               ∙ packet-new script notice J 0
-              ∙ ap (λ k. option_map (λ j. copied_packet script notice J (n + 0) j) (slice_get (upto k) 0)) notice-count
+              ∙ ap (λ k. option_map (λ j. copied_packet script notice J (n + 0) j) (slice_get (numbers_below k) 0)) notice-count
               ∙ ap (option_map (λ j. copied_packet script notice J (n + 0) j)) first
               ∙ ap (λ k. Some (copied_packet script notice J k 0)) at
               ∙ ap (λ d. Some (written.packet d)) (notice-data n (carried script no_rules (Copy notice ∷ J) notice) (notice-carries J));
@@ -245,11 +246,11 @@ module _ (script : Script) where
           let s = found.0 in
           let here : slice_get ends a ≡ Some s = found.1 in
           let bytes = λ (k : ℕ). written.packet (Data (note_packet t a k m c)) in
-          let count : length (out script J t a) ≡ s.window.numbers = ap (λ (ps : List (MsgName × ℕ)). length ps) (out-land m r.journal t a) ∙ sym found.2.numbers.numbers in
+          let count : length (numbered script J t a) ≡ s.window.numbers = ap (λ (ps : List (MsgName × ℕ)). length ps) (numbered-land m r.journal t a) ∙ sym found.2.numbers.numbers in
           let ends2 = slice_set ends a (appended s (bytes s.window.numbers)) in
           let is2 : noted_at t a m c (slice_get ends a) ends ≡ ends2 = ap (λ o. noted_at t a m c o ends) here in
           let grown = grows-copy m put is c named J t a atomic own.0 own.1 in
-          let whole : Grows r.journal K t a (bytes s.window.numbers) = subst (λ k. Grows r.journal K t a (bytes k)) count (grows-over J r.journal K t a (bytes (length (out script J t a))) (stays-land m r.journal t a landed) grown) in
+          let whole : Grows r.journal K t a (bytes s.window.numbers) = subst (λ k. Grows r.journal K t a (bytes k)) count (grows-over J r.journal K t a (bytes (length (numbered script J t a))) (stays-land m r.journal t a landed) grown) in
           subst (λ xs. SenderAt script (told w K) t b (slice_get xs b)) (sym is2)
           (⊎_elim
           (λ (same : b ≡ a). subst (λ y. SenderAt script (told w K) t y (slice_get ends2 y)) (sym same) (subst (SenderAt script (told w K) t a) (sym (get-set ends a s (appended s (bytes s.window.numbers)) here)) (sends-grow r w K t a s (bytes s.window.numbers) (moves a) whole found.2)))

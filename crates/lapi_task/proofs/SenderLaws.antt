@@ -9,7 +9,7 @@ use Rattle.lapi_base.specs.declared.wire.WireEntry.{WireEntry}
 use Rattle.lapi_base.proofs.ListLaws.{all-append}
 use Rattle.lapi_base.proofs.TestLaws.{eqb-refl}
 use Rattle.lapi_link.specs.Sender.{SendingEnd, entries_to}
-use Rattle.lapi_task.specs.Does.{bytes_to}
+use Rattle.lapi_task.specs.HasEffect.{bytes_to}
 use Rattle.lapi_task.specs.Sends.{of_end, entries_of}
 
 pub bytes-append : (b : ℕ) (xs ys : List WireEntry) → bytes_to b (xs ++ ys) ≡ bytes_to b xs ++ bytes_to b ys

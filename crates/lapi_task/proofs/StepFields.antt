@@ -11,24 +11,24 @@ use Rattle.lapi_base.specs.declared.event.Event.TheVariants.{Issue, Refuse, Pass
 use Rattle.lapi_base.specs.declared.message.Leg.TheVariants.{Go}
 use Rattle.lapi_base.specs.declared.refusal.Refusal.{Refusal}
 use Rattle.lapi_base.specs.declared.refusal.Refusal.TheVariants.{BadOriginRange, BadCounter}
-use Rattle.lapi_base.specs.Below.{below}
-use Rattle.lapi_base.specs.Built.{is_built_statement}
-use Rattle.lapi_base.specs.Counters.{count, reads, read_by, tells, issued_count, passed_count}
-use Rattle.lapi_base.specs.Jobs.{runs}
-use Rattle.lapi_base.specs.Names.{message, done, deed, deed_eq, Issued, Copied}
-use Rattle.lapi_base.specs.Operations.{statement, is_data}
-use Rattle.lapi_base.specs.Operations as operations
-use Rattle.lapi_base.specs.Refusals.{next, refusals}
-use Rattle.lapi_base.specs.Seen.{no_rules}
-use Rattle.lapi_base.specs.Values.{memory_bytes, store_writes}
+use Rattle.lapi_base.specs.Record.Below.{below}
+use Rattle.lapi_base.specs.Input.Built.{is_built_statement}
+use Rattle.lapi_base.specs.Record.Counters.{count, reads, read_by, tells, issued_count, passed_count}
+use Rattle.lapi_base.specs.Record.Jobs.{runs}
+use Rattle.lapi_base.specs.Record.Names.{message, happened, key_of, key_eq, Issued, Copied}
+use Rattle.lapi_base.specs.Record.Operations.{statement, is_data}
+use Rattle.lapi_base.specs.Record.Operations as operations
+use Rattle.lapi_base.specs.Record.Refusals.{next, refusals}
+use Rattle.lapi_base.specs.Record.WorldView.{no_rules}
+use Rattle.lapi_base.specs.Record.Values.{memory_bytes, store_writes}
 use Rattle.lapi_base.proofs.BelowLaws.{below-cut, below-same}
-use Rattle.lapi_base.proofs.NameLaws.{done-head, done-other}
+use Rattle.lapi_base.proofs.NameLaws.{happened-head, happened-other}
 use Rattle.lapi_base.proofs.TestLaws.{eqb-refl}
 use Rattle.lapi_task.specs.declared.outcome.Outcome.{Outcome}
 use Rattle.lapi_task.specs.declared.task.Task.{Task}
-use Rattle.lapi_task.specs.Performed.{reason_of}
+use Rattle.lapi_task.specs.Supported.{reason_of}
 use Rattle.lapi_task.specs.StandsFor.{HoldsFor, is_uncopied}
-use Rattle.lapi_task.specs.Steps.{Suits, stored, counters_set, with_read, with_uncopied, IsRefused, IsIssued, IsPassed}
+use Rattle.lapi_task.specs.Steps.{MayStep, stored, counters_set, with_read, with_uncopied, IsRefused, IsIssued, PassesWait}
 use Rattle.lapi_task.proofs.StepMemories.{memory-none, memory-written, memory-length}
 
 -- one number more is listed, behind all others
@@ -52,7 +52,7 @@ module _ (script : Script) where
   ] refl h
 
   -- a statement that isn't refused finds its places and its counter
-  pub suits : (s : Statement) (memory counters : List ℕ) → length memory ≡ script.memory → length counters ≡ script.counters → is_built_statement s ≡ true → reason_of script s ≡ None → Suits s memory counters
+  pub suits : (s : Statement) (memory counters : List ℕ) → length memory ≡ script.memory → length counters ≡ script.counters → is_built_statement s ≡ true → reason_of script s ≡ None → MayStep s memory counters
   unfolding is_built_statement
   suits (statements.Store at bytes) memory counters m c b h = let l = store-fits (at + length bytes) h in omega (arith, l, m)
   suits (statements.Put target to from len tgt org cmpl) memory counters m c b h = tt
@@ -63,10 +63,10 @@ module _ (script : Script) where
 
   module _ (t : ℕ) (J : List Event) where
     -- an event that issues and copies nothing
-    uncopied-same : (e : Event) (k : ℕ) → deed_eq (Issued t k) (deed e) ≡ false → deed_eq (Copied (message t k Go)) (deed e) ≡ false → is_uncopied script J t k ≡ is_uncopied script (e ∷ J) t k
+    uncopied-same : (e : Event) (k : ℕ) → key_eq (Issued t k) (key_of e) ≡ false → key_eq (Copied (message t k Go)) (key_of e) ≡ false → is_uncopied script J t k ≡ is_uncopied script (e ∷ J) t k
     uncopied-same e k x y =
-        ap (λ b. is_data (statement script t k) && (b && not (done (Copied (message t k Go)) J))) (sym (done-other (Issued t k) e J x))
-        ∙ ap (λ b. is_data (statement script t k) && (done (Issued t k) (e ∷ J) && not b)) (sym (done-other (Copied (message t k Go)) e J y))
+        ap (λ b. is_data (statement script t k) && (b && not (happened (Copied (message t k Go)) J))) (sym (happened-other (Issued t k) e J x))
+        ∙ ap (λ b. is_data (statement script t k) && (happened (Issued t k) (e ∷ J) && not b)) (sym (happened-other (Copied (message t k Go)) e J y))
 
     -- The record after a refusal.
     after-refuse : (i : ℕ) (why : Refusal) → (next (Refuse t i why ∷ J) t ≡ suc (next J t)) × (refusals (Refuse t i why ∷ J) t ≡ refusals J t ++ (i, why) ∷ [])
@@ -95,7 +95,7 @@ module _ (script : Script) where
         record {
           number = g.past.number ∙ h.number;
           next = (let x : after.next ≡ suc (next J t) = omega (arith, step, was) in x) ∙ sym r.0;
-          ahead = λ k l. done-other (Issued t k) e J refl ∙ h.ahead k (omega (arith, l, step));
+          ahead = λ k l. happened-other (Issued t k) e J refl ∙ h.ahead k (omega (arith, l, step));
           reads = g.reads ∙ h.reads ∙ sym (reads-refuse i why);
           refusals = g.refusals ∙ ap (λ xs. xs ++ (i, why) ∷ []) h.refusals ∙ sym r.1;
           memory = g.memory ∙ h.memory ∙ sym (memory-none script e J t refl);
@@ -144,7 +144,7 @@ module _ (script : Script) where
         (λ (apart : c ≡ d → ⊥). let no = and_right (t == t) (d == c) (ne_eqb d c (λ x. apart (sym x))) in cond-false (t == t && d == c) _ (n c) no ∙ sym (cond-false (t == t && d == c) _ (n c) no))
         (cases_eq c d)
 
-    pub passed-holds : (before after : Task) (old new : Outcome) (d value : ℕ) → statement script t before.next ≡ statements.Wait d value → d < length before.counters → HoldsFor script t before J → IsPassed d value before after old new → HoldsFor script t after (Pass t before.next ∷ J)
+    pub passed-holds : (before after : Task) (old new : Outcome) (d value : ℕ) → statement script t before.next ≡ statements.Wait d value → d < length before.counters → HoldsFor script t before J → PassesWait d value before after old new → HoldsFor script t after (Pass t before.next ∷ J)
     passed-holds before after old new d value is there h g =
         let i = before.next in
         let e = Pass t i in
@@ -155,7 +155,7 @@ module _ (script : Script) where
         record {
           number = g.past.number ∙ h.number;
           next = (let x : after.next ≡ suc (next J t) = omega (arith, step, was) in x) ∙ sym r.0;
-          ahead = λ k l. done-other (Issued t k) e J refl ∙ h.ahead k (omega (arith, l, step));
+          ahead = λ k l. happened-other (Issued t k) e J refl ∙ h.ahead k (omega (arith, l, step));
           reads = g.reads ∙ h.reads ∙ sym (reads-pass i);
           refusals = g.refusals ∙ h.refusals ∙ sym r.1;
           memory = g.memory ∙ h.memory ∙ sym (memory-none script e J t refl);
@@ -187,11 +187,11 @@ module _ (script : Script) where
     unfolding count
     count-issue i c s e = ap (λ (x : Statement). issued_count script no_rules x t t c (count script no_rules J t c)) e
 
-    issued-later : (i k : ℕ) → suc i ≤ k → done (Issued t k) J ≡ false → done (Issued t k) (Issue t i ∷ J) ≡ false
-    issued-later i k l h = done-other (Issued t k) (Issue t i) J (and_right (t == t) (k == i) (ne_eqb k i (λ e. let x = e in omega (arith, l, x)))) ∙ h
+    issued-later : (i k : ℕ) → suc i ≤ k → happened (Issued t k) J ≡ false → happened (Issued t k) (Issue t i ∷ J) ≡ false
+    issued-later i k l h = happened-other (Issued t k) (Issue t i) J (and_right (t == t) (k == i) (ne_eqb k i (λ e. let x = e in omega (arith, l, x)))) ∙ h
 
     module _ (before : Task) (h : HoldsFor script t before J) where
-      reads-issued : (s : Statement) → is_built_statement s ≡ true → Suits s before.memory before.counters → with_read s before.counters before.next before.reads.items ≡ reads script no_rules J t ++ read_by script no_rules J t before.next s
+      reads-issued : (s : Statement) → is_built_statement s ≡ true → MayStep s before.memory before.counters → with_read s before.counters before.next before.reads.items ≡ reads script no_rules J t ++ read_by script no_rules J t before.next s
       unfolding is_built_statement
       reads-issued (statements.Store at bytes) b u = h.reads ∙ sym (append-nil (reads script no_rules J t))
       reads-issued (statements.Put target to from len tgt org cmpl) b u = h.reads ∙ sym (append-nil (reads script no_rules J t))
@@ -202,7 +202,7 @@ module _ (script : Script) where
           ∙ ap (λ n. reads script no_rules J t ++ (before.next, n) ∷ []) (h.counters counter (let n = h.counter_count in omega (arith, u, n)))
       reads-issued _ b u = absurd (false≢true b)
 
-      memory-issued : (s : Statement) → statement script t before.next ≡ s → is_built_statement s ≡ true → Suits s before.memory before.counters → stored s before.memory ≡ memory_bytes script no_rules (Issue t before.next ∷ J) t
+      memory-issued : (s : Statement) → statement script t before.next ≡ s → is_built_statement s ≡ true → MayStep s before.memory before.counters → stored s before.memory ≡ memory_bytes script no_rules (Issue t before.next ∷ J) t
       unfolding is_built_statement
       memory-issued (statements.Store at bytes) e b u =
           ap (stored (statements.Store at bytes)) h.memory
@@ -223,7 +223,7 @@ module _ (script : Script) where
       count-issued (statements.Read counter) b = refl
       count-issued _ b = absurd (false≢true b)
 
-      counters-issued : (s : Statement) → is_built_statement s ≡ true → Suits s before.memory before.counters → (c : ℕ) → c < script.counters → slice_index (counters_set s before.counters) c ≡ issued_count script no_rules s t t c (count script no_rules J t c)
+      counters-issued : (s : Statement) → is_built_statement s ≡ true → MayStep s before.memory before.counters → (c : ℕ) → c < script.counters → slice_index (counters_set s before.counters) c ≡ issued_count script no_rules s t t c (count script no_rules J t c)
       unfolding is_built_statement
       counters-issued (statements.Store at bytes) b u c l = h.counters c l
       counters-issued (statements.Put target to from len tgt org cmpl) b u c l = h.counters c l
@@ -247,18 +247,18 @@ module _ (script : Script) where
           (cases_eq k before.next))
 
       -- a statement with data
-      some-data : (s : Statement) → statement script t before.next ≡ s → is_data s ≡ true → before.next < length (operations.statements script t) → done (Copied (message t before.next Go)) J ≡ false → before.uncopied.items ++ before.next ∷ [] ≡ below (length (operations.statements script t)) (is_uncopied script (Issue t before.next ∷ J) t)
+      some-data : (s : Statement) → statement script t before.next ≡ s → is_data s ≡ true → before.next < length (operations.statements script t) → happened (Copied (message t before.next Go)) J ≡ false → before.uncopied.items ++ before.next ∷ [] ≡ below (length (operations.statements script t)) (is_uncopied script (Issue t before.next ∷ J) t)
       some-data s e d within fresh =
           ap (λ xs. xs ++ before.next ∷ []) h.uncopied
           ∙ below-more _ before.next (is_uncopied script J t) (is_uncopied script (Issue t before.next ∷ J) t) within
           (λ k l. uncopied-other k (λ x. let y = x in omega (arith, l, y)))
-          (λ k l. and_right (is_data (statement script t k)) _ (and_left (done (Issued t k) J) _ (h.ahead k l)))
+          (λ k l. and_right (is_data (statement script t k)) _ (and_left (happened (Issued t k) J) _ (h.ahead k l)))
           (and_from (is_data (statement script t before.next)) _ (ap is_data e ∙ d)
-          (and_from (done (Issued t before.next) (Issue t before.next ∷ J)) _ (done-head (Issue t before.next) J)
-          (ap not (done-other (Copied (message t before.next Go)) (Issue t before.next) J refl ∙ fresh))))
-          (λ k l. and_right (is_data (statement script t k)) _ (and_left (done (Issued t k) (Issue t before.next ∷ J)) _ (issued-later before.next k l (h.ahead k (omega arith)))))
+          (and_from (happened (Issued t before.next) (Issue t before.next ∷ J)) _ (happened-head (Issue t before.next) J)
+          (ap not (happened-other (Copied (message t before.next Go)) (Issue t before.next) J refl ∙ fresh))))
+          (λ k l. and_right (is_data (statement script t k)) _ (and_left (happened (Issued t k) (Issue t before.next ∷ J)) _ (issued-later before.next k l (h.ahead k (omega arith)))))
 
-      uncopied-issued : (s : Statement) → statement script t before.next ≡ s → is_built_statement s ≡ true → before.next < length (operations.statements script t) → done (Copied (message t before.next Go)) J ≡ false → with_uncopied s before.next before.uncopied.items ≡ below (length (operations.statements script t)) (is_uncopied script (Issue t before.next ∷ J) t)
+      uncopied-issued : (s : Statement) → statement script t before.next ≡ s → is_built_statement s ≡ true → before.next < length (operations.statements script t) → happened (Copied (message t before.next Go)) J ≡ false → with_uncopied s before.next before.uncopied.items ≡ below (length (operations.statements script t)) (is_uncopied script (Issue t before.next ∷ J) t)
       unfolding is_built_statement
       uncopied-issued (statements.Store at bytes) e b l fresh = no-data (statements.Store at bytes) e refl
       uncopied-issued (statements.Put target to from len tgt org cmpl) e b l fresh = some-data (statements.Put target to from len tgt org cmpl) e refl l fresh
@@ -267,7 +267,7 @@ module _ (script : Script) where
       uncopied-issued (statements.Read counter) e b l fresh = no-data (statements.Read counter) e refl
       uncopied-issued _ e b l fresh = absurd (false≢true b)
 
-      pub issued-holds : (after : Task) (old new : Outcome) (s : Statement) → statement script t before.next ≡ s → is_built_statement s ≡ true → Suits s before.memory before.counters → before.next < length (operations.statements script t) → done (Copied (message t before.next Go)) J ≡ false → IsIssued s before after old new → HoldsFor script t after (Issue t before.next ∷ J)
+      pub issued-holds : (after : Task) (old new : Outcome) (s : Statement) → statement script t before.next ≡ s → is_built_statement s ≡ true → MayStep s before.memory before.counters → before.next < length (operations.statements script t) → happened (Copied (message t before.next Go)) J ≡ false → IsIssued s before after old new → HoldsFor script t after (Issue t before.next ∷ J)
       issued-holds after old new s e b u within fresh g =
           let i = before.next in
           let step = g.past.next in

@@ -13,27 +13,28 @@ use Rattle.lapi_base.specs.declared.event.Event.TheVariants.{Issue, Refuse, Pass
 use Rattle.lapi_base.specs.declared.message.Leg.TheVariants.{Go}
 use Rattle.lapi_base.specs.declared.reply.Reply.{Reply}
 use Rattle.lapi_base.specs.declared.reply.Reply.TheVariants.{Did, Idle, Blocked}
-use Rattle.lapi_base.specs.Atomic.{needs}
-use Rattle.lapi_base.specs.Built.{is_built_statement}
-use Rattle.lapi_base.specs.Counters.{count}
-use Rattle.lapi_base.specs.Names.{message, done, Copied}
-use Rattle.lapi_base.specs.Operations.{statement}
-use Rattle.lapi_base.specs.Operations as operations
-use Rattle.lapi_base.specs.Record.{Run, out, step, event_if, add_event, unless_refused, reply_with, with_events, followed, proposed}
-use Rattle.lapi_base.specs.Refusals.{next, why}
-use Rattle.lapi_base.specs.Seen.{no_rules}
-use Rattle.lapi_base.specs.Values.{values}
+use Rattle.lapi_base.specs.Record.Atomic.{needs}
+use Rattle.lapi_base.specs.Input.Built.{is_built_statement}
+use Rattle.lapi_base.specs.Record.Counters.{count}
+use Rattle.lapi_base.specs.Record.Names.{message, happened, Copied}
+use Rattle.lapi_base.specs.Record.Operations.{statement}
+use Rattle.lapi_base.specs.Record.Operations as operations
+use Rattle.lapi_base.specs.Record.Wires.{Run, numbered}
+use Rattle.lapi_base.specs.Record.Acts.{step, event_if, add_event, unless_refused, reply_with, with_events, followed, proposed}
+use Rattle.lapi_base.specs.Record.Refusals.{next, refusal_of}
+use Rattle.lapi_base.specs.Record.WorldView.{no_rules}
+use Rattle.lapi_base.specs.Record.Values.{values}
 use Rattle.lapi_base.proofs.ListLaws.{get-none}
 use Rattle.lapi_laws.proofs.Backward.{closed}
 use Rattle.lapi_link.specs.Sender.{SendingEnd}
 use Rattle.lapi_parts.proofs.Records.{record-sound}
 use Rattle.lapi_task.specs.declared.outcome.Outcome.{Outcome}
 use Rattle.lapi_task.specs.declared.task.Task.{Task}
-use Rattle.lapi_task.specs.Performed.{IsPerformed, reason_of}
+use Rattle.lapi_task.specs.Supported.{IsSupported, reason_of}
 use Rattle.lapi_task.specs.Sends.{packet_at, SendsFor}
 use Rattle.lapi_task.specs.StandsFor.{SenderAt, ReceiverAt, HoldsFor, StandsFor}
-use Rattle.lapi_task.specs.Does.{IsAt, Does}
-use Rattle.lapi_task.specs.Steps.{Suits, IsPast, IsRefused, IsIssued, IsPassed, IsBlocked}
+use Rattle.lapi_task.specs.HasEffect.{IsAt, HasEffect}
+use Rattle.lapi_task.specs.Steps.{MayStep, Advances, IsRefused, IsIssued, PassesWait, IsBlocked}
 use Rattle.lapi_task.proofs.Forms.{statement-is, statement-built}
 use Rattle.lapi_task.proofs.ReasonForms.{why-is, few-statements}
 use Rattle.lapi_task.proofs.StepMemories.{memory-length}
@@ -46,19 +47,19 @@ module _ (script : Script) where
 
   -- the event puts no packet onto a link, and leaves those that are there as they were
   pub record IsQuiet (e : Event) (J : List Event) : Type 0 where
-    pub numbers : (a b : ℕ) → out script (e ∷ J) a b ≡ out script J a b
+    pub numbers : (a b : ℕ) → numbered script (e ∷ J) a b ≡ numbered script J a b
     pub packets : (a b n : ℕ) → packet_at script (e ∷ J) a b n ≡ packet_at script J a b n
 
   refuse-quiet : (t i : ℕ) (reason : Refusal) (J : List Event) → IsQuiet (Refuse t i reason) J
-  unfolding out packet_at values
+  unfolding numbered packet_at values
   refuse-quiet t i reason J = record { numbers = λ a b. refl; packets = λ a b n. refl }
 
   issue-quiet : (t i : ℕ) (J : List Event) → IsQuiet (Issue t i) J
-  unfolding out packet_at values
+  unfolding numbered packet_at values
   issue-quiet t i J = record { numbers = λ a b. refl; packets = λ a b n. refl }
 
   pass-quiet : (t i : ℕ) (J : List Event) → IsQuiet (Pass t i) J
-  unfolding out packet_at values
+  unfolding numbered packet_at values
   pass-quiet t i J = record { numbers = λ a b. refl; packets = λ a b n. refl }
 
   sends-on : (r : Run) (e : Event) (a b : ℕ) (s : SendingEnd) → IsQuiet e r.journal → SendsFor script s r a b → SendsFor script s (stepped r e) a b
@@ -74,7 +75,7 @@ module _ (script : Script) where
   sender-on r e a b None q h = absurd h
   sender-on r e a b (Some s) q h = sends-on r e a b s q h
 
-  does-event : (t : ℕ) (r : Run) (e : Event) (before after : Task) (old new : Outcome) → IsQuiet e r.journal → StandsFor script t before r → IsPast e before after old new → HoldsFor script t after (e ∷ r.journal) → Does script t r (stepped r e) after old new
+  does-event : (t : ℕ) (r : Run) (e : Event) (before after : Task) (old new : Outcome) → IsQuiet e r.journal → StandsFor script t before r → Advances e before after old new → HoldsFor script t after (e ∷ r.journal) → HasEffect script t r (stepped r e) after old new
   unfolding followed
   does-event t r e before after old new q h g holds = record {
     events = e ∷ [];
@@ -86,7 +87,7 @@ module _ (script : Script) where
       senders = λ b l. subst (λ xs. SenderAt script (stepped r e) t b (slice_get xs b)) (sym g.senders) (sender-on r e t b (slice_get before.senders.items b) q (h.senders b l));
       receivers = λ a l. subst (λ xs. ReceiverAt script (r.handed a t) (slice_get xs a)) (sym g.receivers) (h.receivers a l);
     };
-    happened = refl;
+    journal = refl;
     events_added = g.events;
     put = λ b l. sym (append-nil _);
     entries_added = g.entries ∙ sym (append-nil old.entries);
@@ -111,33 +112,33 @@ module _ (script : Script) where
         waiting = x.waiting;
       }
 
-  does-nothing : (t : ℕ) (r : Run) (reply : Reply) (task : Task) (o : Outcome) → StandsFor script t task r → Does script t r (reply_with script no_rules r reply) task o o
+  does-nothing : (t : ℕ) (r : Run) (reply : Reply) (task : Task) (o : Outcome) → StandsFor script t task r → HasEffect script t r (reply_with script no_rules r reply) task o o
   unfolding followed
   does-nothing t r reply task o h = record {
     events = [];
     entries = [];
     stands = stands-on t r reply task h;
-    happened = refl;
+    journal = refl;
     events_added = sym (append-nil o.events);
     put = λ b l. sym (append-nil _);
     entries_added = sym (append-nil o.entries);
     ends = tt;
   }
 
-  module _ (p : IsPerformed script) where
+  module _ (p : IsSupported script) where
     -- what a step adds, by its statement
     step-some : (r : Run) (t i : ℕ) (s : Statement) → i ≡ next r.journal t → slice_get (operations.statements script t) i ≡ Some s → step script no_rules r t ≡ add_event script no_rules r (unless_refused script no_rules r t i (reason_of script s))
     unfolding step
     step-some r t i s e found =
         let within = slice_get_within (operations.statements script t) i s found in
-        ap (λ j. cond (nat_lt j (length (operations.statements script t))) (add_event script no_rules r (unless_refused script no_rules r t j (why script no_rules r.journal t j))) (reply_with script no_rules r Idle)) (sym e)
+        ap (λ j. cond (nat_lt j (length (operations.statements script t))) (add_event script no_rules r (unless_refused script no_rules r t j (refusal_of script no_rules r.journal t j))) (reply_with script no_rules r Idle)) (sym e)
         ∙ cond-true (nat_lt i (length (operations.statements script t))) _ _ (lt-ltb i (length (operations.statements script t)) within)
         ∙ ap (λ o. add_event script no_rules r (unless_refused script no_rules r t i o)) (why-is script r.journal t i s (statement-is script t i s found) (statement-built script p t i s found))
 
     step-none : (r : Run) (t i : ℕ) → i ≡ next r.journal t → slice_get (operations.statements script t) i ≡ None → step script no_rules r t ≡ reply_with script no_rules r Idle
     unfolding step
     step-none r t i e found =
-        ap (λ j. cond (nat_lt j (length (operations.statements script t))) (add_event script no_rules r (unless_refused script no_rules r t j (why script no_rules r.journal t j))) (reply_with script no_rules r Idle)) (sym e)
+        ap (λ j. cond (nat_lt j (length (operations.statements script t))) (add_event script no_rules r (unless_refused script no_rules r t j (refusal_of script no_rules r.journal t j))) (reply_with script no_rules r Idle)) (sym e)
         ∙ cond-false (nat_lt i (length (operations.statements script t))) _ _ (le-ltb i (length (operations.statements script t)) (get-none (operations.statements script t) i found))
 
     step-by : (r : Run) (t i : ℕ) (s : Statement) → i ≡ next r.journal t → slice_get (operations.statements script t) i ≡ Some s → reason_of script s ≡ None → step script no_rules r t ≡ add_event script no_rules r (proposed script no_rules r t i s)
@@ -161,14 +162,14 @@ module _ (script : Script) where
       own : (o : Option Statement) → slice_get (operations.statements script before.number) before.next ≡ o → slice_get (operations.statements script t) before.next ≡ o
       own o h = ap (λ n. slice_get (operations.statements script n) before.next) (sym at.stands.holds.number) ∙ h
 
-      named : (f : ℕ → ℕ → Event) (after : Task) (old new : Outcome) → IsPast (f before.number before.next) before after old new → IsPast (f t before.next) before after old new
-      named f after old new = subst (λ n. IsPast (f n before.next) before after old new) at.stands.holds.number
+      named : (f : ℕ → ℕ → Event) (after : Task) (old new : Outcome) → Advances (f before.number before.next) before after old new → Advances (f t before.next) before after old new
+      named f after old new = subst (λ n. Advances (f n before.next) before after old new) at.stands.holds.number
 
       idle-step : slice_get (operations.statements script before.number) before.next ≡ None → step script no_rules r t ≡ reply_with script no_rules r Idle
       idle-step found = step-none r t before.next at.stands.holds.next (own None found)
 
-      pub idle-does : (o : Outcome) → slice_get (operations.statements script before.number) before.next ≡ None → Does script t r (step script no_rules r t) before o o
-      idle-does o found = subst (λ x. Does script t r x before o o) (sym (idle-step found)) (does-nothing t r Idle before o at.stands)
+      pub idle-does : (o : Outcome) → slice_get (operations.statements script before.number) before.next ≡ None → HasEffect script t r (step script no_rules r t) before o o
+      idle-does o found = subst (λ x. HasEffect script t r x before o o) (sym (idle-step found)) (does-nothing t r Idle before o at.stands)
 
       pub idle-replies : slice_get (operations.statements script before.number) before.next ≡ None → (step script no_rules r t).replies ≡ r.replies ++ Idle ∷ []
       idle-replies found = ap (λ (x : Run). x.replies) (idle-step found)
@@ -189,16 +190,16 @@ module _ (script : Script) where
         pub next-fits : before.next + 1 < 2 ^ 32
         next-fits = let few = few-statements script p t in let l = within in omega (arith, few, l)
 
-        pub is-suited : reason_of script s ≡ None → Suits s before.memory before.counters
+        pub is-suited : reason_of script s ≡ None → MayStep s before.memory before.counters
         is-suited h = suits script s before.memory before.counters (ap length at.stands.holds.memory ∙ memory-length script r.journal t) at.stands.holds.counter_count built h
 
         -- It is refused;
         refused-step : (reason : Refusal) → reason_of script s ≡ Some reason → step script no_rules r t ≡ stepped r (Refuse t before.next reason)
         refused-step reason h = step-some r t before.next s at.stands.holds.next here ∙ ap (λ o. add_event script no_rules r (unless_refused script no_rules r t before.next o)) h
 
-        pub refused-does : (reason : Refusal) (after : Task) (old new : Outcome) → reason_of script s ≡ Some reason → IsRefused reason before after old new → Does script t r (step script no_rules r t) after old new
+        pub refused-does : (reason : Refusal) (after : Task) (old new : Outcome) → reason_of script s ≡ Some reason → IsRefused reason before after old new → HasEffect script t r (step script no_rules r t) after old new
         refused-does reason after old new h g =
-            subst (λ x. Does script t r x after old new) (sym (refused-step reason h))
+            subst (λ x. HasEffect script t r x after old new) (sym (refused-step reason h))
             (does-event t r (Refuse t before.next reason) before after old new (refuse-quiet t before.next reason r.journal) at.stands
             (named (λ n i. Refuse n i reason) after old new g.past)
             (refused-holds script t r.journal before after old new reason at.stands.holds g))
@@ -207,7 +208,7 @@ module _ (script : Script) where
         refused-replies reason h = ap (λ (x : Run). x.replies) (refused-step reason h)
 
         -- it is issued;
-        fresh : done (Copied (message t before.next Go)) r.journal ≡ false
+        fresh : happened (Copied (message t before.next Go)) r.journal ≡ false
         unfolding needs
         fresh =
             let sound = record-sound script no_rules r at.recorded in
@@ -216,9 +217,9 @@ module _ (script : Script) where
         issued-step : ((counter value : ℕ) → s ≡ statements.Wait counter value → ⊥) → reason_of script s ≡ None → step script no_rules r t ≡ stepped r (Issue t before.next)
         issued-step no-wait h = step-by r t before.next s at.stands.holds.next here h ∙ ap (add_event script no_rules r) (issues r t before.next s built no-wait)
 
-        pub issued-does : (after : Task) (old new : Outcome) → ((counter value : ℕ) → s ≡ statements.Wait counter value → ⊥) → reason_of script s ≡ None → IsIssued s before after old new → Does script t r (step script no_rules r t) after old new
+        pub issued-does : (after : Task) (old new : Outcome) → ((counter value : ℕ) → s ≡ statements.Wait counter value → ⊥) → reason_of script s ≡ None → IsIssued s before after old new → HasEffect script t r (step script no_rules r t) after old new
         issued-does after old new no-wait h g =
-            subst (λ x. Does script t r x after old new) (sym (issued-step no-wait h))
+            subst (λ x. HasEffect script t r x after old new) (sym (issued-step no-wait h))
             (does-event t r (Issue t before.next) before after old new (issue-quiet t before.next r.journal) at.stands
             (named Issue after old new g.past)
             (issued-holds script t r.journal before at.stands.holds after old new s is built (is-suited h) within fresh g))
@@ -248,9 +249,9 @@ module _ (script : Script) where
         blocked-step : slice_index before.counters counter < value → step script no_rules r t ≡ reply_with script no_rules r Blocked
         blocked-step l = waited false (lt-leb value _ (let e = has in omega (arith, l, e)))
 
-        pub passed-does : (after : Task) (old new : Outcome) → IsPassed counter value before after old new → Does script t r (step script no_rules r t) after old new
+        pub passed-does : (after : Task) (old new : Outcome) → PassesWait counter value before after old new → HasEffect script t r (step script no_rules r t) after old new
         passed-does after old new g =
-            subst (λ x. Does script t r x after old new) (sym (passed-step g.enough))
+            subst (λ x. HasEffect script t r x after old new) (sym (passed-step g.enough))
             (does-event t r (Pass t before.next) before after old new (pass-quiet t before.next r.journal) at.stands
             (named Pass after old new g.past)
             (passed-holds script t r.journal before after old new counter value (is (statements.Wait counter value) found) there at.stands.holds g))
@@ -258,11 +259,11 @@ module _ (script : Script) where
         pub passed-replies : value ≤ slice_index before.counters counter → (step script no_rules r t).replies ≡ r.replies ++ Did ∷ []
         passed-replies l = ap (λ (x : Run). x.replies) (passed-step l)
 
-        pub blocked-does : (after : Task) (old new : Outcome) → IsBlocked counter value before after old new → Does script t r (step script no_rules r t) after old new
+        pub blocked-does : (after : Task) (old new : Outcome) → IsBlocked counter value before after old new → HasEffect script t r (step script no_rules r t) after old new
         blocked-does after old new g =
-            subst (λ x. Does script t r x after old new) (sym (blocked-step g.less))
-            (subst (λ x. Does script t r (reply_with script no_rules r Blocked) x old new) (sym g.task)
-            (subst (λ x. Does script t r (reply_with script no_rules r Blocked) before old x) (sym g.outcome) (does-nothing t r Blocked before old at.stands)))
+            subst (λ x. HasEffect script t r x after old new) (sym (blocked-step g.less))
+            (subst (λ x. HasEffect script t r (reply_with script no_rules r Blocked) x old new) (sym g.task)
+            (subst (λ x. HasEffect script t r (reply_with script no_rules r Blocked) before old x) (sym g.outcome) (does-nothing t r Blocked before old at.stands)))
 
         pub blocked-replies : slice_index before.counters counter < value → (step script no_rules r t).replies ≡ r.replies ++ Blocked ∷ []
         blocked-replies l = ap (λ (x : Run). x.replies) (blocked-step l)

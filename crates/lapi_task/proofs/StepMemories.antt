@@ -4,29 +4,29 @@ use Rattle.std.proofs.lemmas.Bool.{cond-true}
 use Rattle.std.proofs.lemmas.List.{get_or_default, get_or-take, get_or-drop, length-take-le, length-drop, length-replicate, get_or-replicate, places}
 use Rattle.lapi_base.specs.declared.script.Script.{Script}
 use Rattle.lapi_base.specs.declared.event.Event.{Event}
-use Rattle.lapi_base.specs.Operations.{upto}
-use Rattle.lapi_base.specs.Seen.{no_rules}
-use Rattle.lapi_base.specs.Values.{Write, values, memory_bytes, byte_after, writes, writer}
+use Rattle.lapi_base.specs.Record.Operations.{numbers_below}
+use Rattle.lapi_base.specs.Record.WorldView.{no_rules}
+use Rattle.lapi_base.specs.Record.Values.{Write, values, memory_bytes, byte_after, writes, writer}
 use Rattle.lapi_base.proofs.TestLaws.{eqb-refl}
 use Rattle.lapi_base.proofs.UptoLaws.{is-over, length-over, over-at, over-same}
 use Rattle.lapi_memory.specs.TaskMemory.{written}
 use Rattle.lapi_base.proofs.MemoryLaws.{byte_written}
 
 -- the bytes that are read are those of the places
-pub read-over : (f : ℕ → ℕ) (size at len : ℕ) → at + len ≤ size → take len (drop at (map f (upto size))) ≡ map (λ k. f (at + k)) (upto len)
+pub read-over : (f : ℕ → ℕ) (size at len : ℕ) → at + len ≤ size → take len (drop at (map f (numbers_below size))) ≡ map (λ k. f (at + k)) (numbers_below len)
 read-over f size at len l =
     let whole = length-over f size in
-    let rest = length-drop at (map f (upto size)) in
-    is-over (take len (drop at (map f (upto size)))) (λ k. f (at + k)) len (length-take-le len (drop at (map f (upto size))) (omega (arith, whole, rest)))
-    (λ k d lt. get_or-take len (drop at (map f (upto size))) k d lt ∙ get_or-drop at (map f (upto size)) k d ∙ over-at f size (at + k) d (omega arith))
+    let rest = length-drop at (map f (numbers_below size)) in
+    is-over (take len (drop at (map f (numbers_below size)))) (λ k. f (at + k)) len (length-take-le len (drop at (map f (numbers_below size))) (omega (arith, whole, rest)))
+    (λ k d lt. get_or-take len (drop at (map f (numbers_below size))) k d lt ∙ get_or-drop at (map f (numbers_below size)) k d ∙ over-at f size (at + k) d (omega arith))
 
 length-written : (memory : List ℕ) (at : ℕ) (bytes : List ℕ) → at + length bytes ≤ length memory → length (written memory at bytes) ≡ length memory
 length-written memory at bytes l = grind (arith, places)
 
 -- a write of bytes, place by place
-pub written-over : (f : ℕ → ℕ) (size at : ℕ) (bytes : List ℕ) → at + length bytes ≤ size → written (map f (upto size)) at bytes ≡ map (λ x. byte_after ((at, bytes) ∷ []) x (f x)) (upto size)
+pub written-over : (f : ℕ → ℕ) (size at : ℕ) (bytes : List ℕ) → at + length bytes ≤ size → written (map f (numbers_below size)) at bytes ≡ map (λ x. byte_after ((at, bytes) ∷ []) x (f x)) (numbers_below size)
 written-over f size at bytes l =
-    let memory = map f (upto size) in
+    let memory = map f (numbers_below size) in
     let whole = length-over f size in
     let fits : at + length bytes ≤ length memory = omega (arith, whole) in
     let long = length-written memory at bytes fits ∙ whole in

@@ -11,28 +11,29 @@ use Rattle.lapi_base.specs.declared.message.Leg.TheVariants.{Go}
 use Rattle.lapi_base.specs.declared.message.MsgName.{MsgName}
 use Rattle.lapi_base.specs.declared.packet.Packet.{Packet}
 use Rattle.lapi_base.specs.declared.packet.Packet.TheVariants.{Data, Ack}
-use Rattle.lapi_base.specs.Below.{below, every_below, least_missing}
-use Rattle.lapi_base.specs.Final.{is_empty, is_idle, is_settled, is_told}
-use Rattle.lapi_base.specs.Jobs.{runs}
-use Rattle.lapi_base.specs.Layout.{window_of}
-use Rattle.lapi_base.specs.Names.{Issued, Entered, Copied, done, message}
-use Rattle.lapi_base.specs.Operations.{upto, statement, is_data, has_join}
-use Rattle.lapi_base.specs.Operations as operations
-use Rattle.lapi_base.specs.Record.{Run, out, base, fresh, ready, to_copy_of, joins, has_number, is_number, is_acked}
-use Rattle.lapi_base.specs.Seen.{no_rules, IsRecord}
+use Rattle.lapi_base.specs.Record.Below.{below, every_below, least_missing}
+use Rattle.lapi_base.specs.Record.Final.{is_empty, is_idle, is_settled, is_told}
+use Rattle.lapi_base.specs.Record.Jobs.{runs}
+use Rattle.lapi_base.specs.Packet.Layout.{window_of}
+use Rattle.lapi_base.specs.Record.Names.{Issued, Entered, Copied, happened, message}
+use Rattle.lapi_base.specs.Record.Operations.{numbers_below, statement, is_data, has_join}
+use Rattle.lapi_base.specs.Record.Operations as operations
+use Rattle.lapi_base.specs.Record.Wires.{Run, numbered, base, to_send, has_number, is_number, is_acked}
+use Rattle.lapi_base.specs.Record.Acts.{ready, to_copy_of, joins}
+use Rattle.lapi_base.specs.Record.WorldView.{no_rules, IsRecord}
 use Rattle.lapi_link.specs.Sender.{SendingEnd, sendable}
 use Rattle.lapi_parts.proofs.LocalQuestions.{by_points}
 use Rattle.lapi_parts.proofs.SentFront.{polls-next}
 use Rattle.lapi_window.specs.SendWindow.{sent_count, base_of, unacked}
 use Rattle.lapi_window.specs.SendWindow as window
 use Rattle.lapi_task.specs.declared.task.Task.{Task}
-use Rattle.lapi_task.specs.Does.{IsAt}
-use Rattle.lapi_task.specs.Performed.{IsPerformed}
+use Rattle.lapi_task.specs.HasEffect.{IsAt}
+use Rattle.lapi_task.specs.Supported.{IsSupported}
 use Rattle.lapi_task.specs.Sends.{SendsFor}
 use Rattle.lapi_task.specs.StandsFor.{is_uncopied, SenderAt, HoldsFor}
 use Rattle.lapi_task.proofs.Jobless.{no-queue}
 use Rattle.lapi_task.proofs.Forms.{no-join}
-use Rattle.lapi_base.specs.Valid.{ValidScript}
+use Rattle.lapi_base.specs.Record.Valid.{ValidScript}
 use Rattle.lapi_base.proofs.BelowLaws.{every_below-at, every_below-from}
 use Rattle.lapi_base.proofs.ListLaws.{all-get, any-all, any-get, get-some, list_all-at, list_all-each, flat_map-push}
 use Rattle.lapi_base.proofs.TestLaws.{eqb-refl, same_tests}
@@ -49,10 +50,10 @@ all-at p q xs f =
     (λ all. every_below-from (length xs) q (λ k lt. let some = get-some xs k lt in sym (f k some.0 some.1) ∙ all-get (λ x. p x ≡ true) xs k some.0 (list_all-each p xs all) some.1))
     (λ all. list_all-at p xs (all-from (λ x. p x ≡ true) xs (λ k x at. f k x at ∙ every_below-at (length xs) q k all (slice_get_within xs k x at))))
 
-all-over : {X : Type 0} (p : X → Bool) (f : ℕ → List X) (n : ℕ) → list_all p (flat_map f (upto n)) ≡ every_below n (λ i. list_all p (f i))
-unfolding upto below every_below
+all-over : {X : Type 0} (p : X → Bool) (f : ℕ → List X) (n : ℕ) → list_all p (flat_map f (numbers_below n)) ≡ every_below n (λ i. list_all p (f i))
+unfolding numbers_below below every_below
 all-over p f zero = refl
-all-over p f (suc n) = ap (list_all p) (flat_map-push f (upto n) n) ∙ list_all-append p (flat_map f (upto n)) (f n) ∙ ap (λ b. b && list_all p (f n)) (all-over p f n)
+all-over p f (suc n) = ap (list_all p) (flat_map-push f (numbers_below n) n) ∙ list_all-append p (flat_map f (numbers_below n)) (f n) ∙ ap (λ b. b && list_all p (f n)) (all-over p f n)
 
 some : (n : ℕ) → (suc n == 0) ≡ false
 some n = ne_eqb (suc n) 0 (λ e. absurd (omega arith))
@@ -77,10 +78,10 @@ blank-push : (f : ℕ → ℕ) (xs : List ℕ) (x : ℕ) → is_empty (map f (xs
 blank-push f [] x = refl
 blank-push f (y ∷ xs) x = refl
 
-blank-upto : (f : ℕ → ℕ) (n : ℕ) → is_empty (map f (upto n)) ≡ (n == 0)
-unfolding upto below
+blank-upto : (f : ℕ → ℕ) (n : ℕ) → is_empty (map f (numbers_below n)) ≡ (n == 0)
+unfolding numbers_below below
 blank-upto f zero = refl
-blank-upto f (suc n) = blank-push f (upto n) n ∙ sym (some n)
+blank-upto f (suc n) = blank-push f (numbers_below n) n ∙ sym (some n)
 
 pub room : (n m low low' size size' sent waits : ℕ) → n ≡ m → low ≡ low' → size' ≡ size → sent + waits ≡ m → min n (low + size) - sent ≡ min waits (low' + size' - sent)
 room n m low low' size size' sent waits a b c d = omega arith
@@ -133,26 +134,26 @@ module _ (script : Script) (r : Run) (a b : ℕ) (s : SendingEnd) (h : SendsFor 
   unfolding base
   base-is = λ i. least_missing (sym h.numbers.numbers i) (λ n. h.numbers.acked n i)
 
-  fresh-is : IsRecord script no_rules r → is_empty (fresh script no_rules r r.journal a b) ≡ (sendable s == 0)
+  fresh-is : IsRecord script no_rules r → is_empty (to_send script no_rules r r.journal a b) ≡ (sendable s == 0)
   fresh-is is =
       let sent = sent_count s.window in
       ap is_empty (polls-next script no_rules r is r.journal a b sent h.numbers.sent)
-      ∙ blank-upto (λ i. sent + i) (min (length (out script r.journal a b)) (base script r a b + window_of script) - sent)
-      ∙ ap (λ n. n == 0) (room (length (out script r.journal a b)) s.window.numbers (base script r a b) (base_of s.window) (window_of script) s.window.window sent (length s.waiting) (sym h.numbers.numbers) base-is h.numbers.size h.whole)
+      ∙ blank-upto (λ i. sent + i) (min (length (numbered script r.journal a b)) (base script r a b + window_of script) - sent)
+      ∙ ap (λ n. n == 0) (room (length (numbered script r.journal a b)) s.window.numbers (base script r a b) (base_of s.window) (window_of script) s.window.window sent (length s.waiting) (sym h.numbers.numbers) base-is h.numbers.size h.whole)
 
   pub settled-is : ValidScript script → IsRecord script no_rules r → settled s ≡ is_settled script no_rules r a b
   unfolding is_settled
   settled-is valid is =
       ap (λ x. x && sendable s == 0) (sym told-is)
       ∙ ap (λ x. list_all (is_told script no_rules r a b) (r.wire a b) && x) (sym (fresh-is is))
-      ∙ sym (and-yes (list_all (is_told script no_rules r a b) (r.wire a b) && is_empty (fresh script no_rules r r.journal a b)))
-      ∙ ap (λ o. list_all (is_told script no_rules r a b) (r.wire a b) && is_empty (fresh script no_rules r r.journal a b) && not o) (sym (none-owed script no_rules valid r is a b))
+      ∙ sym (and-yes (list_all (is_told script no_rules r a b) (r.wire a b) && is_empty (to_send script no_rules r r.journal a b)))
+      ∙ ap (λ o. list_all (is_told script no_rules r a b) (r.wire a b) && is_empty (to_send script no_rules r r.journal a b) && not o) (sym (none-owed script no_rules valid r is a b))
     where
       and-yes : (x : Bool) → (x && true) ≡ x
       and-yes true = refl
       and-yes false = refl
 
-module _ (script : Script) (p : IsPerformed script) where
+module _ (script : Script) (p : IsSupported script) where
   -- A statement's messages are copied where it isn't one that waits for its copy.
   copied-cases : (d i : Bool) (f : MsgName → Bool) (m : MsgName) → list_all f (cond (d && i) (m ∷ []) []) ≡ not (d && (i && not (f m)))
   copied-cases true true f m = twice (f m)
@@ -163,21 +164,21 @@ module _ (script : Script) (p : IsPerformed script) where
   copied-cases true false f m = refl
   copied-cases false i f m = refl
 
-  copied-is : (J : List Event) (t i : ℕ) → list_all (λ m. done (Copied m) J) (to_copy_of script J t i) ≡ not (is_uncopied script J t i)
+  copied-is : (J : List Event) (t i : ℕ) → list_all (λ m. happened (Copied m) J) (to_copy_of script J t i) ≡ not (is_uncopied script J t i)
   copied-is J t i =
       let is = is_data (statement script t i) in
-      let issued = done (Issued t i) J in
-      ap (λ x. list_all (λ m. done (Copied m) J) (cond (is && issued) (message t i Go ∷ []) (cond (x && done (Entered t i) J) (joins script t i) []))) (no-join script p t i)
-      ∙ copied-cases is issued (λ m. done (Copied m) J) (message t i Go)
+      let issued = happened (Issued t i) J in
+      ap (λ x. list_all (λ m. happened (Copied m) J) (cond (is && issued) (message t i Go ∷ []) (cond (x && happened (Entered t i) J) (joins script t i) []))) (no-join script p t i)
+      ∙ copied-cases is issued (λ m. happened (Copied m) J) (message t i Go)
 
   pub idle-is : (t : ℕ) (task : Task) (r : Run) → HoldsFor script t task r.journal → is_idle script no_rules r t ≡ (length task.uncopied.items == 0)
   unfolding is_idle ready
   idle-is t task r h =
       let count = length (operations.statements script t) in
       let free : every_below script.workers (λ w. not (is_some (runs r.journal t w))) ≡ true = every_below-from script.workers (λ w. not (is_some (runs r.journal t w))) (λ w l. ap (λ o. not (is_some o)) (h.jobless w)) in
-      ap (λ ms. (is_empty ms && every_below script.workers (λ w. not (is_some (runs r.journal t w)))) && list_all (λ m. done (Copied m) r.journal) (ready script r.journal t)) (no-queue script r.journal t)
-      ∙ ap (λ b. b && list_all (λ m. done (Copied m) r.journal) (ready script r.journal t)) free
-      ∙ all-over (λ m. done (Copied m) r.journal) (to_copy_of script r.journal t) count
+      ap (λ ms. (is_empty ms && every_below script.workers (λ w. not (is_some (runs r.journal t w)))) && list_all (λ m. happened (Copied m) r.journal) (ready script r.journal t)) (no-queue script r.journal t)
+      ∙ ap (λ b. b && list_all (λ m. happened (Copied m) r.journal) (ready script r.journal t)) free
+      ∙ all-over (λ m. happened (Copied m) r.journal) (to_copy_of script r.journal t) count
       ∙ ap (every_below count) (by_points _ _ (copied-is r.journal t))
       ∙ none-below count (is_uncopied script r.journal t)
       ∙ ap (λ (xs : List ℕ). length xs == 0) (sym h.uncopied)

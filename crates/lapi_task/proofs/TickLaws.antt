@@ -10,12 +10,13 @@ use Rattle.lapi_base.specs.declared.script.Script.{Script}
 use Rattle.lapi_base.specs.declared.message.MsgName.{MsgName}
 use Rattle.lapi_base.specs.declared.event.Event.{Event}
 use Rattle.lapi_base.specs.declared.wire.WireEntry.{WireEntry}
-use Rattle.lapi_base.specs.Below.{below}
-use Rattle.lapi_base.specs.ByPart.{ticked}
-use Rattle.lapi_base.specs.Record.{Run, out, has_number, is_number, is_sent, is_acked, packets, stale, tick, followed}
-use Rattle.lapi_base.specs.Record as record_of
-use Rattle.lapi_base.specs.Seen.{no_rules}
-use Rattle.lapi_base.specs.Written as written
+use Rattle.lapi_base.specs.Record.Below.{below}
+use Rattle.lapi_base.specs.Laws.Locality.{ticked}
+use Rattle.lapi_base.specs.Record.Wires.{Run, numbered, has_number, is_number, is_sent, is_acked, packets, to_resend}
+use Rattle.lapi_base.specs.Record.Acts.{tick, followed}
+use Rattle.lapi_base.specs.Record.Wires as on_wires
+use Rattle.lapi_base.specs.Record.WorldView.{no_rules}
+use Rattle.lapi_base.specs.Packet.PacketBytes as written
 use Rattle.lapi_base.proofs.BelowLaws.{below-all}
 use Rattle.lapi_base.proofs.TestLaws.{eqb-refl, same_tests}
 use Rattle.lapi_laws.proofs.SentWindow.{packets-number, number-append}
@@ -24,7 +25,7 @@ use Rattle.lapi_window.specs.SendWindow.{Sending, sent_count, bytes_of, unacked}
 use Rattle.lapi_window.specs.SendWindow as window
 use Rattle.lapi_task.specs.declared.outcome.Outcome.{Outcome}
 use Rattle.lapi_task.specs.declared.task.Task.{Task}
-use Rattle.lapi_task.specs.Does.{Does}
+use Rattle.lapi_task.specs.HasEffect.{HasEffect}
 use Rattle.lapi_task.specs.Sends.{SendsFor, packet_at, spelled, of_end, entries_of}
 use Rattle.lapi_task.specs.StandsFor.{SenderAt, StandsFor}
 use Rattle.lapi_task.proofs.SenderLaws.{bytes-of-end, entries-within, entries-none, entries-more}
@@ -32,7 +33,7 @@ use Rattle.lapi_task.proofs.SenderLaws.{bytes-of-end, entries-within, entries-no
 module _ (script : Script) where
   -- The packets of numbers whose bytes are kept are spelled by these.
   module _ (J : List Event) (a b : ℕ) (w : Sending) where
-    one : (n : ℕ) (o : Option (MsgName × ℕ)) (rest : List (List ℕ)) → map written.packet (record_of.packet_of script no_rules J n o) ++ rest ≡ cons_option (option_map (spelled script J n) o) rest
+    one : (n : ℕ) (o : Option (MsgName × ℕ)) (rest : List (List ℕ)) → map written.packet (on_wires.packet_of script no_rules J n o) ++ rest ≡ cons_option (option_map (spelled script J n) o) rest
     one n None rest = refl
     one n (Some pair) rest = refl
 
@@ -40,18 +41,18 @@ module _ (script : Script) where
     unfolding packets packet_at
     packets-spelled [] h = refl
     packets-spelled (n ∷ ns) h =
-        let f = λ (k : ℕ). record_of.packet_of script no_rules J k (slice_get (out script J a b) k) in
+        let f = λ (k : ℕ). on_wires.packet_of script no_rules J k (slice_get (numbered script J a b) k) in
         ap (map written.packet) (flat_map-cons f n ns)
         ∙ map-append written.packet (f n) (flat_map f ns)
         ∙ ap (λ rest. map written.packet (f n) ++ rest) (packets-spelled ns h.1)
-        ∙ one n (slice_get (out script J a b) n) (filter_map (bytes_of w) ns)
+        ∙ one n (slice_get (numbered script J a b) n) (filter_map (bytes_of w) ns)
         ∙ ap (λ o. cons_option o (filter_map (bytes_of w) ns)) (sym h.0)
 
   -- Of a link, a tick sends again what its end keeps,
   module _ (r : Run) (a b : ℕ) where
     module _ (s : SendingEnd) (h : SendsFor script s r a b) where
-      open-numbers : stale script no_rules r a b ≡ unacked s.window
-      unfolding stale
+      open-numbers : to_resend script no_rules r a b ≡ unacked s.window
+      unfolding to_resend
       open-numbers = λ i. below (sym h.numbers.numbers i) (λ n. h.numbers.sent n i && not (h.numbers.acked n i))
 
       kept-each : (ns : List ℕ) → AllByRecursion (λ n. (n < s.window.numbers) × ((window.is_sent s.window n && not (window.is_acked s.window n)) ≡ true)) ns → AllByRecursion (λ n. bytes_of s.window n ≡ packet_at script r.journal a b n) ns
@@ -71,10 +72,10 @@ module _ (script : Script) where
 
     -- and no other numbers are sent than before.
     pub sent-again : (n : ℕ) → has_number (r.wire a b ++ ticked script no_rules r a b) n ≡ has_number (r.wire a b) n
-    unfolding stale has_number
+    unfolding to_resend has_number
     sent-again n =
         let test = λ (k : ℕ). is_sent r a b k && not (is_acked r a b k) in
-        let count = length (out script r.journal a b) in
+        let count = length (numbered script r.journal a b) in
         same_tests (has_number (r.wire a b ++ ticked script no_rules r a b) n) (has_number (r.wire a b) n)
         (λ there.
         ⊎_elim
@@ -122,14 +123,14 @@ module _ (script : Script) where
       receivers = h.receivers;
     }
 
-    pub tick-does : (task : Task) (old new : Outcome) → StandsFor script t task r → new.events ≡ old.events → new.entries ≡ old.entries ++ entries_of kept task.senders.items (length task.senders.items) → Does script t r (tick script no_rules r t) task old new
+    pub tick-does : (task : Task) (old new : Outcome) → StandsFor script t task r → new.events ≡ old.events → new.entries ≡ old.entries ++ entries_of kept task.senders.items (length task.senders.items) → HasEffect script t r (tick script no_rules r t) task old new
     tick-does task old new h same grown =
         let ends = task.senders.items in
         let entries = entries_of kept ends (length ends) in record {
           events = [];
           entries = entries;
           stands = stands-after task h;
-          happened = journal-after;
+          journal = journal-after;
           events_added = same ∙ sym (append-nil old.events);
           put = λ b lt.
               let reached : b < length ends = subst (λ n. b < n) (sym h.sender_count) lt in

@@ -2,19 +2,19 @@
 use Rattle.std.specs.Prelude.{◌≡◌, ℕ, ◌==◌, false}
 use Rattle.lapi_base.specs.declared.script.Script.{Script}
 use Rattle.lapi_base.specs.declared.schedule.Act.{Act}
-use Rattle.lapi_base.specs.Record.{Run}
-use Rattle.lapi_base.specs.Seen.{no_rules, performed, IsRecord}
-use Rattle.lapi_base.specs.Spelling.{spells_packet}
-use Rattle.lapi_base.specs.TaskPart.{actor, part_at}
-use Rattle.lapi_base.specs.Valid.{ValidAct}
+use Rattle.lapi_base.specs.Record.Wires.{Run}
+use Rattle.lapi_base.specs.Record.WorldView.{no_rules, performed, IsRecord}
+use Rattle.lapi_base.specs.Packet.Spelling.{spells_packet}
+use Rattle.lapi_base.specs.Record.TaskPart.{actor, part_at}
+use Rattle.lapi_base.specs.Record.Valid.{ValidAct}
 use Rattle.lapi_task.specs.declared.task.Task.{Task}
-use Rattle.lapi_task.specs.Does.{IsAt}
-use Rattle.lapi_task.specs.Performed.{IsPerformed}
+use Rattle.lapi_task.specs.HasEffect.{IsAt}
+use Rattle.lapi_task.specs.Supported.{IsSupported}
 use Rattle.lapi_task.specs.StandsFor.{StandsFor}
 
 -- where task t stands for a record, it stands for the one after a line at another task
 abbrev pub TasksStayApart : Type 0
-TasksStayApart = (script : Script) (t : ℕ) (task : Task) (r : Run) (act : Act) → IsPerformed script → IsAt script t task r → ValidAct script spells_packet act → (actor act == t) ≡ false → StandsFor script t task (performed script no_rules r act)
+TasksStayApart = (script : Script) (t : ℕ) (task : Task) (r : Run) (act : Act) → IsSupported script → IsAt script t task r → ValidAct script spells_packet act → (actor act == t) ≡ false → StandsFor script t task (performed script no_rules r act)
 
 -- where task t stands for a record, it stands for every record with the same part at t
 abbrev pub StandsByPart : Type 0

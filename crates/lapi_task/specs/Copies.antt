@@ -5,10 +5,11 @@ use Rattle.lapi_base.specs.declared.event.Event.TheVariants.{Copy}
 use Rattle.lapi_base.specs.declared.script.Script.{Script}
 use Rattle.lapi_base.specs.declared.message.Leg.TheVariants.{Go}
 use Rattle.lapi_base.specs.declared.payload.TheConstants.{PAYLOAD_ROOM}
-use Rattle.lapi_base.specs.Atomic.{Atomic}
-use Rattle.lapi_base.specs.Names.{message}
-use Rattle.lapi_base.specs.Record.{Run, followed, copy_each, ready}
-use Rattle.lapi_base.specs.Seen.{no_rules}
+use Rattle.lapi_base.specs.Record.Atomic.{Atomic}
+use Rattle.lapi_base.specs.Record.Names.{message}
+use Rattle.lapi_base.specs.Record.Wires.{Run}
+use Rattle.lapi_base.specs.Record.Acts.{followed, copy_each, ready}
+use Rattle.lapi_base.specs.Record.WorldView.{no_rules}
 use Rattle.lapi_link.specs.Sender.{SendingEnd, sendable, sent}
 use Rattle.lapi_memory.specs.TaskMemory.{bytes_at, IsWithin}
 use Rattle.lapi_reassembly.specs.Partial.{IsUnit}

@@ -11,14 +11,14 @@ use Rattle.lapi_base.specs.declared.packet.DataPacket.{DataPacket}
 use Rattle.lapi_base.specs.declared.packet.Packet.{Packet}
 use Rattle.lapi_base.specs.declared.packet.Packet.TheVariants.{Data}
 use Rattle.lapi_base.specs.declared.script.Script.{Script}
-use Rattle.lapi_base.specs.Arrived.{noted}
-use Rattle.lapi_base.specs.Names.{message}
-use Rattle.lapi_base.specs.Spelling.{HasSpelling}
-use Rattle.lapi_base.specs.Written as written
+use Rattle.lapi_base.specs.Record.Arrived.{noted}
+use Rattle.lapi_base.specs.Record.Names.{message}
+use Rattle.lapi_base.specs.Packet.Spelling.{HasSpelling}
+use Rattle.lapi_base.specs.Packet.PacketBytes as written
 use Rattle.lapi_memory.specs.TaskMemory as memories
 use Rattle.lapi_link.specs.declared.arrival.Arrival.{Arrival}
 use Rattle.lapi_link.specs.declared.arrival.Arrival.TheVariants.{Whole}
-use Rattle.lapi_link.specs.Receiver.{ReceivingEnd, ReceivesFor, Fits}
+use Rattle.lapi_link.specs.Receiver.{ReceivingEnd, ReceivesFor, MayArrive}
 use Rattle.lapi_link.specs.Sender.{SendingEnd, appended}
 use Rattle.lapi_task.specs.declared.task.Task.{Task}
 use Rattle.lapi_task.specs.Counting.{announced}
@@ -55,13 +55,13 @@ head_events m (heads.Put at tgt cmpl) = Land m ∷ noted m cmpl
 head_events m _ = Land m ∷ []
 
 -- where its places and its counters are there, and its notice has a spelling.
-abbrev pub HeadSuits : (t a : ℕ) → MsgName → Head → (bytes memory counters : List ℕ) → Type 0
-HeadSuits t a m (heads.Put at tgt cmpl) bytes memory counters =
+abbrev pub HeadMayLand : (t a : ℕ) → MsgName → Head → (bytes memory counters : List ℕ) → Type 0
+HeadMayLand t a m (heads.Put at tgt cmpl) bytes memory counters =
     memories.IsWithin memory at (length bytes)
     × ((c : ℕ) → tgt ≡ Some c → c < length counters)
     × ((c n : ℕ) → cmpl ≡ Some c → n < 2 ^ 32 → HasSpelling (Data (note_packet t a n m c)))
-HeadSuits t a m (heads.Note op cmpl) bytes memory counters = cmpl < length counters
-HeadSuits t a m _ bytes memory counters = Unit {0}
+HeadMayLand t a m (heads.Note op cmpl) bytes memory counters = cmpl < length counters
+HeadMayLand t a m _ bytes memory counters = Unit {0}
 
 -- The same of what comes of a packet.
 abbrev pub memory_after : Arrival → (memory : List ℕ) → List ℕ
@@ -80,9 +80,9 @@ abbrev pub events_of : Arrival → List Event
 events_of (Whole m) = head_events m.name m.head
 events_of _ = []
 
-abbrev pub ArrivalSuits : (t a : ℕ) → Arrival → (memory counters : List ℕ) → Type 0
-ArrivalSuits t a (Whole m) memory counters = HeadSuits t a m.name m.head m.bytes memory counters
-ArrivalSuits t a _ memory counters = Unit {0}
+abbrev pub ArrivalMayLand : (t a : ℕ) → Arrival → (memory counters : List ℕ) → Type 0
+ArrivalMayLand t a (Whole m) memory counters = HeadMayLand t a m.name m.head m.bytes memory counters
+ArrivalMayLand t a _ memory counters = Unit {0}
 
 -- What came from task a took effect at the task.
 pub record HasArrived (a : ℕ) (arrival : Arrival) (before after : Task) (old new : List Event) : Type 0 where
@@ -104,10 +104,10 @@ pub record MayTake (ends : List ReceivingEnd) (a : ℕ) (p : DataPacket) : Type 
   pub script : Script
   pub packets : List Packet
   pub stands : ReceivesFor script end packets
-  pub fits : Fits script packets p
+  pub fits : MayArrive script packets p
 
 -- the end of the link from task a took the packet, and is now this one
 pub record HasCome (before after : List ReceivingEnd) (a : ℕ) (p : DataPacket) (old : ReceivingEnd) : Type 0 where
   pub end : ReceivingEnd
   pub ends : after ≡ slice_set before a end
-  pub stands : (script : Script) (packets : List Packet) → ReceivesFor script old packets → Fits script packets p → ReceivesFor script end (Data p ∷ packets)
+  pub stands : (script : Script) (packets : List Packet) → ReceivesFor script old packets → MayArrive script packets p → ReceivesFor script end (Data p ∷ packets)

@@ -1,10 +1,10 @@
-pub mod Answers
+pub mod Acknowledging
 pub mod Apart
 pub mod Copies
 pub mod Counting
-pub mod Does
+pub mod HasEffect
 pub mod Landed
-pub mod Performed
+pub mod Supported
 pub mod Puts
 pub mod Sends
 pub mod StandsFor

@@ -7,11 +7,11 @@ use Rattle.lapi_base.specs.declared.packet.DataPacket.{DataPacket}
 use Rattle.lapi_base.specs.declared.packet.Packet.TheVariants.{Data}
 use Rattle.lapi_base.specs.declared.statement.Statement.{Statement}
 use Rattle.lapi_base.specs.declared.statement.Statement.TheVariants as statements
-use Rattle.lapi_base.specs.Fragments.{fragments_in, fragment_bytes}
-use Rattle.lapi_base.specs.Names.{message}
-use Rattle.lapi_base.specs.Operations.{upto}
-use Rattle.lapi_base.specs.Spelling.{HasSpelling}
-use Rattle.lapi_base.specs.Written as written
+use Rattle.lapi_base.specs.Record.Fragments.{fragments_in, fragment_bytes}
+use Rattle.lapi_base.specs.Record.Names.{message}
+use Rattle.lapi_base.specs.Record.Operations.{numbers_below}
+use Rattle.lapi_base.specs.Packet.Spelling.{HasSpelling}
+use Rattle.lapi_base.specs.Packet.PacketBytes as written
 use Rattle.lapi_link.specs.Sender.{SendingEnd}
 use Rattle.lapi_task.specs.declared.put.Put.{Put}
 
@@ -32,7 +32,7 @@ abbrev pub put_bytes : (unit : ℕ) → Put → (t i n : ℕ) → (bytes : List 
 put_bytes unit put t i n bytes j = written.packet (Data (put_packet put t i (n + j) j (fragment_bytes unit j bytes)))
 
 abbrev pub put_packets : (unit : ℕ) → Put → (t i n : ℕ) → (bytes : List ℕ) → List (List ℕ)
-put_packets unit put t i n bytes = map (put_bytes unit put t i n bytes) (upto (fragments_in unit put.len))
+put_packets unit put t i n bytes = map (put_bytes unit put t i n bytes) (numbers_below (fragments_in unit put.len))
 
 -- an end with these packets more that wait
 abbrev pub extended : SendingEnd → List (List ℕ) → SendingEnd

@@ -4,12 +4,12 @@ use Rattle.lapi_base.specs.declared.script.Script.{Script}
 use Rattle.lapi_base.specs.declared.message.MsgName.{MsgName}
 use Rattle.lapi_base.specs.declared.event.Event.{Event}
 use Rattle.lapi_base.specs.declared.wire.WireEntry.{WireEntry}
-use Rattle.lapi_base.specs.Layout.{window_of}
-use Rattle.lapi_base.specs.Packets.{data_packet}
-use Rattle.lapi_base.specs.Written as written
-use Rattle.lapi_base.specs.Record.{Run, out, is_sent, is_acked}
-use Rattle.lapi_base.specs.Seen.{no_rules}
-use Rattle.lapi_base.specs.Entries.{carried}
+use Rattle.lapi_base.specs.Packet.Layout.{window_of}
+use Rattle.lapi_base.specs.Record.Packets.{data_packet}
+use Rattle.lapi_base.specs.Packet.PacketBytes as written
+use Rattle.lapi_base.specs.Record.Wires.{Run, numbered, is_sent, is_acked}
+use Rattle.lapi_base.specs.Record.WorldView.{no_rules}
+use Rattle.lapi_base.specs.Laws.Entries.{carried}
 use Rattle.lapi_window.specs.SendWindow.{Sending, sent_count, bytes_of}
 use Rattle.lapi_window.specs.SendWindow as window
 use Rattle.lapi_link.specs.Sender.{SendingEnd, entries_to}
@@ -20,12 +20,12 @@ spelled script J n pair = written.packet (data_packet script pair.0 n pair.1 (ca
 
 -- the bytes of number n of the link from a to b
 unfoldable pub packet_at : Script → List Event → (from to n : ℕ) → Option (List ℕ)
-packet_at script J a b n = option_map (spelled script J n) (slice_get (out script J a b) n)
+packet_at script J a b n = option_map (spelled script J n) (slice_get (numbered script J a b) n)
 
 -- The window has the numbers of the link from a to b, those sent and those acknowledged;
 pub record HasNumbers (script : Script) (w : Sending) (r : Run) (a b : ℕ) : Type 0 where
   pub size : w.window ≡ window_of script
-  pub numbers : w.numbers ≡ length (out script r.journal a b)
+  pub numbers : w.numbers ≡ length (numbered script r.journal a b)
   pub sent : (n : ℕ) → is_sent r a b n ≡ nat_lt n (sent_count w)
   pub acked : (n : ℕ) → is_acked r a b n ≡ window.is_acked w n
 

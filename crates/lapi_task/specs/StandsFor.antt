@@ -4,15 +4,15 @@ use Rattle.lapi_base.specs.declared.script.Script.{Script}
 use Rattle.lapi_base.specs.declared.event.Event.{Event}
 use Rattle.lapi_base.specs.declared.packet.Packet.{Packet}
 use Rattle.lapi_base.specs.declared.message.Leg.TheVariants.{Go}
-use Rattle.lapi_base.specs.Below.{below}
-use Rattle.lapi_base.specs.Names.{message, done, Issued, Copied}
-use Rattle.lapi_base.specs.Operations.{statements, statement, is_data}
-use Rattle.lapi_base.specs.Counters.{count, reads}
-use Rattle.lapi_base.specs.Jobs.{runs}
-use Rattle.lapi_base.specs.Record.{Run}
-use Rattle.lapi_base.specs.Refusals.{next, refusals}
-use Rattle.lapi_base.specs.Seen.{no_rules}
-use Rattle.lapi_base.specs.Values.{memory_bytes}
+use Rattle.lapi_base.specs.Record.Below.{below}
+use Rattle.lapi_base.specs.Record.Names.{message, happened, Issued, Copied}
+use Rattle.lapi_base.specs.Record.Operations.{statements, statement, is_data}
+use Rattle.lapi_base.specs.Record.Counters.{count, reads}
+use Rattle.lapi_base.specs.Record.Jobs.{runs}
+use Rattle.lapi_base.specs.Record.Wires.{Run}
+use Rattle.lapi_base.specs.Record.Refusals.{next, refusals}
+use Rattle.lapi_base.specs.Record.WorldView.{no_rules}
+use Rattle.lapi_base.specs.Record.Values.{memory_bytes}
 use Rattle.lapi_link.specs.Receiver.{ReceivingEnd, ReceivesFor}
 use Rattle.lapi_link.specs.Sender.{SendingEnd}
 use Rattle.lapi_task.specs.declared.task.Task.{Task}
@@ -20,7 +20,7 @@ use Rattle.lapi_task.specs.Sends.{SendsFor}
 
 -- the data of statement i of task t were issued and not copied
 abbrev pub is_uncopied : Script → List Event → (t i : ℕ) → Bool
-is_uncopied script J t i = is_data (statement script t i) && (done (Issued t i) J && not (done (Copied (message t i Go)) J))
+is_uncopied script J t i = is_data (statement script t i) && (happened (Issued t i) J && not (happened (Copied (message t i Go)) J))
 
 abbrev pub SenderAt : Script → Run → (from to : ℕ) → Option SendingEnd → Type 0
 SenderAt script r a b None = ⊥
@@ -34,7 +34,7 @@ ReceiverAt script ps (Some s) = ReceivesFor script s ps
 pub record HoldsFor (script : Script) (t : ℕ) (task : Task) (J : List Event) : Type 0 where
   pub number : task.number ≡ t
   pub next : task.next ≡ next J t
-  pub ahead : (i : ℕ) → task.next ≤ i → done (Issued t i) J ≡ false
+  pub ahead : (i : ℕ) → task.next ≤ i → happened (Issued t i) J ≡ false
   pub reads : task.reads.items ≡ reads script no_rules J t
   pub refusals : task.refusals.items ≡ refusals J t
   pub memory : task.memory ≡ memory_bytes script no_rules J t

@@ -10,12 +10,12 @@ use Rattle.lapi_task.specs.declared.outcome.Outcome.{Outcome}
 use Rattle.lapi_task.specs.declared.task.Task.{Task}
 
 -- the places and the counter that the statement names are there
-abbrev pub Suits : Statement → (memory counters : List ℕ) → Type 0
-Suits (Store at bytes) memory counters = IsWithin memory at (length bytes)
-Suits (Wait counter value) memory counters = counter < length counters
-Suits (Set counter value) memory counters = counter < length counters
-Suits (Read counter) memory counters = counter < length counters
-Suits _ memory counters = Unit {0}
+abbrev pub MayStep : Statement → (memory counters : List ℕ) → Type 0
+MayStep (Store at bytes) memory counters = IsWithin memory at (length bytes)
+MayStep (Wait counter value) memory counters = counter < length counters
+MayStep (Set counter value) memory counters = counter < length counters
+MayStep (Read counter) memory counters = counter < length counters
+MayStep _ memory counters = Unit {0}
 
 -- what the issue of a statement makes of a memory and of counters; what was read, and what is to be copied, with statement i
 abbrev pub stored : Statement → (memory : List ℕ) → List ℕ
@@ -35,7 +35,7 @@ with_uncopied (Put target to from len tgt org cmpl) i before = before ++ i ∷ [
 with_uncopied _ i before = before
 
 -- an event was added, and the task is past a statement
-pub record IsPast (e : Event) (before after : Task) (old new : Outcome) : Type 0 where
+pub record Advances (e : Event) (before after : Task) (old new : Outcome) : Type 0 where
   pub number : after.number ≡ before.number
   pub next : after.next ≡ before.next + 1
   pub senders : after.senders.items ≡ before.senders.items
@@ -45,7 +45,7 @@ pub record IsPast (e : Event) (before after : Task) (old new : Outcome) : Type 0
 
 -- the statement was refused, issued, or passed
 pub record IsRefused (why : Refusal) (before after : Task) (old new : Outcome) : Type 0 where
-  pub past : IsPast (Refuse before.number before.next why) before after old new
+  pub past : Advances (Refuse before.number before.next why) before after old new
   pub memory : after.memory ≡ before.memory
   pub counters : after.counters ≡ before.counters
   pub reads : after.reads.items ≡ before.reads.items
@@ -53,16 +53,16 @@ pub record IsRefused (why : Refusal) (before after : Task) (old new : Outcome) :
   pub uncopied : after.uncopied.items ≡ before.uncopied.items
 
 pub record IsIssued (s : Statement) (before after : Task) (old new : Outcome) : Type 0 where
-  pub past : IsPast (Issue before.number before.next) before after old new
+  pub past : Advances (Issue before.number before.next) before after old new
   pub memory : after.memory ≡ stored s before.memory
   pub counters : after.counters ≡ counters_set s before.counters
   pub reads : after.reads.items ≡ with_read s before.counters before.next before.reads.items
   pub refusals : after.refusals.items ≡ before.refusals.items
   pub uncopied : after.uncopied.items ≡ with_uncopied s before.next before.uncopied.items
 
-pub record IsPassed (counter value : ℕ) (before after : Task) (old new : Outcome) : Type 0 where
+pub record PassesWait (counter value : ℕ) (before after : Task) (old new : Outcome) : Type 0 where
   pub enough : value ≤ slice_index before.counters counter
-  pub past : IsPast (Pass before.number before.next) before after old new
+  pub past : Advances (Pass before.number before.next) before after old new
   pub memory : after.memory ≡ before.memory
   pub counters : after.counters ≡ slice_set before.counters counter (slice_index before.counters counter - value)
   pub reads : after.reads.items ≡ before.reads.items

@@ -2,8 +2,8 @@
 ghost use Rattle.std.specs.Prelude.{◌≡◌, ℕ, ◌<◌, ◌^◌, length, slice_get, Some, OnOk};
 ghost use Rattle.lapi_base.specs.declared.message.Leg.TheVariants.{Note};
 ghost use Rattle.lapi_base.specs.declared.packet.Packet.TheVariants.{Data};
-ghost use Rattle.lapi_base.specs.Names.{message};
-ghost use Rattle.lapi_base.specs.Spelling.{HasSpelling};
+ghost use Rattle.lapi_base.specs.Record.Names.{message};
+ghost use Rattle.lapi_base.specs.Packet.Spelling.{HasSpelling};
 ghost use Rattle.lapi_task.specs.Landed.{note_packet, with_note};
 
 use crate::packet::append;

@@ -1,7 +1,7 @@
 //! Packets that leave the task.
 ghost use Rattle.std.specs.Prelude.{◌≡◌, ◌*◌, ◌≤◌, length, IfOk, OnOk};
-ghost use Rattle.lapi_base.specs.Spelling.{HasSpelling};
-ghost use Rattle.lapi_base.specs.Written as written;
+ghost use Rattle.lapi_base.specs.Packet.Spelling.{HasSpelling};
+ghost use Rattle.lapi_base.specs.Packet.PacketBytes as written;
 ghost use Rattle.lapi_reassembly.specs.Partial.{IsUnit};
 ghost use Rattle.lapi_link.specs.Sender.{appended};
 ghost use Rattle.lapi_task.specs.Puts.{with_put, AreSpelled};

@@ -1,5 +1,5 @@
 ghost use Rattle.std.specs.Prelude.{◌≡◌, ◌*◌, ◌≤◌, length};
-ghost use Rattle.lapi_base.specs.Fragments.{fragment_bytes};
+ghost use Rattle.lapi_base.specs.Record.Fragments.{fragment_bytes};
 ghost use Rattle.lapi_task.specs.Puts.{put_of, put_packet};
 
 use lapi_base::{Addr, DataPacket, Head, Leg, MsgName, PAYLOAD_ROOM, Payload, Statement};

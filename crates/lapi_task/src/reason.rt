@@ -1,6 +1,6 @@
 ghost use Rattle.std.specs.Prelude.{◌≡◌, ◌+◌, nat_le, nat_lt, not, option_to_list};
 ghost use Rattle.std.specs.List.{list_any};
-ghost use Rattle.lapi_task.specs.Performed.{reason_of};
+ghost use Rattle.lapi_task.specs.Supported.{reason_of};
 
 use lapi_base::{Addr, Refusal, Script, Statement};
 

@@ -1,5 +1,5 @@
 ghost use Rattle.std.specs.Prelude.{◌≡◌, option_map, slice_get};
-ghost use Rattle.lapi_base.specs.Operations.{statements};
+ghost use Rattle.lapi_base.specs.Record.Operations.{statements};
 
 use lapi_base::{Script, Statement};
 

@@ -4,9 +4,9 @@ use lapi_link::{Receiver, Sender};
 use lapi_memory::TaskMemory;
 use std::collections::VecDeque;
 
+mod accessors;
 mod answering;
 mod copying;
-mod lends;
 mod polling;
 mod receiving;
 mod stepping;

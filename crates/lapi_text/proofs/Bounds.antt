@@ -17,12 +17,12 @@ use Rattle.lapi_base.specs.declared.schedule.Act.{Act}
 use Rattle.lapi_base.specs.declared.schedule.Act.TheVariants.{Step, Poll, Tick, Deliver, Cut, Inject}
 use Rattle.lapi_base.specs.declared.schedule.Line.{Line}
 use Rattle.lapi_base.specs.declared.script.Script.{Script}
-use Rattle.lapi_base.specs.Valid.{IsU32, IsByte, IsCounter, IsAddress, IsPlain, IsPiece, ValidVector, AtPlain, ValidStatement, ValidAct, ValidLine}
-use Rattle.lapi_base.specs.Spelling.{spells_packet}
-use Rattle.lapi_base.specs.Tokens.{Kind, Number, Counter, Hex, OptionalHex, Address, PlainVector, TargetVector, Value, Stands, IsPlainAddress, IsTargetAddress, IsPieceText, IsVectorText}
-use Rattle.lapi_base.specs.Rows.{Part, Word, Field, IsRow, statement_row, act_row, line_row}
-use Rattle.lapi_base.specs.Reading.{has_few_pieces, keeps_pieces, keeps_bytes, keeps_injected, names_known}
-use Rattle.lapi_base.specs.Faults.{HasOperand}
+use Rattle.lapi_base.specs.Record.Valid.{IsU32, IsByte, IsCounter, IsAddress, IsPlain, IsPiece, ValidVector, AtPlain, ValidStatement, ValidAct, ValidLine}
+use Rattle.lapi_base.specs.Packet.Spelling.{spells_packet}
+use Rattle.lapi_base.specs.Input.Tokens.{Kind, Number, Counter, Hex, OptionalHex, Address, PlainVector, TargetVector, Value, Stands, IsPlainAddress, IsTargetAddress, IsPieceText, IsVectorText}
+use Rattle.lapi_base.specs.Input.Rows.{Column, Word, Field, IsRow, statement_row, act_row, line_row}
+use Rattle.lapi_base.specs.Input.Reading.{has_few_pieces, keeps_pieces, keeps_bytes, keeps_injected, names_known}
+use Rattle.lapi_base.specs.Input.Faults.{HasOperand}
 
 abbrev pub FitVector : Vector → Type 0
 FitVector (Vector.List pieces) = (1 ≤ length pieces) × AllByRecursion IsPiece pieces
@@ -42,12 +42,12 @@ Fit TargetVector v = FitVector v
 abbrev pub is_plain_word : List ℕ → Bool
 is_plain_word text = nat_lt 0 (length text) && list_all (λ b. nat_le 43 b && nat_le b 122) text
 
-abbrev pub PartFits : Part → Type 0
+abbrev pub PartFits : Column → Type 0
 PartFits (Word text) = IsTrue (is_plain_word text)
 PartFits (Field kind v) = Fit kind v
 
 -- the same of the values alone
-abbrev pub FieldFits : Part → Type 0
+abbrev pub FieldFits : Column → Type 0
 FieldFits (Word text) = Unit {0}
 FieldFits (Field kind v) = Fit kind v
 
@@ -111,7 +111,7 @@ stands_fit Address at word is = target_fit at word is
 stands_fit PlainVector v word is = (vector_fit IsPlainAddress plain_fit v word is, vector_plain v word is)
 stands_fit TargetVector v word is = vector_fit IsTargetAddress target_fit v word is
 
-pub row_fit : (row : List Part) (words : List (List ℕ)) → IsRow row words → AllByRecursion FieldFits row
+pub row_fit : (row : List Column) (words : List (List ℕ)) → IsRow row words → AllByRecursion FieldFits row
 row_fit [] [] z = tt
 row_fit [] (word ∷ words) z = absurd z
 row_fit (p ∷ row) [] z = absurd z

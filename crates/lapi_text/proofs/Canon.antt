@@ -23,11 +23,11 @@ use Rattle.lapi_base.specs.declared.statement.Statement.TheVariants.{Store, Put,
 use Rattle.lapi_base.specs.declared.schedule.Line.{Line}
 use Rattle.lapi_base.specs.declared.script.Script.{Script}
 use Rattle.lapi_base.specs.declared.input.Input.{Input}
-use Rattle.lapi_base.specs.Lines.{lines_of, ended_lines, words_of, is_clean, is_skipped, read_words}
-use Rattle.lapi_base.specs.Tokens.{Kind, Number, Counter, Hex, OptionalHex, Address, PlainVector, TargetVector, Value, Stands, IsPlainAddress, IsTargetAddress, IsPieceText, IsVectorText, offset_text, address_text, piece_text, vector_text, canonical}
-use Rattle.lapi_base.specs.Spelling.{spells_packet}
-use Rattle.lapi_base.specs.Valid.{IsAddress, IsPlain, IsPiece, ValidStatement, ValidLine}
-use Rattle.lapi_base.specs.Rows.{Part, Word, Field, IsPart, IsRow, head_row, sizes_row, task_row, statement_row, schedule_row, done_row, line_row, task_rows, part_text, row_line, row_text, rows, canon, Reads}
+use Rattle.lapi_base.specs.Input.Lines.{lines_of, ended_lines, words_of, is_clean, is_skipped, read_words}
+use Rattle.lapi_base.specs.Input.Tokens.{Kind, Number, Counter, Hex, OptionalHex, Address, PlainVector, TargetVector, Value, Stands, IsPlainAddress, IsTargetAddress, IsPieceText, IsVectorText, offset_text, address_text, piece_text, vector_text, canonical}
+use Rattle.lapi_base.specs.Packet.Spelling.{spells_packet}
+use Rattle.lapi_base.specs.Record.Valid.{IsAddress, IsPlain, IsPiece, ValidStatement, ValidLine}
+use Rattle.lapi_base.specs.Input.Rows.{Column, Word, Field, IsColumn, IsRow, head_row, sizes_row, task_row, statement_row, schedule_row, done_row, line_row, task_rows, column_text, row_line, row_text, rows, canon, IsInputText}
 use Rattle.lapi_text.proofs.Bounds.{FitVector, Fit, PartFits, is_bytes, both_true, statement_fits, line_fits}
 use Rattle.lapi_text.proofs.Sound.{Fits, ValidList}
 
@@ -223,25 +223,25 @@ plain_by_test (b ∷ word) e =
     let here = both_true (nat_le 43 b) (nat_le b 122) both.0 in
     ((leb-true 43 b here.0, leb-true b 122 here.1), plain_by_test word both.1)
 
-part_plain : (p : Part) → PartFits p → IsPlainWord (part_text p)
+part_plain : (p : Column) → PartFits p → IsPlainWord (column_text p)
 part_plain (Word text) fits = let both = both_true (nat_lt 0 (length text)) _ fits in (ltb-true 0 (length text) both.0, plain_by_test text both.1)
 part_plain (Field kind v) fits = value_plain kind v fits
 
-part_stands : (p : Part) → PartFits p → IsPart p (part_text p)
+part_stands : (p : Column) → PartFits p → IsColumn p (column_text p)
 part_stands (Word text) fits = refl
 part_stands (Field kind v) fits = value_stands kind v fits
 
 -- ---- rows
 
 -- a row of parts that can be written
-abbrev pub RowFits : List Part → Type 0
+abbrev pub RowFits : List Column → Type 0
 RowFits row = (0 < length row) × AllByRecursion PartFits row
 
-parts_plain : (row : List Part) → AllByRecursion PartFits row → AllByRecursion IsPlainWord (map part_text row)
+parts_plain : (row : List Column) → AllByRecursion PartFits row → AllByRecursion IsPlainWord (map column_text row)
 parts_plain [] all = tt
 parts_plain (p ∷ row) all = (part_plain p all.0, parts_plain row all.1)
 
-parts_stand : (row : List Part) → AllByRecursion PartFits row → IsRow row (map part_text row)
+parts_stand : (row : List Column) → AllByRecursion PartFits row → IsRow row (map column_text row)
 parts_stand [] all = tt
 parts_stand (p ∷ row) all = (part_stands p all.0, parts_stand row all.1)
 
@@ -250,27 +250,27 @@ no_feed [] clean k d lt = absurd (omega (arith, lt))
 no_feed (b ∷ line) clean zero d lt = let low : 32 ≤ b = leb-true 32 b (both_true _ _ (both_true _ _ clean).0).0 in ne_eqb b 10 (λ e. omega (arith, e, low))
 no_feed (b ∷ line) clean (suc k) d lt = no_feed line (both_true _ _ clean).1 k d (omega (arith, lt))
 
-row_clean : (row : List Part) → RowFits row → is_clean (row_line row) ≡ true
+row_clean : (row : List Column) → RowFits row → is_clean (row_line row) ≡ true
 row_clean [] fits = absurd (omega (arith, fits.0))
-row_clean (p ∷ row) fits = clean_joined (part_text p) (map part_text row) (part_plain p fits.1.0) (parts_plain row fits.1.1)
+row_clean (p ∷ row) fits = clean_joined (column_text p) (map column_text row) (part_plain p fits.1.0) (parts_plain row fits.1.1)
 
-row_words : (row : List Part) → RowFits row → (words_of (row_line row) ≡ map part_text row) × (is_skipped (map part_text row) ≡ false)
+row_words : (row : List Column) → RowFits row → (words_of (row_line row) ≡ map column_text row) × (is_skipped (map column_text row) ≡ false)
 row_words [] fits = absurd (omega (arith, fits.0))
-row_words (p ∷ row) fits = (words_joined (part_text p) (map part_text row) (part_plain p fits.1.0) (parts_plain row fits.1.1), not_skipped (part_text p) (map part_text row) (part_plain p fits.1.0))
+row_words (p ∷ row) fits = (words_joined (column_text p) (map column_text row) (part_plain p fits.1.0) (parts_plain row fits.1.1), not_skipped (column_text p) (map column_text row) (part_plain p fits.1.0))
 
 -- the lines of the rows' text
-text_lines : (rows : List (List Part)) → AllByRecursion RowFits rows → lines_of (flat_map row_text rows) ≡ map row_line rows
+text_lines : (rows : List (List Column)) → AllByRecursion RowFits rows → lines_of (flat_map row_text rows) ≡ map row_line rows
 text_lines [] fits = refl
 text_lines (row ∷ rows) fits =
     ap lines_of (append_assoc (row_line row) (10 ∷ []) (flat_map row_text rows))
     ∙ line_more (row_line row) (flat_map row_text rows) (no_feed (row_line row) (row_clean row fits.0))
     ∙ ap (λ ls. row_line row ∷ ls) (text_lines rows fits.1)
 
-pub lines_clean : (rows : List (List Part)) → AllByRecursion RowFits rows → AllByRecursion (λ line. IsTrue (is_clean line)) (map row_line rows)
+pub lines_clean : (rows : List (List Column)) → AllByRecursion RowFits rows → AllByRecursion (λ line. IsTrue (is_clean line)) (map row_line rows)
 lines_clean [] fits = tt
 lines_clean (row ∷ rows) fits = (row_clean row fits.0, lines_clean rows fits.1)
 
-pub lines_stand : (rows : List (List Part)) → AllByRecursion RowFits rows → AllZip IsRow rows (read_words (map row_line rows))
+pub lines_stand : (rows : List (List Column)) → AllByRecursion RowFits rows → AllZip IsRow rows (read_words (map row_line rows))
 lines_stand [] fits = tt
 lines_stand (row ∷ rows) fits =
     let w = row_words row fits.0 in
@@ -338,7 +338,7 @@ rows_fit x fits =
     )
 
 -- the canonical text is read as its input
-pub canon_reads : (x : Input) → Fits x → Reads x (canon x)
+pub canon_reads : (x : Input) → Fits x → IsInputText x (canon x)
 canon_reads x fits =
     let rs = rows_fit x fits in
     let ls = text_lines (rows x) rs in

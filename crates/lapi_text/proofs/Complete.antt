@@ -6,32 +6,32 @@ use Rattle.std.proofs.lemmas.List.{append-nil, length-append}
 use Rattle.std.proofs.lemmas.Bool.{lt-ltb, le-leb, eq-eqb, false≢true}
 use Rattle.lapi_base.specs.declared.input.Which.{Which}
 use Rattle.lapi_base.specs.declared.input.Which.TheVariants as which
-use Rattle.lapi_base.specs.declared.input.Why.{Why}
+use Rattle.lapi_base.specs.declared.input.LineError.{LineError}
 use Rattle.lapi_base.specs.declared.statement.Statement.{Statement}
 use Rattle.lapi_base.specs.declared.schedule.Act.{Act}
 use Rattle.lapi_base.specs.declared.schedule.Act.TheVariants.{Step, Poll, Tick, Deliver, Cut, Inject}
 use Rattle.lapi_base.specs.declared.schedule.Line.{Line}
 use Rattle.lapi_base.specs.declared.script.Script.{Script}
 use Rattle.lapi_base.specs.declared.input.Input.{Input}
-use Rattle.lapi_base.specs.Layout.{layout_of, most_lines}
-use Rattle.lapi_base.specs.Valid.{ValidStatement, ValidScript, ValidLine}
-use Rattle.lapi_base.specs.Spelling.{spells_packet}
-use Rattle.lapi_base.specs.Built.{is_built_statement, is_built_act, IsBuiltList}
-use Rattle.lapi_base.specs.Lines.{words_of, is_clean, is_skipped, read_words}
-use Rattle.lapi_base.specs.Forms.{and_then, head_form, sizes_form, Task, Schedule, Does, task_line_form, line_form}
-use Rattle.lapi_base.specs.Rows.{Part, Word, IsRow, head_row, sizes_row, task_row, statement_row, schedule_row, done_row, act_row, line_row, task_rows, rows, IsRead}
-use Rattle.lapi_base.specs.Reading as reading
-use Rattle.lapi_base.specs.Reading.{State, within, on_statement, step, after, read_from, checked_sizes, is_word}
+use Rattle.lapi_base.specs.Packet.Layout.{layout_of, most_lines}
+use Rattle.lapi_base.specs.Record.Valid.{ValidStatement, ValidScript, ValidLine}
+use Rattle.lapi_base.specs.Packet.Spelling.{spells_packet}
+use Rattle.lapi_base.specs.Input.Built.{is_built_statement, is_built_act, IsBuiltList}
+use Rattle.lapi_base.specs.Input.Lines.{words_of, is_clean, is_skipped, read_words}
+use Rattle.lapi_base.specs.Input.Forms.{and_then, head_form, sizes_form, Task, Schedule, Does, task_line_form, line_form}
+use Rattle.lapi_base.specs.Input.Rows.{Column, Word, IsRow, head_row, sizes_row, task_row, statement_row, schedule_row, done_row, act_row, line_row, task_rows, rows, IsRead}
+use Rattle.lapi_base.specs.Input.Reading as reading
+use Rattle.lapi_base.specs.Input.Reading.{State, within, on_statement, step, after, read_from, checked_sizes, is_word}
 use Rattle.lapi_text.proofs.Values.{same_text_of}
 use Rattle.lapi_text.proofs.Rules.{same_Ok, bound, said, without_tasks, statement_matches, task_matches, schedule_matches, head_matches, sizes_matches, line_matches}
 use Rattle.lapi_text.proofs.Bounds.{pieces_kept, bytes_kept, operand_of, act_known, injected_kept}
 use Rattle.lapi_text.proofs.Sound.{ValidList, Fits, input_with}
 
-abbrev pub Spells : List (List Part) → List (List (List ℕ)) → Type 0
+abbrev pub Spells : List (List Column) → List (List (List ℕ)) → Type 0
 Spells rows wordss = AllZip IsRow rows wordss
 
 -- the state after the lines with these words
-abbrev pub steps : State → List (List (List ℕ)) → Result State Why
+abbrev pub steps : State → List (List (List ℕ)) → Result State LineError
 steps state [] = Ok state
 steps state (words ∷ more) = and_then (step state words) (λ next. steps next more)
 
@@ -94,7 +94,7 @@ pub step_schedule : (s : Script) (lists : List (List Statement)) (current : List
 unfolding step
 step_schedule s lists current words z is = rw (said task_line_form Schedule schedule_row words schedule_matches z, eq-eqb _ _ is) refl
 
-within_ok : {A : Type 0} (b : Bool) (w : Which) (r : Result A Why) (y : A) → b ≡ true → r ≡ Ok y → within b w r ≡ Ok y
+within_ok : {A : Type 0} (b : Bool) (w : Which) (r : Result A LineError) (y : A) → b ≡ true → r ≡ Ok y → within b w r ≡ Ok y
 within_ok true w r y e h = h
 within_ok false w r y e h = absurd (false≢true e)
 
@@ -130,12 +130,12 @@ step_done script schedule words z = rw (one_word (codes "done") words z) refl
 -- ---- all lines
 
 -- the words that are left after some rows, and the state there
-pub record Onto (state next : State) (wordss : List (List (List ℕ))) (rest : List (List Part)) : Type 0 where
+pub record Onto (state next : State) (wordss : List (List (List ℕ))) (rest : List (List Column)) : Type 0 where
   pub left : List (List (List ℕ))
   pub spelled : Spells rest left
   pub same : steps state wordss ≡ steps next left
 
-statements_run : (s : Script) (list current : List Statement) (rest : List (List Part)) (wordss : List (List (List ℕ)))
+statements_run : (s : Script) (list current : List Statement) (rest : List (List Column)) (wordss : List (List (List ℕ)))
     → Spells (map statement_row list ++ rest) wordss → AllByRecursion ValidStatement list → AllByRecursion (λ st. IsTrue (is_built_statement st)) list → length current + length list ≤ 512
     → Onto (reading.Tasks s current) (reading.Tasks s (current ++ list)) wordss rest
 statements_run s [] current rest wordss z valid built few = record { left = wordss; spelled = z; same = rw (append-nil current) refl }
@@ -149,7 +149,7 @@ statements_run s (st ∷ list) current rest (words ∷ wordss) z valid built few
       same = rw (step_does s current st words z.0 valid.0 built.0 (omega (arith, few))) (more.same ∙ ap (λ c. steps (reading.Tasks s c) more.left) (append_assoc current (st ∷ []) list));
     }
 
-lines_run : (script : Script) (lines schedule : List Line) (rest : List (List Part)) (wordss : List (List (List ℕ)))
+lines_run : (script : Script) (lines schedule : List Line) (rest : List (List Column)) (wordss : List (List (List ℕ)))
     → Spells (map line_row lines ++ rest) wordss → AllByRecursion (ValidLine script spells_packet) lines → AllByRecursion (λ (l : Line). IsTrue (is_built_act l.act)) lines
     → length schedule + length lines ≤ most_lines (layout_of script.layout) → Onto (reading.Lines script schedule) (reading.Lines script (schedule ++ lines)) wordss rest
 lines_run script [] schedule rest wordss z valid built few = record { left = wordss; spelled = z; same = rw (append-nil schedule) refl }
@@ -163,13 +163,13 @@ lines_run script (line ∷ lines) schedule rest (words ∷ wordss) z valid built
       same = rw (step_line script schedule line words z.0 valid.0 built.0 (omega (arith, few))) (more.same ∙ ap (λ c. steps (reading.Lines script c) more.left) (append_assoc schedule (line ∷ []) lines));
     }
 
-pub record TasksRun (s : Script) (lists : List (List Statement)) (current : List Statement) (more : List (List Statement)) (wordss : List (List (List ℕ))) (rest : List (List Part)) : Type 0 where
+pub record TasksRun (s : Script) (lists : List (List Statement)) (current : List Statement) (more : List (List Statement)) (wordss : List (List (List ℕ))) (rest : List (List Column)) : Type 0 where
   pub before : List (List Statement)
   pub last : List Statement
   pub whole : before ++ last ∷ [] ≡ lists ++ current ∷ more
   pub onto : Onto (reading.Tasks (script_with s lists) current) (reading.Tasks (script_with s before) last) wordss rest
 
-tasks_run : (s : Script) (more lists : List (List Statement)) (current : List Statement) (k : ℕ) (rest : List (List Part)) (wordss : List (List (List ℕ)))
+tasks_run : (s : Script) (more lists : List (List Statement)) (current : List Statement) (k : ℕ) (rest : List (List Column)) (wordss : List (List (List ℕ)))
     → Spells (task_rows k more ++ rest) wordss → AllByRecursion ValidList more → AllByRecursion IsBuiltList more → k ≡ length lists + 1 → k + length more ≡ s.tasks
     → TasksRun s lists current more wordss rest
 tasks_run s [] lists current k rest wordss z valid built here all = record { before = lists; last = current; whole = refl; onto = record { left = wordss; spelled = z; same = refl } }
@@ -202,7 +202,7 @@ done_run script schedule [] z = absurd z
 done_run script schedule (words ∷ []) z = rw (step_done script schedule words z.0) refl
 done_run script schedule (words ∷ other ∷ wordss) z = absurd z.1
 
-abbrev pub end_rows : List Line → List (List Part)
+abbrev pub end_rows : List Line → List (List Column)
 end_rows schedule = schedule_row ∷ (map line_row schedule ++ done_row ∷ [])
 
 end_run : (s : Script) (before : List (List Statement)) (last : List Statement) (schedule : List Line) (wordss : List (List (List ℕ)))

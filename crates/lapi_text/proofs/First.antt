@@ -3,16 +3,16 @@ use Rattle.std.proofs.Common.{◌≡◌, ℕ, zero, suc, ◌+◌, ◌-◌, ◌^�
 use Rattle.std.specs.Prelude.{◌⊎◌, not, IsTrue}
 use Rattle.std.specs.List.{AllZip, AllByRecursion}
 use Rattle.std.proofs.lemmas.List.{append-nil, length-append, take_at, take_all}
-use Rattle.lapi_base.specs.declared.input.Why.{Why}
+use Rattle.lapi_base.specs.declared.input.LineError.{LineError}
 use Rattle.lapi_base.specs.declared.statement.Statement.{Statement}
 use Rattle.lapi_base.specs.declared.schedule.Line.{Line}
 use Rattle.lapi_base.specs.declared.script.Script.{Script}
 use Rattle.lapi_base.specs.declared.input.Input.{Input}
-use Rattle.lapi_base.specs.Lines.{words_of, is_clean, is_skipped, read_words}
-use Rattle.lapi_base.specs.Forms.{sized}
-use Rattle.lapi_base.specs.Rows.{Part, IsRow, head_row, sizes_row, task_row, schedule_row, done_row, task_rows, script_rows, line_row, row_line, rows, IsRead, Begins, IsFirstFault}
-use Rattle.lapi_base.specs.Reading as reading
-use Rattle.lapi_base.specs.Reading.{State, after, read_from, input_of, at_line, with_task, Fault}
+use Rattle.lapi_base.specs.Input.Lines.{words_of, is_clean, is_skipped, read_words}
+use Rattle.lapi_base.specs.Input.Forms.{sized}
+use Rattle.lapi_base.specs.Input.Rows.{Column, IsRow, head_row, sizes_row, task_row, schedule_row, done_row, task_rows, script_rows, line_row, row_line, rows, IsRead, Begins, IsFirstFault}
+use Rattle.lapi_base.specs.Input.Reading as reading
+use Rattle.lapi_base.specs.Input.Reading.{State, after, read_from, input_of, at_line, with_task, Fault}
 use Rattle.lapi_text.proofs.Sound.{so_far, Sized, TasksKeep, Fits, input_with, Keeps, Adds, fault_ok, tasks_push, next_task_keeps, schedule_keeps, after_says}
 use Rattle.lapi_text.proofs.Complete.{complete}
 use Rattle.lapi_text.proofs.Canon.{RowFits, lines_clean, lines_stand, all_append, head_fits, sizes_fits, task_fits, schedule_fits, done_fits}
@@ -20,12 +20,12 @@ use Rattle.lapi_text.proofs.Canon.{RowFits, lines_clean, lines_stand, all_append
 -- rows that lead from a state to an input
 record Completes (state : State) : Type 0 where
   x : Input
-  more : List (List Part)
+  more : List (List Column)
   whole : rows x ≡ so_far state ++ more
   fits : Fits x
   texts : AllByRecursion RowFits more
 
-prepend : (state next : State) (row : List Part) → so_far next ≡ so_far state ++ row ∷ [] → RowFits row → Completes next → Completes state
+prepend : (state next : State) (row : List Column) → so_far next ≡ so_far state ++ row ∷ [] → RowFits row → Completes next → Completes state
 prepend state next row is fit c = record { x = c.x; more = row ∷ c.more; whole = c.whole ∙ ap (λ r. r ++ c.more) is ∙ append_assoc (so_far state) (row ∷ []) c.more; fits = c.fits; texts = (fit, c.texts) }
 
 finished_completes : (x : Input) → Fits x → Completes (reading.Finished x)
@@ -144,7 +144,7 @@ abbrev pub Reaches : List (List ℕ) → ℕ → State → Type 0
 Reaches front k state = (more : List (List ℕ)) → read_from 1 reading.First (front ++ more) ≡ read_from k state more
 
 -- at a line, the front before which leads to a state
-pub record AtLine (lines : List (List ℕ)) (why : Why) (l : ℕ) : Type 0 where
+pub record AtLine (lines : List (List ℕ)) (why : LineError) (l : ℕ) : Type 0 where
   pub front : List (List ℕ)
   pub state : State
   pub line : List ℕ
@@ -156,7 +156,7 @@ pub record AtLine (lines : List (List ℕ)) (why : Why) (l : ℕ) : Type 0 where
   pub bad : after state line ≡ Err why
 
 -- or after the last line
-pub record AtEnd (lines : List (List ℕ)) (why : Why) (l : ℕ) : Type 0 where
+pub record AtEnd (lines : List (List ℕ)) (why : LineError) (l : ℕ) : Type 0 where
   pub state : State
   pub here : l ≡ length lines + 1
   pub led : Led lines state
@@ -168,7 +168,7 @@ abbrev line_of_fault : Result Input Fault → ℕ
 line_of_fault (Ok x) = 0
 line_of_fault (Err e) = e.1
 
-ended_at : (k : ℕ) (state : State) (why : Why) (l : ℕ) → input_of k state ≡ Err (why, l) → k ≡ l
+ended_at : (k : ℕ) (state : State) (why : LineError) (l : ℕ) → input_of k state ≡ Err (why, l) → k ≡ l
 ended_at k reading.First why l e = ap line_of_fault e
 ended_at k (reading.Second layout) why l e = ap line_of_fault e
 ended_at k (reading.Start script) why l e = ap line_of_fault e
@@ -176,7 +176,7 @@ ended_at k (reading.Tasks script current) why l e = ap line_of_fault e
 ended_at k (reading.Lines script schedule) why l e = ap line_of_fault e
 ended_at k (reading.Finished x) why l e = absurd (fault_ok (why, l) x (sym e))
 
-end_found : (front : List (List ℕ)) (k : ℕ) (state : State) (why : Why) (l : ℕ) → k ≡ length front + 1 → Led front state → Reaches front k state → input_of k state ≡ Err (why, l) → k ≡ l → AtEnd front why l
+end_found : (front : List (List ℕ)) (k : ℕ) (state : State) (why : LineError) (l : ℕ) → k ≡ length front + 1 → Led front state → Reaches front k state → input_of k state ≡ Err (why, l) → k ≡ l → AtEnd front why l
 end_found front k state why l here led reaches bad is = record {
   state = state;
   here = sym is ∙ here;
@@ -188,7 +188,7 @@ end_found front k state why l here led reaches bad is = record {
 pub same_fault : (a b : Fault) → ◌≡◌ {A = Result Input Fault} (Err a) (Err b) → a ≡ b
 same_fault a b e = cc
 
-line_found : (front : List (List ℕ)) (k : ℕ) (state : State) (line : List ℕ) (others : List (List ℕ)) (v why : Why) (l : ℕ) → k ≡ length front + 1 → Led front state → Reaches front k state → after state line ≡ Err v
+line_found : (front : List (List ℕ)) (k : ℕ) (state : State) (line : List ℕ) (others : List (List ℕ)) (v why : LineError) (l : ℕ) → k ≡ length front + 1 → Led front state → Reaches front k state → after state line ≡ Err v
     → ◌≡◌ {A = Fault} (v, k) (why, l) → AtLine (front ++ line ∷ others) why l
 line_found front k state line others v why l here led reaches bad is =
     let at : k ≡ l = ap (λ (f : Fault). f.1) is in
@@ -204,7 +204,7 @@ line_found front k state line others v why l here led reaches bad is =
       bad = bad ∙ ap (λ (f : Fault). Err f.0) is;
     }
 
-walk : (lines front : List (List ℕ)) (k : ℕ) (state : State) (why : Why) (l : ℕ) → k ≡ length front + 1 → Led front state → Reaches front k state → read_from k state lines ≡ Err (why, l)
+walk : (lines front : List (List ℕ)) (k : ℕ) (state : State) (why : LineError) (l : ℕ) → k ≡ length front + 1 → Led front state → Reaches front k state → read_from k state lines ≡ Err (why, l)
     → AtLine (front ++ lines) why l ⊎ AtEnd (front ++ lines) why l
 walk [] front k state why l here led reaches bad = inr (subst (λ ls. AtEnd ls why l) (sym (append-nil front)) (end_found front k state why l here led reaches bad (ended_at k state why l bad)))
 walk (line ∷ lines) front k state why l here led reaches bad =
@@ -213,14 +213,14 @@ walk (line ∷ lines) front k state why l here led reaches bad =
     Found : List (List ℕ) → Type 0
     Found ls = AtLine ls why l ⊎ AtEnd ls why l
 
-    at : (r : Result State Why) → after state line ≡ r → at_line k r (λ next. read_from (k + 1) next lines) ≡ Err (why, l)
+    at : (r : Result State LineError) → after state line ≡ r → at_line k r (λ next. read_from (k + 1) next lines) ≡ Err (why, l)
         → ((next : State) → Led (front ++ line ∷ []) next → Reaches (front ++ line ∷ []) (k + 1) next → read_from (k + 1) next lines ≡ Err (why, l) → Found ((front ++ line ∷ []) ++ lines)) → Found (front ++ line ∷ lines)
     at (Ok next) is e rest =
         subst Found (append_assoc front (line ∷ []) lines)
         (rest next (led_on front line state next led is) (λ more. ap (read_from 1 reading.First) (append_assoc front (line ∷ []) more) ∙ reaches (line ∷ more) ∙ rw is refl) e)
     at (Err v) is e rest = inl (line_found front k state line lines v why l here led reaches is (same_fault (v, k) (why, l) e))
 
-pub fault_found : (lines : List (List ℕ)) (why : Why) (l : ℕ) → read_from 1 reading.First lines ≡ Err (why, l) → AtLine lines why l ⊎ AtEnd lines why l
+pub fault_found : (lines : List (List ℕ)) (why : LineError) (l : ℕ) → read_from 1 reading.First lines ≡ Err (why, l) → AtLine lines why l ⊎ AtEnd lines why l
 fault_found lines why l bad = walk lines [] 1 reading.First why l refl (record { keeps = tt; clean = tt; rows = tt }) (λ more. refl) bad
 
 -- the lines up to a fault
@@ -229,7 +229,7 @@ up_to front line others l here =
     ap (take l) (sym (append_assoc front (line ∷ []) others)) ∙ take_at (front ++ line ∷ []) others l (omega (arith, here, length-append front (line ∷ [])))
 
 -- a line that is faulty behind a front is it whatever follows
-pub bad_more : (lines : List (List ℕ)) (why : Why) (l : ℕ) (f : AtLine lines why l) (more : List (List ℕ)) → read_from 1 reading.First (f.front ++ f.line ∷ more) ≡ Err (why, l)
+pub bad_more : (lines : List (List ℕ)) (why : LineError) (l : ℕ) (f : AtLine lines why l) (more : List (List ℕ)) → read_from 1 reading.First (f.front ++ f.line ∷ more) ≡ Err (why, l)
 bad_more lines why l f more = f.reaches (f.line ∷ more) ∙ rw f.bad refl
 
 line_first : (front : List (List ℕ)) (state : State) (line : List ℕ) (others : List (List ℕ)) (l : ℕ) → l ≡ length front + 1 → Led front state → ((more : List (List ℕ)) (x : Input) → IsRead x (front ++ line ∷ more) → ⊥)
@@ -244,10 +244,10 @@ line_first front state line others l here led fails =
       λ x r. fails others x r,
     )
 
-pub end_bad : (lines : List (List ℕ)) (why : Why) (l : ℕ) → AtEnd lines why l → read_from 1 reading.First lines ≡ Err (why, l)
+pub end_bad : (lines : List (List ℕ)) (why : LineError) (l : ℕ) → AtEnd lines why l → read_from 1 reading.First lines ≡ Err (why, l)
 end_bad lines why l f = ap (read_from 1 reading.First) (sym (append-nil lines)) ∙ f.reaches [] ∙ f.bad
 
-end_first : (lines : List (List ℕ)) (why : Why) (l : ℕ) → AtEnd lines why l → IsFirstFault lines l
+end_first : (lines : List (List ℕ)) (why : LineError) (l : ℕ) → AtEnd lines why l → IsFirstFault lines l
 end_first lines why l f =
     let here = f.here in
     let whole : take (l - 1) lines ≡ lines = take_all (l - 1) lines (omega (arith, here)) in (
@@ -258,12 +258,12 @@ end_first lines why l f =
       λ x r. fault_ok (why, l) x (sym (end_bad lines why l f) ∙ complete lines x r),
     )
 
-found_first : (lines : List (List ℕ)) (why : Why) (l : ℕ) → AtLine lines why l ⊎ AtEnd lines why l → IsFirstFault lines l
+found_first : (lines : List (List ℕ)) (why : LineError) (l : ℕ) → AtLine lines why l ⊎ AtEnd lines why l → IsFirstFault lines l
 found_first lines why l (inl f) =
     subst (λ ls. IsFirstFault ls l) f.whole
     (line_first f.front f.state f.line f.others l f.here f.led (λ more x r. fault_ok (why, l) x (sym (bad_more lines why l f more) ∙ complete (f.front ++ f.line ∷ more) x r)))
 found_first lines why l (inr f) = end_first lines why l f
 
 -- the line of the fault is the first up to which the lines begin no input
-pub first_fault : (lines : List (List ℕ)) (why : Why) (l : ℕ) → read_from 1 reading.First lines ≡ Err (why, l) → IsFirstFault lines l
+pub first_fault : (lines : List (List ℕ)) (why : LineError) (l : ℕ) → read_from 1 reading.First lines ≡ Err (why, l) → IsFirstFault lines l
 first_fault lines why l bad = found_first lines why l (fault_found lines why l bad)

@@ -7,6 +7,6 @@ pub mod Complete
 pub mod Canon
 pub mod First
 pub mod Outcome
-pub mod Told
+pub mod FaultKinds
 pub mod Whole
 pub mod Worked

@@ -6,32 +6,32 @@ use Rattle.std.proofs.lemmas.List.{append-nil, length-append}
 use Rattle.std.proofs.lemmas.Bool.{lt-ltb, le-leb, eq-eqb, false≢true}
 use Rattle.lapi_base.specs.declared.input.Which.{Which}
 use Rattle.lapi_base.specs.declared.input.Which.TheVariants as which
-use Rattle.lapi_base.specs.declared.input.Why.{Why}
-use Rattle.lapi_base.specs.declared.input.Why.TheVariants.{Limit}
+use Rattle.lapi_base.specs.declared.input.LineError.{LineError}
+use Rattle.lapi_base.specs.declared.input.LineError.TheVariants.{Limit}
 use Rattle.lapi_base.specs.declared.statement.Statement.{Statement}
 use Rattle.lapi_base.specs.declared.schedule.Line.{Line}
 use Rattle.lapi_base.specs.declared.script.Script.{Script}
 use Rattle.lapi_base.specs.declared.input.Input.{Input}
-use Rattle.lapi_base.specs.Built.{is_built_statement}
-use Rattle.lapi_base.specs.Lines.{words_of, is_clean, is_skipped, read_words}
-use Rattle.lapi_base.specs.Forms.{and_then, Does, task_line_form, sizes_form, line_form}
-use Rattle.lapi_base.specs.Rows.{Part, IsRow, sizes_row, statement_row, done_row, line_row, task_rows, rows}
-use Rattle.lapi_base.specs.Reading as reading
-use Rattle.lapi_base.specs.Reading.{State, Fault, step, after, read_from, within, checked_sizes, keeps_pieces, keeps_bytes, keeps_injected, names_known, on_statement, on_line, is_word}
-use Rattle.lapi_base.specs.Faults.{ListKeeps, LineKeeps, CountKeeps, Keeps, HasOperand, IsFormed, HasForm}
+use Rattle.lapi_base.specs.Input.Built.{is_built_statement}
+use Rattle.lapi_base.specs.Input.Lines.{words_of, is_clean, is_skipped, read_words}
+use Rattle.lapi_base.specs.Input.Forms.{and_then, Does, task_line_form, sizes_form, line_form}
+use Rattle.lapi_base.specs.Input.Rows.{Column, IsRow, sizes_row, statement_row, done_row, line_row, task_rows, rows}
+use Rattle.lapi_base.specs.Input.Reading as reading
+use Rattle.lapi_base.specs.Input.Reading.{State, Fault, step, after, read_from, within, checked_sizes, keeps_pieces, keeps_bytes, keeps_injected, names_known, on_statement, on_line, is_word}
+use Rattle.lapi_base.specs.Input.Faults.{ListKeeps, LineKeeps, CountKeeps, KeepsLimit, HasOperand, IsFormed, HasForm}
 use Rattle.lapi_text.proofs.Rules.{err_ok, said, without_tasks, statement_matches, sizes_matches, line_matches}
 use Rattle.lapi_text.proofs.Sound.{input_with, step_says}
 use Rattle.lapi_text.proofs.Complete.{Spells, script_with, steps, reads_all, not_done, step_head, step_first_task, step_task, step_schedule, Onto, TasksRun, done_run, end_rows}
 
 -- it ends at a limit that the input passes
-abbrev pub Stops : {A : Type 0} → Input → Result A Why → Type 0
-Stops x r = (w : Which) × (r ≡ Err (Limit w)) × ¬ Keeps w x
+abbrev pub Stops : {A : Type 0} → Input → Result A LineError → Type 0
+Stops x r = (w : Which) × (r ≡ Err (Limit w)) × ¬ KeepsLimit w x
 
-abbrev Answers : {A : Type 0} → Input → Result A Why → A → Type 0
+abbrev Answers : {A : Type 0} → Input → Result A LineError → A → Type 0
 Answers x r y = (r ≡ Ok y) ⊎ Stops x r
 
 -- one limit before others
-limit_or : {A : Type 0} (b : Bool) (w : Which) (r : Result A Why) (x : Input) (y : A) → (Keeps w x → b ≡ true) → Answers x r y → Answers x (within b w r) y
+limit_or : {A : Type 0} (b : Bool) (w : Which) (r : Result A LineError) (x : Input) (y : A) → (KeepsLimit w x → b ≡ true) → Answers x r y → Answers x (within b w r) y
 limit_or true w r x y holds rest = rest
 limit_or false w r x y holds rest = inr (w, refl, λ keeps. false≢true (holds keeps))
 
@@ -43,7 +43,7 @@ middle P (x ∷ xs) ys y all = middle P xs ys y all.1
 both : (a b : Bool) → a ≡ true → b ≡ true → (a && b) ≡ true
 both a b e f = rw (e, f) refl
 
-statement_or : (x : Input) (script : Script) (current list : List Statement) (s : Statement) → ((w : Which) → Keeps w x → ListKeeps w (current ++ s ∷ list))
+statement_or : (x : Input) (script : Script) (current list : List Statement) (s : Statement) → ((w : Which) → KeepsLimit w x → ListKeeps w (current ++ s ∷ list))
     → Answers x (on_statement script current s) (reading.Tasks script (current ++ s ∷ []))
 statement_or x script current list s keeps =
     let next = reading.Tasks script (current ++ s ∷ []) in
@@ -53,14 +53,14 @@ statement_or x script current list s keeps =
     (limit_or _ which.Pieces _ x next (λ k. middle (λ t. IsTrue (keeps_pieces t)) current list s (keeps which.Pieces k))
     (limit_or _ which.Bytes _ x next (λ k. middle (λ t. IsTrue (keeps_bytes t)) current list s (keeps which.Bytes k)) (inl refl))))
 
-does_or : (x : Input) (script : Script) (current list : List Statement) (s : Statement) (words : List (List ℕ)) → IsRow (statement_row s) words → HasOperand s → ((w : Which) → Keeps w x → ListKeeps w (current ++ s ∷ list))
+does_or : (x : Input) (script : Script) (current list : List Statement) (s : Statement) (words : List (List ℕ)) → IsRow (statement_row s) words → HasOperand s → ((w : Which) → KeepsLimit w x → ListKeeps w (current ++ s ∷ list))
     → Answers x (step (reading.Tasks script current) words) (reading.Tasks script (current ++ s ∷ []))
 unfolding step
 does_or x script current list s words z operand keeps =
     rw (said task_line_form (Does s) (statement_row s) words (statement_matches s operand) z) (statement_or x script current list s keeps)
 
 line_or : (x : Input) (script : Script) (schedule more : List Line) (line : Line) (words : List (List ℕ)) → IsRow (line_row line) words → names_known script line.act ≡ true
-    → ((w : Which) → Keeps w x → LineKeeps w script line × CountKeeps w script (schedule ++ line ∷ more)) → Answers x (step (reading.Lines script schedule) words) (reading.Lines script (schedule ++ line ∷ []))
+    → ((w : Which) → KeepsLimit w x → LineKeeps w script line × CountKeeps w script (schedule ++ line ∷ more)) → Answers x (step (reading.Lines script schedule) words) (reading.Lines script (schedule ++ line ∷ []))
 unfolding step
 line_or x script schedule more line words z named keeps =
     let next = reading.Lines script (schedule ++ line ∷ []) in
@@ -80,7 +80,7 @@ sizes_or x words z =
     to : Script
     to = without_tasks x.script
 
-    onward : (r : Result Script Why) → Answers x r (without_tasks x.script) → Answers x (and_then r (λ script. Ok (reading.Start script))) (reading.Start (without_tasks x.script))
+    onward : (r : Result Script LineError) → Answers x r (without_tasks x.script) → Answers x (and_then r (λ script. Ok (reading.Start script))) (reading.Start (without_tasks x.script))
     onward r (inl e) = inl (rw e refl)
     onward r (inr (w, e, passes)) = inr (w, rw e refl, passes)
 
@@ -93,11 +93,11 @@ sizes_or x words z =
 
 -- ---- all lines
 
-stops_here : {A B : Type 0} (x : Input) (r : Result A Why) (f : A → Result B Why) → Stops x r → Stops x (and_then r f)
+stops_here : {A B : Type 0} (x : Input) (r : Result A LineError) (f : A → Result B LineError) → Stops x r → Stops x (and_then r f)
 stops_here x r f (w, e, passes) = (w, rw e refl, passes)
 
-statements_or : (x : Input) (s : Script) (list current : List Statement) (rest : List (List Part)) (wordss : List (List (List ℕ))) → Spells (map statement_row list ++ rest) wordss → AllByRecursion HasOperand list
-    → ((w : Which) → Keeps w x → ListKeeps w (current ++ list)) → Onto (reading.Tasks s current) (reading.Tasks s (current ++ list)) wordss rest ⊎ Stops x (steps (reading.Tasks s current) wordss)
+statements_or : (x : Input) (s : Script) (list current : List Statement) (rest : List (List Column)) (wordss : List (List (List ℕ))) → Spells (map statement_row list ++ rest) wordss → AllByRecursion HasOperand list
+    → ((w : Which) → KeepsLimit w x → ListKeeps w (current ++ list)) → Onto (reading.Tasks s current) (reading.Tasks s (current ++ list)) wordss rest ⊎ Stops x (steps (reading.Tasks s current) wordss)
 statements_or x s [] current rest wordss z operands keeps = inl (record { left = wordss; spelled = z; same = rw (append-nil current) refl })
 statements_or x s (st ∷ list) current rest [] z operands keeps = absurd z
 statements_or x s (st ∷ list) current rest (words ∷ wordss) z operands keeps =
@@ -117,8 +117,8 @@ statements_or x s (st ∷ list) current rest (words ∷ wordss) z operands keeps
     at (inl e) more = on e more
     at (inr stop) more = inr (stops_here x (step (reading.Tasks s current) words) _ stop)
 
-lines_or : (x : Input) (script : Script) (lines schedule : List Line) (rest : List (List Part)) (wordss : List (List (List ℕ))) → Spells (map line_row lines ++ rest) wordss
-    → AllByRecursion (λ (l : Line). IsTrue (names_known script l.act)) lines → ((w : Which) → Keeps w x → AllByRecursion (LineKeeps w script) lines × CountKeeps w script (schedule ++ lines))
+lines_or : (x : Input) (script : Script) (lines schedule : List Line) (rest : List (List Column)) (wordss : List (List (List ℕ))) → Spells (map line_row lines ++ rest) wordss
+    → AllByRecursion (λ (l : Line). IsTrue (names_known script l.act)) lines → ((w : Which) → KeepsLimit w x → AllByRecursion (LineKeeps w script) lines × CountKeeps w script (schedule ++ lines))
     → Onto (reading.Lines script schedule) (reading.Lines script (schedule ++ lines)) wordss rest ⊎ Stops x (steps (reading.Lines script schedule) wordss)
 lines_or x script [] schedule rest wordss z named keeps = inl (record { left = wordss; spelled = z; same = rw (append-nil schedule) refl })
 lines_or x script (line ∷ lines) schedule rest [] z named keeps = absurd z
@@ -140,9 +140,9 @@ lines_or x script (line ∷ lines) schedule rest (words ∷ wordss) z named keep
     at (inr stop) more = inr (stops_here x (step (reading.Lines script schedule) words) _ stop)
 
 -- the other tasks, behind these lists and the current one
-module _ (x : Input) (s : Script) (rest : List (List Part)) where
+module _ (x : Input) (s : Script) (rest : List (List Column)) where
   tasks_or : (more lists : List (List Statement)) (current : List Statement) (k : ℕ) (wordss : List (List (List ℕ))) → Spells (task_rows k more ++ rest) wordss → AllByRecursion (AllByRecursion HasOperand) more
-      → ((w : Which) → Keeps w x → AllByRecursion (ListKeeps w) more) → k ≡ length lists + 1 → k + length more ≡ s.tasks
+      → ((w : Which) → KeepsLimit w x → AllByRecursion (ListKeeps w) more) → k ≡ length lists + 1 → k + length more ≡ s.tasks
       → TasksRun s lists current more wordss rest ⊎ Stops x (steps (reading.Tasks (script_with s lists) current) wordss)
   tasks_or [] lists current k wordss z operands keeps here all = inl (record { before = lists; last = current; whole = refl; onto = record { left = wordss; spelled = z; same = refl } })
   tasks_or (list ∷ more) lists current k [] z operands keeps here all = absurd z
@@ -182,7 +182,7 @@ module _ (x : Input) (s : Script) (rest : List (List Part)) where
   end_or before last schedule [] is z here formed = absurd z
   end_or before last schedule (words ∷ wordss) is z here formed =
       at (lines_or x script schedule [] (done_row ∷ []) wordss z.1 (subst IsFormed is formed).named
-      (λ w k. let kept = subst (λ y. Keeps w y) is k in (kept.lines, kept.count)))
+      (λ w k. let kept = subst (λ y. KeepsLimit w y) is k in (kept.lines, kept.count)))
     where
       script : Script
       script = script_with s (before ++ last ∷ [])
@@ -251,7 +251,7 @@ module _ (s : Script) (schedule : List Line) where
 
 -- ---- and the lines themselves
 
-same_why : {A : Type 0} (e f : Why) → ◌≡◌ {A = Result A Why} (Err e) (Err f) → e ≡ f
+same_why : {A : Type 0} (e f : LineError) → ◌≡◌ {A = Result A LineError} (Err e) (Err f) → e ≡ f
 same_why e f h = cc
 
 -- a limit that stops the words stops the lines
@@ -266,7 +266,7 @@ reads_stop k state (line ∷ lines) w clean e = at (is_skipped (words_of line)) 
     Rest : Type 0
     Rest = (next : State) → steps next (read_words lines) ≡ Err (Limit w) → (l : ℕ) × (read_from (k + 1) next lines ≡ Err (Limit w, l))
 
-    stepped : is_skipped (words_of line) ≡ false → (r : Result State Why) → step state (words_of line) ≡ r → and_then r (λ next. steps next (read_words lines)) ≡ Err (Limit w) → Rest → Goal
+    stepped : is_skipped (words_of line) ≡ false → (r : Result State LineError) → step state (words_of line) ≡ r → and_then r (λ next. steps next (read_words lines)) ≡ Err (Limit w) → Rest → Goal
     stepped skipped (Ok next) is h rest = let l = rest next h in (l.0, rw (clean.0, skipped, is) l.1)
     stepped skipped (Err v) is h rest = (k, rw (clean.0, skipped, is) (ap (λ y. Err (y, k)) (same_why {A = State} v (Limit w) h)))
 
@@ -275,9 +275,9 @@ reads_stop k state (line ∷ lines) w clean e = at (is_skipped (words_of line)) 
     at false skipped h rest = stepped skipped (step state (words_of line)) refl h rest
 
 -- what lines of an input's form are read to
-pub formed_outcome : (lines : List (List ℕ)) (x : Input) → HasForm x lines → (read_from 1 reading.First lines ≡ Ok x) ⊎ ((w : Which) × (l : ℕ) × (read_from 1 reading.First lines ≡ Err (Limit w, l)) × ¬ Keeps w x)
+pub formed_outcome : (lines : List (List ℕ)) (x : Input) → HasForm x lines → (read_from 1 reading.First lines ≡ Ok x) ⊎ ((w : Which) × (l : ℕ) × (read_from 1 reading.First lines ≡ Err (Limit w, l)) × ¬ KeepsLimit w x)
 formed_outcome lines x f = at (all_or x.script x.schedule x.script.lists (read_words lines) f.formed f.rows)
   where
-    at : Answers x (steps reading.First (read_words lines)) (reading.Finished x) → (read_from 1 reading.First lines ≡ Ok x) ⊎ ((w : Which) × (l : ℕ) × (read_from 1 reading.First lines ≡ Err (Limit w, l)) × ¬ Keeps w x)
+    at : Answers x (steps reading.First (read_words lines)) (reading.Finished x) → (read_from 1 reading.First lines ≡ Ok x) ⊎ ((w : Which) × (l : ℕ) × (read_from 1 reading.First lines ≡ Err (Limit w, l)) × ¬ KeepsLimit w x)
     at (inl e) = inl (reads_all 1 reading.First lines x f.clean e)
     at (inr (w, e, passes)) = let stop = reads_stop 1 reading.First lines w f.clean e in inr (w, stop.0, stop.1, passes)

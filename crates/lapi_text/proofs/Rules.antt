@@ -2,8 +2,8 @@
 use Rattle.std.proofs.Common.{◌≡◌, ℕ, List, [], ◌∷◌, refl, sym, ap, ◌∙◌, subst, Bool, true, false, cond, Some, None, Option, Result, Ok, Err, inl, inr}
 use Rattle.std.specs.Prelude.{codes, ◌⊎◌}
 use Rattle.std.specs.List.{AllByRecursion}
-use Rattle.lapi_base.specs.declared.input.Why.{Why}
-use Rattle.lapi_base.specs.declared.input.Why.TheVariants.{Syntax}
+use Rattle.lapi_base.specs.declared.input.LineError.{LineError}
+use Rattle.lapi_base.specs.declared.input.LineError.TheVariants.{Syntax}
 use Rattle.lapi_base.specs.declared.statement.RmwOp.{RmwOp}
 use Rattle.lapi_base.specs.declared.statement.RmwOp.TheVariants.{Add, Or, Swap, Cas}
 use Rattle.lapi_base.specs.declared.statement.Statement.{Statement}
@@ -12,12 +12,12 @@ use Rattle.lapi_base.specs.declared.schedule.Act.{Act}
 use Rattle.lapi_base.specs.declared.schedule.Act.TheVariants.{Step, Poll, Tick, Deliver, Cut, Inject}
 use Rattle.lapi_base.specs.declared.schedule.Line.{Line}
 use Rattle.lapi_base.specs.declared.script.Script.{Script}
-use Rattle.lapi_base.specs.Valid.{in2_by}
-use Rattle.lapi_base.specs.Faults.{HasOperand}
-use Rattle.lapi_base.specs.Tokens.{Kind, Number, Value, Stands, value_of, same_text}
-use Rattle.lapi_base.specs.Forms.{Form, End, Wrong, Next, Take, run, and_then, well_formed, word_at, value_at, choose, ◌>>=◌, number, expect, head_form, sized, sizes_form, store_form, put_form, get_form, putv_form, getv_form, one_operand_form, cas_form, operations, rmw_form, amsend_form, wait_form, set_form, read_form, address_init_form, statements, statement_form, TaskLine, Task, Schedule, Does, task_line_form, task_form, deliver_form, cut_form, inject_form, worker_form, acts, act_form, line_form}
+use Rattle.lapi_base.specs.Record.Valid.{in2_by}
+use Rattle.lapi_base.specs.Input.Faults.{HasOperand}
+use Rattle.lapi_base.specs.Input.Tokens.{Kind, Number, Value, Stands, value_of, same_text}
+use Rattle.lapi_base.specs.Input.Forms.{Form, End, Wrong, Next, Take, run, and_then, well_formed, word_at, value_at, choose, ◌>>=◌, number, expect, head_form, sized, sizes_form, store_form, put_form, get_form, putv_form, getv_form, one_operand_form, cas_form, operations, rmw_form, amsend_form, wait_form, set_form, read_form, address_init_form, statements, statement_form, TaskLine, Task, Schedule, Does, task_line_form, task_form, deliver_form, cut_form, inject_form, worker_form, acts, act_form, line_form}
 use Rattle.lapi_base.proofs.Runs.{run_does, run_line, line_with}
-use Rattle.lapi_base.specs.Rows.{Part, Word, Field, IsRow, head_row, sizes_row, task_row, operation_word, second_operand, statement_row, schedule_row, act_row, line_row}
+use Rattle.lapi_base.specs.Input.Rows.{Column, Word, Field, IsRow, head_row, sizes_row, task_row, operation_word, second_operand, statement_row, schedule_row, act_row, line_row}
 use Rattle.lapi_text.proofs.Values.{value_says, value_read, same_text_is}
 
 -- the words are the form's in order, and stand for x
@@ -28,16 +28,16 @@ Spelled (Next more) x words = (word : List ℕ) × (rest : List (List ℕ)) × (
 Spelled (Take kind more) x words = (v : Value kind) × (word : List ℕ) × (rest : List (List ℕ)) × (words ≡ word ∷ rest) × Stands kind v word × Spelled (more v) x rest
 
 -- the parts are the form's in order, and stand for x
-abbrev pub Matches : {A : Type 0} → Form A → A → List Part → Type 0
+abbrev pub Matches : {A : Type 0} → Form A → A → List Column → Type 0
 Matches (End a) x parts = (x ≡ a) × (parts ≡ [])
 Matches Wrong x parts = ⊥
-Matches (Next more) x parts = (word : List ℕ) × (rest : List Part) × (parts ≡ Word word ∷ rest) × Matches (more word) x rest
-Matches (Take kind more) x parts = (v : Value kind) × (rest : List Part) × (parts ≡ Field kind v ∷ rest) × Matches (more v) x rest
+Matches (Next more) x parts = (word : List ℕ) × (rest : List Column) × (parts ≡ Word word ∷ rest) × Matches (more word) x rest
+Matches (Take kind more) x parts = (v : Value kind) × (rest : List Column) × (parts ≡ Field kind v ∷ rest) × Matches (more v) x rest
 
-pub err_ok : {A : Type 0} (e : Why) (x : A) → Err e ≡ Ok x → ⊥
+pub err_ok : {A : Type 0} (e : LineError) (x : A) → Err e ≡ Ok x → ⊥
 err_ok e x h = cc
 
-pub same_Ok : {A : Type 0} (x y : A) → ◌≡◌ {A = Result A Why} (Ok x) (Ok y) → x ≡ y
+pub same_Ok : {A : Type 0} (x y : A) → ◌≡◌ {A = Result A LineError} (Ok x) (Ok y) → x ≡ y
 same_Ok x y h = cc
 
 -- what a line says, its words spell
@@ -56,7 +56,7 @@ spelled (Take kind more) x (word ∷ words) e = taken (value_of kind word) refl 
     taken (Some v) is h rest = (v, word, words, refl, value_says kind word v is, rest v h)
 
 -- what the words spell, a line says
-pub said : {A : Type 0} (form : Form A) (x : A) (parts : List Part) (words : List (List ℕ)) → Matches form x parts → IsRow parts words → run form words ≡ Ok x
+pub said : {A : Type 0} (form : Form A) (x : A) (parts : List Column) (words : List (List ℕ)) → Matches form x parts → IsRow parts words → run form words ≡ Ok x
 said (End a) x parts [] m z = ap (λ y. Ok y) (sym m.0)
 said (End a) x parts (word ∷ words) m z = absurd (subst (λ ps. IsRow ps (word ∷ words)) m.1 z)
 said Wrong x parts words m z = absurd m
@@ -253,7 +253,7 @@ TaskLineSays (Task t) words = IsRow (task_row t) words
 TaskLineSays Schedule words = IsRow schedule_row words
 TaskLineSays (Does s) words = Says s words
 
-pub bound : {A B : Type 0} (r : Result A Why) (f : A → Result B Why) (y : B) → and_then r f ≡ Ok y → (x : A) × (r ≡ Ok x) × (f x ≡ Ok y)
+pub bound : {A B : Type 0} (r : Result A LineError) (f : A → Result B LineError) (y : B) → and_then r f ≡ Ok y → (x : A) × (r ≡ Ok x) × (f x ≡ Ok y)
 bound (Ok x) f y e = (x, refl, e)
 bound (Err w) f y e = absurd (err_ok w y e)
 
@@ -268,7 +268,7 @@ task_line_says (word ∷ words) line e = at_task (chosen_run _ _ _ words line e)
     schedule : Spelled (End Schedule) line words → TaskLineSays line (codes "schedule" ∷ words)
     schedule (is, end) = rw (is, end) (refl, tt)
 
-    does : (s : Statement) × (run (statement_form word) words ≡ Ok s) × (◌≡◌ {A = Result TaskLine Why} (Ok (Does s)) (Ok line)) → TaskLineSays line (word ∷ words)
+    does : (s : Statement) × (run (statement_form word) words ≡ Ok s) × (◌≡◌ {A = Result TaskLine LineError} (Ok (Does s)) (Ok line)) → TaskLineSays line (word ∷ words)
     does (s, e, is) = rw (← same_Ok _ _ is) (statement_says word words s e)
 
     at_schedule : ((same_text word (codes "schedule") ≡ true) × (run (End Schedule) words ≡ Ok line)) ⊎ ((same_text word (codes "schedule") ≡ false) × (run (statement_form word >>= λ s. End (Does s)) words ≡ Ok line))
@@ -391,7 +391,7 @@ pub act_says : (word : List ℕ) (words : List (List ℕ)) (a : Act) → run (ac
 act_says word words a e = choose_says ActSays acts acts_say word words a (spelled (act_form word) a words e)
 
 value_taken : (kind : Kind) (word : List ℕ) (words rest : List (List ℕ)) (v : Value kind) (o : Option (Value kind)) → value_of kind word ≡ o
-    → ◌≡◌ {A = Result (Value kind × List (List ℕ)) Why} (and_then {A = Value kind} {B = Value kind × List (List ℕ)} (well_formed o) (λ v. Ok (v, words))) (Ok (v, rest)) → (words ≡ rest) × Stands kind v word
+    → ◌≡◌ {A = Result (Value kind × List (List ℕ)) LineError} (and_then {A = Value kind} {B = Value kind × List (List ℕ)} (well_formed o) (λ v. Ok (v, words))) (Ok (v, rest)) → (words ≡ rest) × Stands kind v word
 value_taken kind word words rest v None is e = absurd (err_ok {A = Value kind × List (List ℕ)} Syntax (v, rest) e)
 value_taken kind word words rest v (Some u) is e =
     let same : ◌≡◌ {A = Value kind × List (List ℕ)} (u, words) (v, rest) = same_Ok (u, words) (v, rest) e in

@@ -4,32 +4,32 @@ use Rattle.std.specs.Prelude.{codes, ◌⊎◌, IsTrue, ◌==◌}
 use Rattle.std.specs.List.{AllZip, AllByRecursion}
 use Rattle.std.proofs.lemmas.List.{append-nil, map-append, length-append}
 use Rattle.std.proofs.lemmas.Bool.{ltb-true, leb-true, eqb-true, false≢true}
-use Rattle.lapi_base.specs.declared.input.Why.{Why}
-use Rattle.lapi_base.specs.declared.input.Why.TheVariants.{Syntax, Limit}
+use Rattle.lapi_base.specs.declared.input.LineError.{LineError}
+use Rattle.lapi_base.specs.declared.input.LineError.TheVariants.{Syntax, Limit}
 use Rattle.lapi_base.specs.declared.input.Which.{Which}
 use Rattle.lapi_base.specs.declared.input.Which.TheVariants as which
 use Rattle.lapi_base.specs.declared.statement.Statement.{Statement}
 use Rattle.lapi_base.specs.declared.schedule.Line.{Line}
 use Rattle.lapi_base.specs.declared.script.Script.{Script}
 use Rattle.lapi_base.specs.declared.input.Input.{Input}
-use Rattle.lapi_base.specs.Layout.{layout_of, most_lines}
-use Rattle.lapi_base.specs.Valid.{ValidStatement, ValidScript, ValidSchedule, ValidLine}
-use Rattle.lapi_base.specs.Spelling.{spells_packet}
-use Rattle.lapi_base.specs.Built.{is_built_statement, is_built_act, IsBuiltList, IsBuilt}
-use Rattle.lapi_base.specs.Lines.{words_of, is_clean, is_skipped, read_words}
-use Rattle.lapi_base.specs.Forms.{run, and_then, head_form, sizes_form, TaskLine, Task, Schedule, Does, task_line_form, line_form}
-use Rattle.lapi_base.specs.Rows.{Part, IsRow, head_row, sizes_row, task_row, statement_row, schedule_row, done_row, line_row, task_rows, script_rows, rows, IsRead}
-use Rattle.lapi_base.specs.Reading as reading
-use Rattle.lapi_base.specs.Reading.{State, step, after, read_from, input_of, at_line, within, checked_sizes, keeps_pieces, keeps_bytes, keeps_injected, names_known, with_task, on_first_task, on_statement, on_task_line, on_line, is_word}
+use Rattle.lapi_base.specs.Packet.Layout.{layout_of, most_lines}
+use Rattle.lapi_base.specs.Record.Valid.{ValidStatement, ValidScript, ValidSchedule, ValidLine}
+use Rattle.lapi_base.specs.Packet.Spelling.{spells_packet}
+use Rattle.lapi_base.specs.Input.Built.{is_built_statement, is_built_act, IsBuiltList, IsBuilt}
+use Rattle.lapi_base.specs.Input.Lines.{words_of, is_clean, is_skipped, read_words}
+use Rattle.lapi_base.specs.Input.Forms.{run, and_then, head_form, sizes_form, TaskLine, Task, Schedule, Does, task_line_form, line_form}
+use Rattle.lapi_base.specs.Input.Rows.{Column, IsRow, head_row, sizes_row, task_row, statement_row, schedule_row, done_row, line_row, task_rows, script_rows, rows, IsRead}
+use Rattle.lapi_base.specs.Input.Reading as reading
+use Rattle.lapi_base.specs.Input.Reading.{State, step, after, read_from, input_of, at_line, within, checked_sizes, keeps_pieces, keeps_bytes, keeps_injected, names_known, with_task, on_first_task, on_statement, on_task_line, on_line, is_word}
 use Rattle.lapi_text.proofs.Values.{same_text_is, chosen}
 use Rattle.lapi_text.proofs.Rules.{err_ok, same_Ok, bound, head_says, sizes_says, SizesSay, task_line_says, TaskLineSays, Says, line_says}
 use Rattle.lapi_text.proofs.Bounds.{both_true, row_fit, valid_statement, valid_act}
 
-pub allowed : {A : Type 0} (b : Bool) (w : Which) (r : Result A Why) (x : A) → within b w r ≡ Ok x → (b ≡ true) × (r ≡ Ok x)
+pub allowed : {A : Type 0} (b : Bool) (w : Which) (r : Result A LineError) (x : A) → within b w r ≡ Ok x → (b ≡ true) × (r ≡ Ok x)
 allowed true w r x e = (refl, e)
 allowed false w r x e = absurd (err_ok (Limit w) x e)
 
-pub passed : {A : Type 0} (b : Bool) (r : Result A Why) (x : A) → cond b r (Err Syntax) ≡ Ok x → (b ≡ true) × (r ≡ Ok x)
+pub passed : {A : Type 0} (b : Bool) (r : Result A LineError) (x : A) → cond b r (Err Syntax) ≡ Ok x → (b ≡ true) × (r ≡ Ok x)
 passed true r x e = (refl, e)
 passed false r x e = absurd (err_ok Syntax x e)
 
@@ -39,7 +39,7 @@ input_with script schedule = record { script = script; schedule = schedule }
 -- ---- what a state stands for
 
 -- the rows that led to it
-abbrev pub so_far : State → List (List Part)
+abbrev pub so_far : State → List (List Column)
 so_far reading.First = []
 so_far (reading.Second layout) = head_row layout ∷ []
 so_far (reading.Start script) = head_row script.layout ∷ sizes_row script ∷ []
@@ -84,7 +84,7 @@ Keeps (reading.Finished x) = Fits x
 -- one row more
 pub record Adds (state next : State) (words : List (List ℕ)) : Type 0 where
   pub keeps : Keeps next
-  pub row : List Part
+  pub row : List Column
   pub rows : so_far next ≡ so_far state ++ row ∷ []
   pub spelled : IsRow row words
 
@@ -243,7 +243,7 @@ is_one_word text (word ∷ other ∷ words) e = absurd (false≢true e)
 line_adds : (script : Script) (schedule : List Line) (next : State) (words : List (List ℕ)) (line : Line) → Fits (input_with script schedule) → IsRow (line_row line) words → on_line script schedule line ≡ Ok next
     → Adds (reading.Lines script schedule) next words
 line_adds script schedule next words line keeps z e =
-    let to : Result State Why = Ok (reading.Lines script (schedule ++ line ∷ [])) in
+    let to : Result State LineError = Ok (reading.Lines script (schedule ++ line ∷ [])) in
     let injected = within (keeps_injected script line.act) which.Bytes to in
     let lane = within (nat_le line.lane 15) which.Lane injected in
     let lines = within (nat_lt (length schedule) (most_lines (layout_of script.layout))) which.Lines lane in
@@ -299,7 +299,7 @@ step_says (reading.Tasks script current) next words keeps e =
     task_line_adds script current next words h.0 keeps (task_line_says words h.0 h.1) h.2
 step_says (reading.Lines script schedule) next words keeps e = at (chosen _ _ _ _ e)
   where
-    at : ((is_word (codes "done") words ≡ true) × (◌≡◌ {A = Result State Why} (Ok (reading.Finished (input_with script schedule))) (Ok next)))
+    at : ((is_word (codes "done") words ≡ true) × (◌≡◌ {A = Result State LineError} (Ok (reading.Finished (input_with script schedule))) (Ok next)))
         ⊎ ((is_word (codes "done") words ≡ false) × (and_then (run line_form words) (on_line script schedule) ≡ Ok next)) → Adds (reading.Lines script schedule) next words
     at (inl h) = subst (λ n. Adds (reading.Lines script schedule) n words) (same_Ok _ _ h.1) (record {
       keeps = keeps;
@@ -314,16 +314,16 @@ step_says (reading.Finished x) next words keeps e = absurd (err_ok Syntax next e
 
 -- all lines from a state on
 pub record Goes (state : State) (x : Input) (lines : List (List ℕ)) : Type 0 where
-  pub more : List (List Part)
+  pub more : List (List Column)
   pub whole : rows x ≡ so_far state ++ more
   pub clean : AllByRecursion (λ line. IsTrue (is_clean line)) lines
   pub spelled : AllZip IsRow more (read_words lines)
   pub fits : Fits x
 
-pub fault_ok : {A : Type 0} (e : Why × ℕ) (x : A) → Err e ≡ Ok x → ⊥
+pub fault_ok : {A : Type 0} (e : LineError × ℕ) (x : A) → Err e ≡ Ok x → ⊥
 fault_ok e x h = cc
 
-same_read : {A : Type 0} (x y : A) → ◌≡◌ {A = Result A (Why × ℕ)} (Ok x) (Ok y) → x ≡ y
+same_read : {A : Type 0} (x y : A) → ◌≡◌ {A = Result A (LineError × ℕ)} (Ok x) (Ok y) → x ≡ y
 same_read x y h = cc
 
 at_the_end : (l : ℕ) (state : State) (x : Input) → Keeps state → input_of l state ≡ Ok x → Goes state x []
@@ -335,7 +335,7 @@ at_the_end l (reading.Lines script schedule) x keeps e = absurd (fault_ok _ x e)
 at_the_end l (reading.Finished y) x keeps e =
     subst (λ x. Goes (reading.Finished y) x []) (same_read y x e) (record { more = []; whole = sym (append-nil (rows y)); clean = tt; spelled = tt; fits = keeps })
 
-pub line_ok : (l : ℕ) (r : Result State Why) (f : State → Result Input (Why × ℕ)) (x : Input) → at_line l r f ≡ Ok x → (next : State) × (r ≡ Ok next) × (f next ≡ Ok x)
+pub line_ok : (l : ℕ) (r : Result State LineError) (f : State → Result Input (LineError × ℕ)) (x : Input) → at_line l r f ≡ Ok x → (next : State) × (r ≡ Ok next) × (f next ≡ Ok x)
 line_ok l (Ok next) f x e = (next, refl, e)
 line_ok l (Err w) f x e = absurd (fault_ok _ x e)
 
@@ -365,7 +365,7 @@ after_says state next line keeps e =
     let p = passed _ _ next e in
     (p.0, at (chosen _ _ _ _ p.1))
   where
-    at : ((is_skipped (words_of line) ≡ true) × (◌≡◌ {A = Result State Why} (Ok state) (Ok next))) ⊎ ((is_skipped (words_of line) ≡ false) × (step state (words_of line) ≡ Ok next))
+    at : ((is_skipped (words_of line) ≡ true) × (◌≡◌ {A = Result State LineError} (Ok state) (Ok next))) ⊎ ((is_skipped (words_of line) ≡ false) × (step state (words_of line) ≡ Ok next))
         → ((is_skipped (words_of line) ≡ true) × (state ≡ next)) ⊎ ((is_skipped (words_of line) ≡ false) × Adds state next (words_of line))
     at (inl h) = inl (h.0, same_Ok _ _ h.1)
     at (inr h) = inr (h.0, step_says state next (words_of line) keeps h.1)

@@ -14,7 +14,7 @@ use Rattle.lapi_base.specs.declared.address.Addr.TheVariants.{Plain, Table}
 use Rattle.lapi_base.specs.declared.piece.Piece.{Piece}
 use Rattle.lapi_base.specs.declared.vector.Vector.{Vector}
 use Rattle.lapi_base.specs.declared.vector.Vector.TheVariants.{Stride}
-use Rattle.lapi_base.specs.Tokens.{Kind, Number, Counter, Hex, OptionalHex, Address, PlainVector, TargetVector, Value, Stands, IsNumber, IsHex, IsPlainAddress, IsTargetAddress, IsPieceText, IsVectorText, same_text, number_of, counter_of, hex_of, optional_hex_of, not_empty, first_part, only_part, plain_address_of, offset_of, table_of, address_of, piece_of, pieces_of, listed_of, some_pieces, sizes_of, strided_of, vector_by, vector_of, value_of}
+use Rattle.lapi_base.specs.Input.Tokens.{Kind, Number, Counter, Hex, OptionalHex, Address, PlainVector, TargetVector, Value, Stands, IsNumber, IsHex, IsPlainAddress, IsTargetAddress, IsPieceText, IsVectorText, same_text, number_of, counter_of, hex_of, optional_hex_of, not_empty, first_part, only_part, plain_address_of, offset_of, table_of, address_of, piece_of, pieces_of, listed_of, some_pieces, sizes_of, strided_of, vector_by, vector_of, value_of}
 use Rattle.lapi_text.proofs.Numbers.{number_says, number_read, digit_at_number}
 
 -- equal texts, and others

@@ -17,16 +17,16 @@ use Rattle.lapi_base.specs.declared.schedule.Act.TheVariants.{Step, Poll, Tick, 
 use Rattle.lapi_base.specs.declared.schedule.Line.{Line}
 use Rattle.lapi_base.specs.declared.input.Input.{Input}
 use Rattle.lapi_base.specs.declared.input.Which.TheVariants as which
-use Rattle.lapi_base.specs.declared.input.Why.{Why}
-use Rattle.lapi_base.specs.declared.input.Why.TheVariants.{Syntax, Limit}
-use Rattle.lapi_base.specs.Spelling as packet
-use Rattle.lapi_base.specs.Spelling.{spells_packet, packet_form, front_form, kind_form, acknowledgement_form}
-use Rattle.lapi_base.specs.Lines.{words_of}
-use Rattle.lapi_base.specs.Tokens.{number_of, counter_of, hex_of, optional_hex_of, plain_address_of, table_of, address_of, piece_of, listed_of, strided_of, vector_of, value_of}
-use Rattle.lapi_base.specs.Forms.{run, sized, TaskLine, Does, head_form, sizes_form, store_form, put_form, get_form, putv_form, getv_form, one_operand_form, cas_form, rmw_form, amsend_form, wait_form, set_form, read_form, address_init_form, task_line_form, task_form, deliver_form, cut_form, inject_form, worker_form, line_form}
-use Rattle.lapi_base.specs.Built.{is_built_statement, is_built_act}
-use Rattle.lapi_base.specs.Rows.{statement_row, row_line, canon}
-use Rattle.lapi_base.specs.Reading.{State, Second, Start, Tasks, Lines, Fault, keeps_pieces, keeps_bytes, keeps_injected, names_known, step, after, read}
+use Rattle.lapi_base.specs.declared.input.LineError.{LineError}
+use Rattle.lapi_base.specs.declared.input.LineError.TheVariants.{Syntax, Limit}
+use Rattle.lapi_base.specs.Packet.Spelling as packet
+use Rattle.lapi_base.specs.Packet.Spelling.{spells_packet, packet_form, front_form, kind_form, acknowledgement_form}
+use Rattle.lapi_base.specs.Input.Lines.{words_of}
+use Rattle.lapi_base.specs.Input.Tokens.{number_of, counter_of, hex_of, optional_hex_of, plain_address_of, table_of, address_of, piece_of, listed_of, strided_of, vector_of, value_of}
+use Rattle.lapi_base.specs.Input.Forms.{run, sized, TaskLine, Does, head_form, sizes_form, store_form, put_form, get_form, putv_form, getv_form, one_operand_form, cas_form, rmw_form, amsend_form, wait_form, set_form, read_form, address_init_form, task_line_form, task_form, deliver_form, cut_form, inject_form, worker_form, line_form}
+use Rattle.lapi_base.specs.Input.Built.{is_built_statement, is_built_act}
+use Rattle.lapi_base.specs.Input.Rows.{statement_row, row_line, canon}
+use Rattle.lapi_base.specs.Input.Reading.{State, Second, Start, Tasks, Lines, Fault, keeps_pieces, keeps_bytes, keeps_injected, names_known, step, after, read}
 
 -- What the bytes read to. A proof with the line `unfolding reading` computes with all definitions.
 unfoldable pub reading : List ℕ → Result Input Fault
@@ -201,7 +201,7 @@ edges_of_clean : (with_line 14 (35 ∷ 32 ∷ 126 ∷ []) ≡ Ok (smallest_with 
 unfolding reading
 edges_of_clean = (refl, refl, refl)
 
-unfoldable sizes : List ℕ → Result State Why
+unfoldable sizes : List ℕ → Result State LineError
 unfolding reading
 sizes line = after (Second 1) line
 
@@ -283,7 +283,7 @@ most_pieces = (refl, refl)
 
 -- ---- single lines
 
-unfoldable says : List ℕ → Result TaskLine Why
+unfoldable says : List ℕ → Result TaskLine LineError
 unfolding reading
 says line = run task_line_form (words_of line)
 
@@ -405,7 +405,7 @@ address_init_places : says (codes "address_init 1") ≡ Ok (Does (Statement.Addr
 unfolding says
 address_init_places = refl
 
-unfoldable acts : List ℕ → Result Line Why
+unfoldable acts : List ℕ → Result Line LineError
 unfolding reading
 acts text = run line_form (words_of text)
 

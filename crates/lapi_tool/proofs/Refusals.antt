@@ -7,16 +7,16 @@ use Rattle.lapi_base.specs.declared.input.ReadFault.{ReadFault}
 use Rattle.lapi_base.specs.declared.input.ReadFault.TheVariants as faults
 use Rattle.lapi_base.specs.declared.status.Status.{Status}
 use Rattle.lapi_base.specs.declared.status.Status.TheVariants as status
-use Rattle.lapi_base.specs.Answers.{Answer, input_answer}
-use Rattle.lapi_base.specs.Lines.{lines_of}
-use Rattle.lapi_base.specs.Reading.{Fault, First, most_input, read, read_from}
-use Rattle.lapi_base.specs.declared.input.Why.TheVariants as why
+use Rattle.lapi_base.specs.Output.CommandAnswers.{Answer, input_answer}
+use Rattle.lapi_base.specs.Input.Lines.{lines_of}
+use Rattle.lapi_base.specs.Input.Reading.{Fault, First, most_input, read, read_from}
+use Rattle.lapi_base.specs.declared.input.LineError.TheVariants as why
 use Rattle.lapi_base.specs.declared.input.Which.TheVariants as which
-use Rattle.lapi_script.specs.Answers.{GivesInput}
-use Rattle.lapi_tool.specs.Answered.{IsCutShort, Gives, refused_answer}
+use Rattle.lapi_script.specs.ReaderAnswers.{GivesInput}
+use Rattle.lapi_tool.specs.Answered.{IsCutShort, CommandGives, refused_answer}
 
 -- where memory ran out nothing was written, which is a front of any text
-cut_short : (answer : Answer) (held now : Option (List ℕ)) (result : Status) → Gives (record { status = status.Memory; text = [] }) held now result → Gives answer held now result
+cut_short : (answer : Answer) (held now : Option (List ℕ)) (result : Status) → CommandGives (record { status = status.Memory; text = [] }) held now result → CommandGives answer held now result
 cut_short answer held now result (inl told) = inr (subst IsCutShort (sym told.0) tt, ([], answer.text, refl, told.1))
 cut_short answer held now result (inr (cut, wrote)) = inr (cut, ([], answer.text, refl, subst (λ xs. Appends held now xs) (empty wrote.0 wrote.1 wrote.2) wrote.3))
   where
@@ -25,9 +25,9 @@ cut_short answer held now result (inr (cut, wrote)) = inr (cut, ([], answer.text
     empty (b ∷ front) rest e = absurd (omega (arith, ap length e))
 
 pub refused_is : (text : Input → List ℕ) (fault : ReadFault) (reading : Result Input Fault) (held now : Option (List ℕ)) (result : Status)
-    → GivesInput (Err fault) reading → Gives (refused_answer fault) held now result → Gives (input_answer text reading) held now result
-refused_is text (faults.Syntax line) reading held now result e told = subst (λ r. Gives (input_answer text r) held now result) (sym e) told
-refused_is text (faults.Limit which line) reading held now result e told = subst (λ r. Gives (input_answer text r) held now result) (sym e) told
+    → GivesInput (Err fault) reading → CommandGives (refused_answer fault) held now result → CommandGives (input_answer text reading) held now result
+refused_is text (faults.Syntax line) reading held now result e told = subst (λ r. CommandGives (input_answer text r) held now result) (sym e) told
+refused_is text (faults.Limit which line) reading held now result e told = subst (λ r. CommandGives (input_answer text r) held now result) (sym e) told
 refused_is text faults.Memory reading held now result e told = cut_short (input_answer text reading) held now result told
 
 -- one byte more than an input may have

@@ -9,21 +9,21 @@ use Rattle.lapi_base.specs.declared.status.Status.{Status}
 use Rattle.lapi_base.specs.declared.status.Status.TheVariants as status
 use Rattle.lapi_base.specs.declared.command.Command.TheVariants.{Read}
 use Rattle.lapi_base.specs.declared.input.Which.TheVariants as which
-use Rattle.lapi_base.specs.declared.input.Why.TheVariants as why
-use Rattle.lapi_base.specs.Answers.{recorded, input_answer, view_text}
-use Rattle.lapi_base.specs.Atomic.{AtomicInTime}
-use Rattle.lapi_base.specs.Lines.{lines_of}
-use Rattle.lapi_base.specs.Reading.{Fault, First, most_input, read, read_from}
-use Rattle.lapi_base.specs.Rows.{Reads}
-use Rattle.lapi_base.specs.Seen.{no_rules, record_of}
-use Rattle.lapi_base.specs.Spelling.{spells_packet, refusal}
-use Rattle.lapi_base.specs.Valid.{ValidAct, ValidLine}
-use Rattle.lapi_base.specs.Written.{packet_size}
-use Rattle.lapi_base.specs.Headline.{HoldsOfRuns}
+use Rattle.lapi_base.specs.declared.input.LineError.TheVariants as why
+use Rattle.lapi_base.specs.Output.CommandAnswers.{recorded, input_answer, view_text}
+use Rattle.lapi_base.specs.Record.Atomic.{AtomicInTime}
+use Rattle.lapi_base.specs.Input.Lines.{lines_of}
+use Rattle.lapi_base.specs.Input.Reading.{Fault, First, most_input, read, read_from}
+use Rattle.lapi_base.specs.Input.Rows.{IsInputText}
+use Rattle.lapi_base.specs.Record.WorldView.{no_rules, record_of}
+use Rattle.lapi_base.specs.Packet.Spelling.{spells_packet, refusal}
+use Rattle.lapi_base.specs.Record.Valid.{ValidAct, ValidLine}
+use Rattle.lapi_base.specs.Packet.PacketBytes.{packet_size}
+use Rattle.lapi_base.specs.Laws.Headline.{HoldsOfRuns}
 use Rattle.lapi_base.specs.declared.script.Script.{Script}
 use Rattle.lapi_base.specs.declared.schedule.Act.{Act}
 use Rattle.lapi_base.specs.declared.schedule.Line.{Line}
-use Rattle.lapi_tool.specs.Answered.{Gives, IsAnswered, IsReported, IsUnread, IsCutShort, WasRead}
+use Rattle.lapi_tool.specs.Answered.{CommandGives, IsAnswered, IsReported, IsUnread, IsCutShort, WasRead}
 
 err_ok : {A B : Type 0} (e : B) (x : A) → Err e ≡ Ok x → ⊥
 err_ok e x h = subst (λ r. MatchResult r (λ _. ⊥) (λ _. Unit {0})) h tt
@@ -46,16 +46,16 @@ IsOther status.Ok = ⊥
 IsOther _ = Unit {0}
 
 module _
-    (found : (bytes : List ℕ) (x : Input) → read bytes ≡ Ok x → Reads x bytes)
+    (found : (bytes : List ℕ) (x : Input) → read bytes ≡ Ok x → IsInputText x bytes)
     (in_time : HoldsOfRuns (λ script rules r. AtomicInTime script rules (reverse r.journal)))
     (left rest held now : Option (List ℕ))
   where
     -- the journal of an input's record
-    atomic : (x : Input) (bytes : List ℕ) → Reads x bytes → AtomicInTime x.script no_rules (reverse (recorded x).journal)
+    atomic : (x : Input) (bytes : List ℕ) → IsInputText x bytes → AtomicInTime x.script no_rules (reverse (recorded x).journal)
     unfolding record_of
     atomic x bytes reads = in_time x.script no_rules spells_packet packet_size refusal (map act_of x.schedule) (acts_valid x.script x.schedule reads.schedule.lines)
 
-    of_input : (bytes : List ℕ) → WasRead left rest bytes → (reading : Result Input Fault) → read bytes ≡ reading → (result : Status) → Gives (input_answer (view_text Report) reading) held now result → result ≡ status.Ok → IsReported left rest held now
+    of_input : (bytes : List ℕ) → WasRead left rest bytes → (reading : Result Input Fault) → read bytes ≡ reading → (result : Status) → CommandGives (input_answer (view_text Report) reading) held now result → result ≡ status.Ok → IsReported left rest held now
     of_input bytes taken (Ok x) e result (inl told) ok =
         let reads = found bytes x e in
         record { bytes = bytes; x = x; read = (taken.0, taken.2 (kept bytes x e)); reads = reads; written = told.1; atomic = atomic x bytes reads }

@@ -6,15 +6,15 @@ use Rattle.lapi_base.specs.declared.command.Command.TheVariants.{Read, Check, Sh
 use Rattle.lapi_base.specs.declared.input.Input.{Input}
 use Rattle.lapi_base.specs.declared.input.ReadFault.{ReadFault}
 use Rattle.lapi_base.specs.declared.input.ReadFault.TheVariants as faults
-use Rattle.lapi_base.specs.declared.input.Why.TheVariants as why
+use Rattle.lapi_base.specs.declared.input.LineError.TheVariants as why
 use Rattle.lapi_base.specs.declared.status.Status.{Status}
 use Rattle.lapi_base.specs.declared.status.Status.TheVariants as status
-use Rattle.lapi_base.specs.Answers.{Answer, usage_answer, fault_answer, shown_answer, input_answer, counts_text, view_text, recorded}
-use Rattle.lapi_base.specs.Atomic.{AtomicInTime}
-use Rattle.lapi_base.specs.Reading.{most_input, read}
-use Rattle.lapi_base.specs.ReportText.{report_text}
-use Rattle.lapi_base.specs.Rows.{Reads}
-use Rattle.lapi_base.specs.Seen.{no_rules}
+use Rattle.lapi_base.specs.Output.CommandAnswers.{Answer, usage_answer, fault_answer, shown_answer, input_answer, counts_text, view_text, recorded}
+use Rattle.lapi_base.specs.Record.Atomic.{AtomicInTime}
+use Rattle.lapi_base.specs.Input.Reading.{most_input, read}
+use Rattle.lapi_base.specs.Output.ReportText.{report_text}
+use Rattle.lapi_base.specs.Input.Rows.{IsInputText}
+use Rattle.lapi_base.specs.Record.WorldView.{no_rules}
 use Rattle.lapi_io.specs.Writes.{AppendsFront}
 
 -- all that was left was read; or, of a source with more bytes than an input may have, one byte more than those
@@ -34,8 +34,8 @@ refused_answer (faults.Limit which line) = fault_answer (why.Limit which, line)
 refused_answer faults.Memory = record { status = status.Memory; text = [] }
 
 -- the status of the answer, and its text was appended; or it was cut short, and a front of that text was
-abbrev pub Gives : Answer → (held now : Option (List ℕ)) → Status → Type 0
-Gives answer held now result = ((result ≡ answer.status) × Appends held now answer.text) ⊎ (IsCutShort result × AppendsFront held now answer.text)
+abbrev pub CommandGives : Answer → (held now : Option (List ℕ)) → Status → Type 0
+CommandGives answer held now result = ((result ≡ answer.status) × Appends held now answer.text) ⊎ (IsCutShort result × AppendsFront held now answer.text)
 
 -- the source refused, or memory ran out
 abbrev pub IsUnread : Status → Type 0
@@ -50,11 +50,11 @@ IsSilent result held now = IsUnread result × (now ≡ held)
 -- the source couldn't be read, and nothing was written; or it was read, and this text of its input was given
 abbrev pub IsToldOf : (text : Input → List ℕ) → (left rest held now : Option (List ℕ)) → Status → Type 0
 IsToldOf text left rest held now result =
-    IsSilent result held now ⊎ ((bytes : List ℕ) × WasRead left rest bytes × Gives (input_answer text (read bytes)) held now result)
+    IsSilent result held now ⊎ ((bytes : List ℕ) × WasRead left rest bytes × CommandGives (input_answer text (read bytes)) held now result)
 
 abbrev pub IsAnswered : Option Command → (left rest held now : Option (List ℕ)) → Status → Type 0
-IsAnswered None left rest held now result = Gives usage_answer held now result × (rest ≡ left)
-IsAnswered (Some (Show bytes)) left rest held now result = Gives (shown_answer bytes) held now result × (rest ≡ left)
+IsAnswered None left rest held now result = CommandGives usage_answer held now result × (rest ≡ left)
+IsAnswered (Some (Show bytes)) left rest held now result = CommandGives (shown_answer bytes) held now result × (rest ≡ left)
 IsAnswered (Some Check) left rest held now result = IsToldOf counts_text left rest held now result
 IsAnswered (Some (Read view)) left rest held now result = IsToldOf (view_text view) left rest held now result
 
@@ -64,6 +64,6 @@ pub record IsReported (left rest held now : Option (List ℕ)) : Type 0 where
   pub bytes : List ℕ
   pub x : Input
   pub read : Consumes left rest bytes × IsAtEnd rest
-  pub reads : Reads x bytes
+  pub reads : IsInputText x bytes
   pub written : Appends held now (report_text x.script no_rules (recorded x) (length x.schedule))
   pub atomic : AtomicInTime x.script no_rules (reverse (recorded x).journal)

@@ -4,18 +4,18 @@ use Rattle.lapi_base.specs.declared.command.View.{View}
 use Rattle.lapi_base.specs.declared.command.View.TheVariants.{Report, Journal, Wires, Trace}
 use Rattle.lapi_base.specs.declared.input.Input.{Input}
 use Rattle.lapi_base.specs.declared.statement.Statement.{Statement}
-use Rattle.lapi_base.specs.Answers.{counts_text, view_text}
-use Rattle.lapi_base.specs.Seen.{Seen, seen_record}
-use Rattle.lapi_base.specs.ReportText.{report_text}
-use Rattle.lapi_base.specs.JournalText.{journal_text}
-use Rattle.lapi_base.specs.WireText.{wire_text}
-use Rattle.lapi_base.specs.TraceText.{trace_text}
+use Rattle.lapi_base.specs.Output.CommandAnswers.{counts_text, view_text}
+use Rattle.lapi_base.specs.Record.WorldView.{WorldView, view_record}
+use Rattle.lapi_base.specs.Output.ReportText.{report_text}
+use Rattle.lapi_base.specs.Output.JournalText.{journal_text}
+use Rattle.lapi_base.specs.Output.WireText.{wire_text}
+use Rattle.lapi_base.specs.Output.TraceText.{trace_text}
 
-abbrev pub world_text : View → Seen → List ℕ
-world_text Report w = report_text w.script w.rules (seen_record w) (length w.taken)
-world_text Journal w = journal_text (seen_record w)
-world_text Wires w = wire_text w.script (seen_record w)
-world_text Trace w = trace_text w.schedule w.taken (seen_record w).replies
+abbrev pub world_text : View → WorldView → List ℕ
+world_text Report w = report_text w.script w.rules (view_record w) (length w.taken)
+world_text Journal w = journal_text (view_record w)
+world_text Wires w = wire_text w.script (view_record w)
+world_text Trace w = trace_text w.schedule w.taken (view_record w).replies
 
 -- and of an input: its counts, where no view of its record is asked for
 abbrev pub asked_text : Option View → Input → List ℕ

@@ -1,12 +1,12 @@
 ghost use Rattle.std.specs.Prelude.{◌≡◌, ◌≢◌, ℕ, List, Option, Some, map, IsErrOf};
 ghost use Rattle.lapi_base.specs.declared.command.Command.TheVariants as commands;
 ghost use Rattle.lapi_base.specs.declared.command.View.TheVariants.{Report};
-ghost use Rattle.lapi_base.specs.Answers.{input_answer};
-ghost use Rattle.lapi_base.specs.Commands as commands_of;
-ghost use Rattle.lapi_base.specs.Reading.{read};
+ghost use Rattle.lapi_base.specs.Output.CommandAnswers.{input_answer};
+ghost use Rattle.lapi_base.specs.Output.Commands as commands_of;
+ghost use Rattle.lapi_base.specs.Input.Reading.{read};
 ghost use Rattle.lapi_io.specs.Causes.{Rose};
 ghost use Rattle.lapi_io.specs.Writes.{Wrote};
-ghost use Rattle.lapi_tool.specs.Answered.{IsAnswered, IsToldOf, IsReported, Gives, refused_answer};
+ghost use Rattle.lapi_tool.specs.Answered.{IsAnswered, IsToldOf, IsReported, CommandGives, refused_answer};
 ghost use Rattle.lapi_tool.specs.Shown.{asked_text};
 
 use crate::fault::{status_of, write_fault};
@@ -84,7 +84,7 @@ fn read_and_answer<S: Source, K: Sink>(
 
 /// Answers bytes that are no more than an input may have.
 fn answer_input<K: Sink>(alloc: Global, view: Option<View>, bytes: &[u8], sink: &mut K) -> Status
-    ensures answer { Gives (input_answer (asked_text view) (read bytes.now)) (K.held sink.old) (K.held sink.new) result }
+    ensures answer { CommandGives (input_answer (asked_text view) (read bytes.now)) (K.held sink.old) (K.held sink.new) result }
     ensures source { result ≢ Status.SourceFault }
     ensures sink { result ≡ Status.SinkFault → Rose (K.faults sink.old) (K.faults sink.new) }
     ensures room { K.room sink.new ≡ K.room sink.old }
@@ -97,7 +97,7 @@ fn answer_input<K: Sink>(alloc: Global, view: Option<View>, bytes: &[u8], sink: 
 
 /// Answers a fault of the input.
 fn refuse<K: Sink>(alloc: Global, fault: ReadFault, sink: &mut K) -> Status
-    ensures answer { Gives (refused_answer fault) (K.held sink.old) (K.held sink.new) result }
+    ensures answer { CommandGives (refused_answer fault) (K.held sink.old) (K.held sink.new) result }
     ensures source { result ≢ Status.SourceFault }
     ensures sink { result ≡ Status.SinkFault → Rose (K.faults sink.old) (K.faults sink.new) }
     ensures room { K.room sink.new ≡ K.room sink.old }
@@ -107,7 +107,7 @@ fn refuse<K: Sink>(alloc: Global, fault: ReadFault, sink: &mut K) -> Status
 
 /// The status, unless its text wasn't written whole.
 fn end(status: Status, written: Result<(), WriteFault>) -> Status
-    ensures answer { (held now : Option (List ℕ)) (text : List ℕ) → Wrote held now text written → Gives (record { status = status; text = text }) held now result }
+    ensures answer { (held now : Option (List ℕ)) (text : List ℕ) → Wrote held now text written → CommandGives (record { status = status; text = text }) held now result }
     ensures source { result ≡ Status.SourceFault → status ≡ Status.SourceFault }
     ensures sink { status ≢ Status.SinkFault → result ≡ Status.SinkFault → IsErrOf written WriteFault.Failed }
 {

@@ -1,9 +1,9 @@
 ghost use Rattle.std.specs.Prelude.{◌≡◌, ◌≤◌, length, map};
 ghost use Rattle.std.specs.List as lists;
 ghost use Rattle.std.specs.List.{AllByRecursion};
-ghost use Rattle.lapi_base.specs.Answers.{counts_line, counts_text};
-ghost use Rattle.lapi_base.specs.Valid.{ValidScript};
-ghost use Rattle.lapi_report.specs.Written.{WritesWithMemory};
+ghost use Rattle.lapi_base.specs.Output.CommandAnswers.{counts_line, counts_text};
+ghost use Rattle.lapi_base.specs.Record.Valid.{ValidScript};
+ghost use Rattle.lapi_report.specs.SinkWrites.{WritesWithMemory};
 ghost use Rattle.lapi_tool.specs.Shown.{HasFew};
 
 use crate::text::write_text;

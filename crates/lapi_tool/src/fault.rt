@@ -1,6 +1,6 @@
 ghost use Rattle.std.specs.Prelude.{◌≡◌};
-ghost use Rattle.lapi_base.specs.Answers.{which_name};
-ghost use Rattle.lapi_report.specs.Written.{WritesWithMemory};
+ghost use Rattle.lapi_base.specs.Output.CommandAnswers.{which_name};
+ghost use Rattle.lapi_report.specs.SinkWrites.{WritesWithMemory};
 ghost use Rattle.lapi_tool.specs.Answered.{refused_answer};
 
 use crate::text::write_text;

@@ -1,9 +1,9 @@
 ghost use Rattle.std.specs.Prelude.{◌≡◌, false, IfOk, length};
-ghost use Rattle.lapi_base.specs.Built.{IsBuilt};
-ghost use Rattle.lapi_base.specs.Operations.{upto};
-ghost use Rattle.lapi_base.specs.Seen.{no_rules};
-ghost use Rattle.lapi_base.specs.Spelling.{spells_packet};
-ghost use Rattle.lapi_base.specs.Valid.{ValidScript, ValidSchedule};
+ghost use Rattle.lapi_base.specs.Input.Built.{IsBuilt};
+ghost use Rattle.lapi_base.specs.Record.Operations.{numbers_below};
+ghost use Rattle.lapi_base.specs.Record.WorldView.{no_rules};
+ghost use Rattle.lapi_base.specs.Packet.Spelling.{spells_packet};
+ghost use Rattle.lapi_base.specs.Record.Valid.{ValidScript, ValidSchedule};
 
 use lapi_base::{Input, Memory};
 use lapi_world::World;
@@ -14,7 +14,7 @@ pub fn performed(alloc: Global, input: Input) -> Result<World, Memory>
     requires script { ValidScript input.script }
     requires schedule { ValidSchedule input.script spells_packet input.schedule }
     requires built { IsBuilt input }
-    ensures { IfOk result (λ w. w ≡ record { script = input.script; rules = no_rules; schedule = input.schedule; taken = upto (length input.schedule); spent = false }) }
+    ensures { IfOk result (λ w. w ≡ record { script = input.script; rules = no_rules; schedule = input.schedule; taken = numbers_below (length input.schedule); spent = false }) }
 {
     let mut world = World::new(alloc, input.script, input.schedule)?;
     let count = world.schedule().len() as u32;

@@ -1,5 +1,5 @@
 ghost use Rattle.std.specs.Prelude.{◌≡◌};
-ghost use Rattle.lapi_report.specs.Written.{WritesWithMemory};
+ghost use Rattle.lapi_report.specs.SinkWrites.{WritesWithMemory};
 
 use lapi_base::WriteFault;
 use lapi_io::{Sink, write_all};

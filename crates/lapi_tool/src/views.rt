@@ -1,9 +1,9 @@
 ghost use Rattle.std.specs.Prelude.{◌≡◌, false};
-ghost use Rattle.lapi_base.specs.Answers.{view_text};
-ghost use Rattle.lapi_base.specs.Built.{IsBuilt};
-ghost use Rattle.lapi_base.specs.Spelling.{spells_packet};
-ghost use Rattle.lapi_base.specs.Valid.{ValidScript, ValidSchedule};
-ghost use Rattle.lapi_report.specs.Written.{WritesWithMemory};
+ghost use Rattle.lapi_base.specs.Output.CommandAnswers.{view_text};
+ghost use Rattle.lapi_base.specs.Input.Built.{IsBuilt};
+ghost use Rattle.lapi_base.specs.Packet.Spelling.{spells_packet};
+ghost use Rattle.lapi_base.specs.Record.Valid.{ValidScript, ValidSchedule};
+ghost use Rattle.lapi_report.specs.SinkWrites.{WritesWithMemory};
 ghost use Rattle.lapi_tool.specs.Shown.{asked_text, world_text};
 
 use crate::counts::write_counts;

@@ -1,5 +1,5 @@
 ghost use Rattle.std.specs.Prelude.{◌≡◌, IfOk, map};
-ghost use Rattle.lapi_base.specs.Commands as spec;
+ghost use Rattle.lapi_base.specs.Output.Commands as spec;
 
 use hex::FromHexError;
 use lapi_base::{Bytes, Command, Memory, View};
@@ -9,7 +9,7 @@ use std::alloc::Global;
 const MOST_SHOWN: usize = 640;
 
 /// What the words ask for, the arguments after the program's name; None where they are no command.
-#[tactic(auto, unfolding(lapi_base::specs::Commands::command_of))]
+#[tactic(auto, unfolding(lapi_base::specs::Output::Commands::command_of))]
 pub fn command_of(alloc: Global, words: &Vec<String>) -> Result<Option<Command>, Memory>
     ensures { IfOk result (λ command. command ≡ spec.command_of (map (λ word. word.bytes.items) words.now.items)) }
 {
@@ -58,7 +58,7 @@ fn view_of(word: &str) -> Option<View>
     }
 }
 
-#[tactic(auto, unfolding(lapi_base::specs::Tokens::hex_of))]
+#[tactic(auto, unfolding(lapi_base::specs::Input::Tokens::hex_of))]
 fn shown_of(alloc: Global, digits: &str) -> Result<Option<Bytes>, Memory>
     ensures { IfOk result (λ bytes. bytes ≡ spec.shown_of digits.now) }
 {

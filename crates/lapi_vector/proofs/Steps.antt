@@ -6,8 +6,8 @@ use Rattle.std.proofs.lemmas.List.Folds.{fold-map}
 use Rattle.std.proofs.lemmas.List.Sums.{sum_by-drop_more}
 use Rattle.std.proofs.lemmas.List.Concat.{flat_map-append}
 use Rattle.lapi_base.specs.declared.span.Span.{Span}
-use Rattle.lapi_base.specs.Operations.{upto}
-use Rattle.lapi_base.specs.Values.{Memories, Write, gathered, scattered, byte_after}
+use Rattle.lapi_base.specs.Record.Operations.{numbers_below}
+use Rattle.lapi_base.specs.Record.Values.{Memories, Write, gathered, scattered, byte_after}
 use Rattle.lapi_memory.specs.TaskMemory.{bytes_at, written}
 use Rattle.lapi_vector.specs.Pieces.{total_of}
 
@@ -29,7 +29,7 @@ piece_read memory bytes after piece spans i p lt this more read so_far =
 
 gathered_split : (memories : Memories) (t : ℕ) (xs ys : List Span) → gathered memories t (xs ++ ys) ≡ gathered memories t xs ++ gathered memories t ys
 unfolding gathered
-gathered_split memories t xs ys = flat_map-append (λ p. map (λ k. memories t (p.at + k)) (upto p.len)) xs ys
+gathered_split memories t xs ys = flat_map-append (λ p. map (λ k. memories t (p.at + k)) (numbers_below p.len)) xs ys
 
 pub piece_gathered : (memories : Memories) (t : ℕ) (bytes after piece : List ℕ) (spans : List Span) (i : ℕ) (p : Span) → i < length spans → p ≡ get_or spans i p → after ≡ bytes ++ piece → piece ≡ gathered memories t (p ∷ []) → bytes ≡ gathered memories t (take i spans) → after ≡ gathered memories t (take (i + 1) spans)
 piece_gathered memories t bytes after piece spans i p lt this more read so_far =

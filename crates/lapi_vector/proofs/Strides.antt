@@ -6,18 +6,18 @@ use Rattle.lapi_base.specs.declared.script.Script.{Script}
 use Rattle.lapi_base.specs.declared.address.Addr.{Addr}
 use Rattle.lapi_base.specs.declared.address.Addr.TheVariants.{Plain, Table}
 use Rattle.lapi_base.specs.declared.vector.Vector.TheVariants.{Stride}
-use Rattle.lapi_base.specs.Below.{below}
-use Rattle.lapi_base.specs.Operations.{upto, address, shifted, pieces_of, spans}
+use Rattle.lapi_base.specs.Record.Below.{below}
+use Rattle.lapi_base.specs.Record.Operations.{numbers_below, address, shifted, pieces_of, spans}
 use Rattle.lapi_vector.specs.Pieces.{stride_spans}
 
 pub one_block_more : (base block stride i : ℕ) → stride_spans base block stride (i + 1) ≡ stride_spans base block stride i ++ record { at = base + i * stride; len = block } ∷ []
-unfolding upto below
+unfolding numbers_below below
 one_block_more base block stride i =
     let e : i + 1 ≡ suc i = omega arith in
-    ap (stride_spans base block stride) e ∙ map-append (λ k. record { at = base + k * stride; len = block }) (upto i) (i ∷ [])
+    ap (stride_spans base block stride) e ∙ map-append (λ k. record { at = base + k * stride; len = block }) (numbers_below i) (i ∷ [])
 
 pub no_block : (base block stride : ℕ) → stride_spans base block stride 0 ≡ []
-unfolding upto below
+unfolding numbers_below below
 no_block base block stride = refl
 
 shifted_address : (script : Script) (target : ℕ) (at : Addr) (y : ℕ) → address script target (shifted at y) ≡ address script target at + y
@@ -34,4 +34,4 @@ blocks script target at block stride (k ∷ ks) =
 pub as_vector : (script : Script) (target : ℕ) (at : Addr) (base block stride count : ℕ) → address script target at ≡ base → stride_spans base block stride count ≡ spans script target (pieces_of (Stride at block stride count))
 unfolding pieces_of
 as_vector script target at base block stride count e =
-    ap (λ x. stride_spans x block stride count) (sym e) ∙ blocks script target at block stride (upto count)
+    ap (λ x. stride_spans x block stride count) (sym e) ∙ blocks script target at block stride (numbers_below count)

@@ -8,8 +8,8 @@ use Rattle.lapi_base.specs.declared.script.Script.{Script}
 use Rattle.lapi_base.specs.declared.vector.Vector.{Vector}
 use Rattle.lapi_base.specs.declared.refusal.Refusal.{Refusal}
 use Rattle.lapi_base.specs.declared.refusal.Refusal.TheVariants.{VecCount, VecLength, StrideBelowBlock}
-use Rattle.lapi_base.specs.Operations.{spans, address, pieces_of}
-use Rattle.lapi_base.specs.Refusals.{first_reason, below_block}
+use Rattle.lapi_base.specs.Record.Operations.{spans, address, pieces_of}
+use Rattle.lapi_base.specs.Record.Refusals.{first_reason, below_block}
 use Rattle.lapi_vector.specs.Pieces.{Side, IsSideOf, why, side_why}
 
 same_lengths : (script : Script) (target : ℕ) (to from : List Piece) → list_any (λ (pq : Span × Span). not (pq.0.len == pq.1.len)) (zip (spans script target to) (spans script target from)) ≡ list_any (λ (pq : Piece × Piece). not (pq.0.len == pq.1.len)) (zip to from)

@@ -8,10 +8,10 @@ use Rattle.lapi_base.specs.declared.refusal.Refusal.TheVariants.{VecCount, VecLe
 use Rattle.lapi_base.specs.declared.piece.Piece.{Piece}
 use Rattle.lapi_base.specs.declared.script.Script.{Script}
 use Rattle.lapi_base.specs.declared.vector.Vector.{Vector}
-use Rattle.lapi_base.specs.Operations as operations
-use Rattle.lapi_base.specs.Operations.{upto, pieces_of}
-use Rattle.lapi_base.specs.Refusals as refusals
-use Rattle.lapi_base.specs.Refusals.{first_reason}
+use Rattle.lapi_base.specs.Record.Operations as operations
+use Rattle.lapi_base.specs.Record.Operations.{numbers_below, pieces_of}
+use Rattle.lapi_base.specs.Record.Refusals as refusals
+use Rattle.lapi_base.specs.Record.Refusals.{first_reason}
 
 -- the pieces, and whether they stand at a stride below the length of a block
 pub record Side : Type 0 where
@@ -26,7 +26,7 @@ abbrev pub AreWithin : List Span → (size : ℕ) → Type 0
 AreWithin spans size = All (λ (p : Span). p.at + p.len ≤ size) spans
 
 abbrev pub stride_spans : (base block stride count : ℕ) → List Span
-stride_spans base block stride count = map (λ k. record { at = base + k * stride; len = block }) (upto count)
+stride_spans base block stride count = map (λ k. record { at = base + k * stride; len = block }) (numbers_below count)
 
 -- this side is that vector of a statement with this target, where all its addresses are known
 abbrev pub IsSideOf : Script → (target : ℕ) → Vector → Side → Type 0

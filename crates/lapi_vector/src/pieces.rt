@@ -6,8 +6,8 @@ ghost use Rattle.lapi_base.specs.declared.address.Addr.{Addr};
 ghost use Rattle.lapi_base.specs.declared.vector.Vector.{Vector};
 ghost use Rattle.lapi_base.specs.declared.vector.Vector.TheVariants.{Stride};
 ghost use Rattle.lapi_base.specs.declared.piece.Piece.{Piece};
-ghost use Rattle.lapi_base.specs.Operations.{address, spans as spans_of};
-ghost use Rattle.lapi_base.specs.Values.{Memories, gathered, scattered, byte_after};
+ghost use Rattle.lapi_base.specs.Record.Operations.{address, spans as spans_of};
+ghost use Rattle.lapi_base.specs.Record.Values.{Memories, gathered, scattered, byte_after};
 ghost use Rattle.lapi_memory.specs.TaskMemory.{bytes_at, written, IsMemoryOf};
 ghost use Rattle.lapi_vector.specs.Pieces.{Side, total_of, AreWithin, stride_spans, IsSideOf, why, side_why};
 
@@ -34,7 +34,7 @@ impl Model for Pieces {
 
 impl Pieces {
     /// These pieces, which may overlap.
-    #[tactic(auto, unfolding(lapi_base::specs::Operations::pieces_of))]
+    #[tactic(auto, unfolding(lapi_base::specs::Record::Operations::pieces_of))]
     pub fn list(spans: Spans) -> Pieces
         ensures side { result ≡ record { spans = spans; below_block = false } }
         ensures vector { (script : Script) (target : ℕ) (pieces : List Piece) → spans_of script target pieces ≡ spans → IsSideOf script target (Vector.List pieces) result }
@@ -93,7 +93,7 @@ impl Pieces {
     }
 
     /// Whether bytes can go between these two sides, piece by piece.
-    #[tactic(auto, unfolding(lapi_base::specs::Refusals::first_reason))]
+    #[tactic(auto, unfolding(lapi_base::specs::Record::Refusals::first_reason))]
     pub fn check(tgt: &Pieces, org: &Pieces) -> Result<(), Refusal>
         ensures sides { result_err result ≡ side_why tgt.now org.now }
         ensures vectors { (script : Script) (target : ℕ) (to from : Vector) → IsSideOf script target to tgt.now → IsSideOf script target from org.now → result_err result ≡ why to from }

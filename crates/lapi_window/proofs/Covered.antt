@@ -3,7 +3,7 @@ use Rattle.std.proofs.Common.{◌≡◌, ℕ, zero, suc, ◌+◌, ◌*◌, ◌/�
 use Rattle.std.specs.Int.{w64}
 use Rattle.std.proofs.lemmas.Bool.{cases_lt, cases_eq, eq-eqb, ne_eqb, or_left, or_right, or_cases, both_ways, eqb-true, lt-ltb, le-ltb}
 use Rattle.std.proofs.Math.Nat.{mod-eq_of_lt}
-use Rattle.lapi_base.specs.Below.{has_bit, below}
+use Rattle.lapi_base.specs.Record.Below.{has_bit, below}
 use Rattle.lapi_base.proofs.BelowLaws.{length-below-none, length-below-suc}
 use Rattle.lapi_base.proofs.BitLaws.{IsRun, below_pow, bit_or_clear, has_bit-or, has_bit-set, has_bit-shr}
 use Rattle.lapi_window.specs.NumberSet.{Members, flags_of, is_in, is_covered}

@@ -1,7 +1,7 @@
 -- The flags of a number are its bits.
 use Rattle.std.proofs.Common.{◌≡◌, ℕ, zero, suc, ◌/◌, ◌^◌, ◌-◌, ◌<◌, nat_lt, false, ◌||◌, refl, sym, ap, subst, arith}
 use Rattle.std.proofs.Math.Nat.{pow-suc}
-use Rattle.lapi_base.specs.Below.{has_bit}
+use Rattle.lapi_base.specs.Record.Below.{has_bit}
 use Rattle.lapi_base.proofs.BitLaws.{has_bit-zero}
 use Rattle.lapi_window.specs.NumberSet.{flag_at, flags_of, is_in, is_covered}
 

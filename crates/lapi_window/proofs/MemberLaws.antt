@@ -1,7 +1,7 @@
 -- Laws of sets of numbers as plain data: how the base moves.
 use Rattle.std.proofs.Common.{◌≡◌, ℕ, ◌+◌, ◌^◌, ◌-◌, ◌<◌, ◌≤◌, ◌==◌, nat_lt, true, false, ◌||◌, sym, ap, ◌∙◌, subst, ⊎_elim, arith}
 use Rattle.std.proofs.lemmas.Bool.{cases_lt, both_ways, or_left, or_right, or_cases, lt-ltb, eqb-true}
-use Rattle.lapi_base.specs.Below.{least_missing, has_bit, bits_of}
+use Rattle.lapi_base.specs.Record.Below.{least_missing, has_bit, bits_of}
 use Rattle.lapi_base.proofs.BelowLaws.{least_missing-is}
 use Rattle.lapi_base.proofs.BitLaws.{below_pow, bits_of-is}
 use Rattle.lapi_window.specs.NumberSet.{Members, flag_at, is_in}

@@ -2,7 +2,7 @@
 use Rattle.std.proofs.Common.{◌≡◌, ℕ, zero, suc, ◌+◌, ◌-◌, ◌<◌, ◌≤◌, nat_lt, Bool, true, false, not, cond, ◌||◌, ◌&&◌, ◌⊎◌, inl, inr, List, [], ◌∷◌, ◌++◌, length, drop, Option, Some, None, slice_get, option_copied, IsSome, Bor, refl, sym, ap, ◌∙◌, ⊎_elim, arith, length-append, length-drop}
 use Rattle.std.proofs.lemmas.Bool.{cases_lt, and_left, or_left, or_cases, cond-true, cond-false, cond_both, lt-ltb, le-ltb, not-true}
 use Rattle.circular_buffer.proofs.Places.{slice_get-append_left, slice_get-last, slice_get-drop}
-use Rattle.lapi_base.specs.Below.{below}
+use Rattle.lapi_base.specs.Record.Below.{below}
 use Rattle.lapi_base.proofs.BelowLaws.{below-cut, below-member, below-same, length-below-none, length-below-suc}
 use Rattle.lapi_window.specs.NumberSet.{Members, is_in, is_covered}
 use Rattle.lapi_window.specs.SendWindow.{Sending, IsSending, MaySend, sent_count, is_sent, is_acked, base_of, unacked, bytes_of}

@@ -1,6 +1,6 @@
 -- A set of numbers as plain data, and the question whether a number is in it.
 use Rattle.std.specs.Prelude.{ℕ, zero, suc, ◌+◌, ◌*◌, ◌-◌, ◌/◌, ◌%◌, ◌==◌, nat_lt, Bool, false, cond, ◌||◌, List, [], ◌∷◌}
-use Rattle.lapi_base.specs.Below.{has_bit}
+use Rattle.lapi_base.specs.Record.Below.{has_bit}
 
 -- each number below `base`, and those from `base` on whose flag is set, the first flag being that of `base`
 pub record Members : Type 0 where

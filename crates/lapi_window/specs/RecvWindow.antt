@@ -1,6 +1,6 @@
 -- What a receiving window stands for: the set of the numbers taken.
 use Rattle.std.specs.Prelude.{◌≡◌, ℕ, ◌+◌, ◌<◌, ◌≤◌, Bool, true}
-use Rattle.lapi_base.specs.Below.{least_missing}
+use Rattle.lapi_base.specs.Record.Below.{least_missing}
 use Rattle.lapi_window.specs.NumberSet.{Members, is_in}
 
 -- how many numbers from the base on may be taken, and those that were

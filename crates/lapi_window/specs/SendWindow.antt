@@ -1,6 +1,6 @@
 -- What a sending window stands for: how many numbers there are, how many were sent, and which are acknowledged.
 use Rattle.std.specs.Prelude.{◌≡◌, ℕ, ◌+◌, ◌-◌, ◌^◌, ◌<◌, ◌≤◌, nat_lt, Bool, true, false, not, cond, ◌&&◌, List, length, Option, None, slice_get}
-use Rattle.lapi_base.specs.Below.{below, least_missing}
+use Rattle.lapi_base.specs.Record.Below.{below, least_missing}
 use Rattle.lapi_window.specs.NumberSet.{Members, is_in}
 
 -- how many numbers from the base on may be sent, how many numbers there are, those that are acknowledged, and

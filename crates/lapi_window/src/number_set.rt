@@ -1,5 +1,5 @@
 ghost use Rattle.std.specs.Prelude.{◌≡◌, ℕ, ◌+◌, ◌-◌, ◌/◌, ◌^◌, ◌<◌, ◌≤◌, ◌==◌, ◌↔◌, IsTrue, true, false, not, ◌||◌, length, slice_get, Some};
-ghost use Rattle.lapi_base.specs.Below.{below, has_bit};
+ghost use Rattle.lapi_base.specs.Record.Below.{below, has_bit};
 ghost use Rattle.lapi_window.specs.NumberSet.{is_in, is_covered};
 
 use std::marker::Model;
@@ -19,7 +19,7 @@ pub struct NumberSet {
 
 impl Model for NumberSet {
     ghost use Rattle.std.specs.Prelude.{◌≡◌, ℕ, ◌+◌, ◌^◌, ◌<◌, true, false};
-    ghost use Rattle.lapi_base.specs.Below.{has_bit};
+    ghost use Rattle.lapi_base.specs.Record.Below.{has_bit};
     ghost use Rattle.lapi_window.specs.NumberSet.{Members, flags_of, number_of};
     ghost use Rattle.std.proofs.Common.{ap};
     ghost use Rattle.lapi_window.specs.Flags.{number_of-flags_of};

@@ -1,5 +1,5 @@
 ghost use Rattle.std.specs.Prelude.{◌≡◌, ◌≢◌, ℕ, ◌+◌, ◌^◌, ◌<◌, ◌≤◌, ◌==◌, ◌↔◌, true, false, ◌||◌};
-ghost use Rattle.lapi_base.specs.Below.{bits_of};
+ghost use Rattle.lapi_base.specs.Record.Below.{bits_of};
 ghost use Rattle.lapi_window.specs.RecvWindow.{is_taken, base_of};
 
 use crate::number_set::NumberSet;

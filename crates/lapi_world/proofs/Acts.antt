@@ -1,4 +1,4 @@
--- What is kept, after an act.
+-- What is network, after an act.
 use Rattle.std.proofs.Common.{◌≡◌, ℕ, ◌+◌, ◌*◌, ◌<◌, ◌==◌, true, false, List, [], ◌∷◌, ◌++◌, length, map, reverse, get_or, set, Option, Some, None, refl, sym, ap, ◌∙◌, subst, ⊎_elim, arith}
 use Rattle.std.specs.Prelude.{slice_get}
 use Rattle.std.specs.List.{AllByRecursion}
@@ -11,23 +11,24 @@ use Rattle.lapi_base.specs.declared.schedule.Act.TheVariants as acts
 use Rattle.lapi_base.specs.declared.reply.Reply.{Reply}
 use Rattle.lapi_base.specs.declared.reply.Reply.TheVariants.{Did}
 use Rattle.lapi_base.specs.declared.wire.WireEntry.{WireEntry}
-use Rattle.lapi_base.specs.Built.{is_built_act}
-use Rattle.lapi_base.specs.Record.{Run, perform, step, poll, tick, deliver}
-use Rattle.lapi_base.specs.Seen.{no_rules, IsRecord, performed}
-use Rattle.lapi_base.specs.Spelling.{spells_packet}
-use Rattle.lapi_base.specs.TaskPart.{actor}
-use Rattle.lapi_base.specs.Valid.{ValidAct}
-use Rattle.lapi_base.specs.Written as written
+use Rattle.lapi_base.specs.Input.Built.{is_built_act}
+use Rattle.lapi_base.specs.Record.Wires.{Run}
+use Rattle.lapi_base.specs.Record.Acts.{perform, step, poll, tick, deliver}
+use Rattle.lapi_base.specs.Record.WorldView.{no_rules, IsRecord, performed}
+use Rattle.lapi_base.specs.Packet.Spelling.{spells_packet}
+use Rattle.lapi_base.specs.Record.TaskPart.{actor}
+use Rattle.lapi_base.specs.Record.Valid.{ValidAct}
+use Rattle.lapi_base.specs.Packet.PacketBytes as written
 use Rattle.lapi_base.proofs.ListLaws.{found-at, get-set, get-set-other}
 use Rattle.lapi_parts.proofs.OtherTasks.{others-stay}
 use Rattle.lapi_parts.proofs.SameParts.{same-part}
 use Rattle.lapi_task.proofs.Apart.{stays-apart}
 use Rattle.lapi_task.specs.declared.outcome.Outcome.{Outcome}
 use Rattle.lapi_task.specs.declared.task.Task.{Task}
-use Rattle.lapi_task.specs.Does.{IsAt, IsAtSome, Does}
-use Rattle.lapi_task.specs.Performed.{IsPerformed}
+use Rattle.lapi_task.specs.HasEffect.{IsAt, IsAtSome, HasEffect}
+use Rattle.lapi_task.specs.Supported.{IsSupported}
 use Rattle.lapi_task.specs.StandsFor.{StandsFor}
-use Rattle.lapi_world.specs.declared.kept.Kept.{Kept}
+use Rattle.lapi_world.specs.declared.network.Network.{Network}
 use Rattle.lapi_world.specs.Grows.{bytes_at, ArePut, IsAdded}
 use Rattle.lapi_world.specs.Stands.{TaskAt, TasksStand, WiresStand, Stands, StandsForOne}
 use Rattle.lapi_world.proofs.Putting.{reverse-followed, put-length, own-bytes, other-bytes}
@@ -38,19 +39,19 @@ module _ (script : Script) where
   found-by r t None h = absurd h
   found-by r t (Some task) h = (task, refl, h)
 
-  pub task-found : (r : Run) (t : ℕ) (kept : Kept) → Stands script kept r → t < script.tasks → (task : Task) × (slice_get kept.tasks.items t ≡ Some task) × StandsFor script t task r
-  task-found r t kept h l = found-by r t (slice_get kept.tasks.items t) (h.tasks t l)
+  pub task-found : (r : Run) (t : ℕ) (network : Network) → Stands script network r → t < script.tasks → (task : Task) × (slice_get network.tasks.items t ≡ Some task) × StandsFor script t task r
+  task-found r t network h l = found-by r t (slice_get network.tasks.items t) (h.tasks t l)
 
   -- what is read there stands for the record
-  pub task-read : (r : Run) (t : ℕ) (kept : Kept) (task : Task) → IsRecord script no_rules r → Stands script kept r → t < script.tasks → task ≡ get_or kept.tasks.items t task → IsAt script t task r
-  task-read r t kept task is h l e = record {
+  pub task-read : (r : Run) (t : ℕ) (network : Network) (task : Task) → IsRecord script no_rules r → Stands script network r → t < script.tasks → task ≡ get_or network.tasks.items t task → IsAt script t task r
+  task-read r t network task is h l e = record {
     recorded = is;
     known = l;
-    stands = subst (TaskAt script r t) (found-at kept.tasks.items t task (omega (arith, l, h.task_count)) e) (h.tasks t l);
+    stands = subst (TaskAt script r t) (found-at network.tasks.items t task (omega (arith, l, h.task_count)) e) (h.tasks t l);
   }
 
-  pub at-some : (kept : Kept) (t : ℕ) (task : Task) → StandsForOne script kept → t < script.tasks → task ≡ get_or kept.tasks.items t task → IsAtSome script task
-  at-some kept t task h l e = (t, h.0, task-read h.0 t kept task h.1 h.2 l e)
+  pub at-some : (network : Network) (t : ℕ) (task : Task) → StandsForOne script network → t < script.tasks → task ≡ get_or network.tasks.items t task → IsAtSome script task
+  at-some network t task h l e = (t, h.0, task-read h.0 t network task h.1 h.2 l e)
 
   -- What an act of each form does.
   pub performed-step : (r : Run) (t : ℕ) → performed script no_rules r (acts.Step t) ≡ step script no_rules r t
@@ -89,14 +90,14 @@ module _ (script : Script) where
   moved r s u f (Some task) h = f task h
 
   -- A task's outcome was added.
-  module _ (perf : IsPerformed script) (r : Run) (is : IsRecord script no_rules r) (act : Act) (valid : ValidAct script spells_packet act) (t : ℕ) (acts-at : actor act ≡ t) (known : t < script.tasks) where
+  module _ (perf : IsSupported script) (r : Run) (is : IsRecord script no_rules r) (act : Act) (valid : ValidAct script spells_packet act) (t : ℕ) (acts-at : actor act ≡ t) (known : t < script.tasks) where
     abbrev after : Run
     after = performed script no_rules r act
 
     other-actor : (u : ℕ) → (u ≡ t → ⊥) → (actor act == u) ≡ false
     other-actor u differs = ne_eqb (actor act) u (λ e. differs (sym e ∙ acts-at))
 
-    tasks-after : (old : Kept) (task : Task) → Stands script old r → StandsFor script t task after → TasksStand script after (set old.tasks.items t task)
+    tasks-after : (old : Network) (task : Task) → Stands script old r → StandsFor script t task after → TasksStand script after (set old.tasks.items t task)
     tasks-after old task h new u l =
         ⊎_elim
         (λ (same : u ≡ t). subst (λ v. TaskAt script after v (slice_get (set old.tasks.items t task) v)) (sym same) (let before = task-found r t old h known in subst (TaskAt script after t) (sym (get-set old.tasks.items t before.0 task before.1)) new))
@@ -105,7 +106,7 @@ module _ (script : Script) where
         (moved r after u (λ x s. stays-apart script u x r act perf (record { recorded = is; known = l; stands = s }) valid (other-actor u differs)) (slice_get old.tasks.items u) (h.tasks u l)))
         (cases_eq u t)
 
-    wires-after : (old new : Kept) (task : Task) (blank out : Outcome) → Stands script old r → Does script t r after task blank out → blank.entries ≡ [] → ArePut script.tasks t out.entries old.wires.items new.wires.items → WiresStand script after new.wires.items
+    wires-after : (old new : Network) (task : Task) (blank out : Outcome) → Stands script old r → HasEffect script t r after task blank out → blank.entries ≡ [] → ArePut script.tasks t out.entries old.wires.items new.wires.items → WiresStand script after new.wires.items
     wires-after old new task blank out h does empty put a b la lb =
         let entries : out.entries ≡ does.entries = does.entries_added ∙ ap (λ (es : List WireEntry). es ++ does.entries) empty in
         let grown = put-length script.tasks t out.entries old.wires.items new.wires.items (a * script.tasks + b) (map written.packet (r.wire a b)) put (h.wires a b la lb) in
@@ -121,22 +122,22 @@ module _ (script : Script) where
         ∙ ap (map written.packet) (sym ((same-part script no_rules a after r (others-stay script no_rules r is act a (other-actor a differs))).put b)))
         (cases_eq a t))
 
-    stands-after : (old mid new : Kept) (task : Task) (blank out : Outcome) → Stands script old r → Does script t r after task blank out → IsAdded script.tasks t out mid new → (blank.events ≡ []) × (blank.entries ≡ []) → mid.journal ≡ old.journal → mid.wires ≡ old.wires → new.tasks.items ≡ set old.tasks.items t task → Stands script new after
+    stands-after : (old mid new : Network) (task : Task) (blank out : Outcome) → Stands script old r → HasEffect script t r after task blank out → IsAdded script.tasks t out mid new → (blank.events ≡ []) × (blank.entries ≡ []) → mid.journal ≡ old.journal → mid.wires ≡ old.wires → new.tasks.items ≡ set old.tasks.items t task → Stands script new after
     stands-after old mid new task blank out h does added empty journal wires tasks = record {
       journal =
           added.journal
           ∙ ap (λ (es : List Event). mid.journal ++ es) (does.events_added ∙ ap (λ (es : List Event). es ++ does.events) empty.0)
           ∙ ap (λ (J : List Event). J ++ does.events) (journal ∙ h.journal)
-          ∙ sym (ap reverse does.happened ∙ reverse-followed r.journal does.events);
+          ∙ sym (ap reverse does.journal ∙ reverse-followed r.journal does.events);
       task_count = ap length tasks ∙ length-set old.tasks.items t task ∙ h.task_count;
       wire_count = added.wire_count ∙ ap (λ w. length w.items) wires ∙ h.wire_count;
       tasks = subst (TasksStand script after) (sym tasks) (tasks-after old task h does.stands);
       wires = wires-after old new task blank out h does empty.1 (subst (λ w. ArePut script.tasks t out.entries w.items new.wires.items) wires added.wires);
     }
 
-    pub act-stands : (old mid new : Kept) (task : Task) (blank out : Outcome) (s : Run) → after ≡ s → Stands script old r → Does script t r s task blank out → IsAdded script.tasks t out mid new → (blank.events ≡ []) × (blank.entries ≡ []) → mid.journal ≡ old.journal → mid.wires ≡ old.wires → new.tasks.items ≡ set old.tasks.items t task → Stands script new after
-    act-stands old mid new task blank out s e h does = stands-after old mid new task blank out h (subst (λ q. Does script t r q task blank out) (sym e) does)
+    pub act-stands : (old mid new : Network) (task : Task) (blank out : Outcome) (s : Run) → after ≡ s → Stands script old r → HasEffect script t r s task blank out → IsAdded script.tasks t out mid new → (blank.events ≡ []) × (blank.entries ≡ []) → mid.journal ≡ old.journal → mid.wires ≡ old.wires → new.tasks.items ≡ set old.tasks.items t task → Stands script new after
+    act-stands old mid new task blank out s e h does = stands-after old mid new task blank out h (subst (λ q. HasEffect script t r q task blank out) (sym e) does)
 
 -- what a task added goes to tasks that there are
-pub outcome-ends : (script : Script) (t : ℕ) (r s : Run) (task : Task) (blank out : Outcome) → Does script t r s task blank out → (blank.events ≡ []) × (blank.entries ≡ []) → AllByRecursion (λ (e : WireEntry). e.to < script.tasks) out.entries
+pub outcome-ends : (script : Script) (t : ℕ) (r s : Run) (task : Task) (blank out : Outcome) → HasEffect script t r s task blank out → (blank.events ≡ []) × (blank.entries ≡ []) → AllByRecursion (λ (e : WireEntry). e.to < script.tasks) out.entries
 outcome-ends script t r s task blank out does empty = subst (AllByRecursion (λ (e : WireEntry). e.to < script.tasks)) (sym (does.entries_added ∙ ap (λ (es : List WireEntry). es ++ does.entries) empty.1)) does.ends

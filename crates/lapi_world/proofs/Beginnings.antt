@@ -1,15 +1,15 @@
--- What is kept before the first line.
+-- What is network before the first line.
 use Rattle.std.proofs.Common.{◌≡◌, ℕ, zero, suc, ◌+◌, ◌*◌, ◌<◌, ◌≤◌, List, [], ◌∷◌, ◌++◌, length, replicate, Some, sym, ap, ◌∙◌, subst, ⊎_elim, arith}
 use Rattle.std.specs.Prelude.{slice_get}
 use Rattle.std.proofs.lemmas.Bool.{cases_lt}
 use Rattle.std.proofs.lemmas.List.{length_push, length-replicate}
 use Rattle.std.proofs.lemmas.Nat.{mul-add-lt}
 use Rattle.lapi_base.specs.declared.script.Script.{Script}
-use Rattle.lapi_base.specs.Record.{start}
+use Rattle.lapi_base.specs.Record.Wires.{start}
 use Rattle.lapi_base.proofs.ListLaws.{get-before, get-push, get-some}
 use Rattle.lapi_task.specs.declared.task.Task.{Task}
 use Rattle.lapi_task.specs.StandsFor.{StandsFor}
-use Rattle.lapi_world.specs.declared.kept.Kept.{Kept}
+use Rattle.lapi_world.specs.declared.network.Network.{Network}
 use Rattle.lapi_world.specs.Stands.{TaskAt, TasksStand, Stands}
 
 module _ (script : Script) where
@@ -34,8 +34,8 @@ module _ (script : Script) where
       all-same (suc n) zero x y e = let q : x ≡ y = cc in sym q
       all-same (suc n) (suc k) x y e = all-same n k x y e
 
-  pub begins : (kept : Kept) → kept.journal ≡ [] → (length kept.tasks.items ≡ script.tasks) × TasksStand script start kept.tasks.items → kept.wires.items ≡ replicate (script.tasks * script.tasks) [] → Stands script kept start
-  begins kept e ts ws = record {
+  pub begins : (network : Network) → network.journal ≡ [] → (length network.tasks.items ≡ script.tasks) × TasksStand script start network.tasks.items → network.wires.items ≡ replicate (script.tasks * script.tasks) [] → Stands script network start
+  begins network e ts ws = record {
     journal = e;
     task_count = ts.0;
     wire_count = ap length ws ∙ length-replicate (script.tasks * script.tasks) [];

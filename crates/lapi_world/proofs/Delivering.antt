@@ -9,19 +9,20 @@ use Rattle.lapi_base.specs.declared.packet.Packet.{Packet}
 use Rattle.lapi_base.specs.declared.packet.Packet.TheVariants.{Data, Ack}
 use Rattle.lapi_base.specs.declared.reply.Reply.{Reply}
 use Rattle.lapi_base.specs.declared.reply.Reply.TheVariants.{Did, Absent}
-use Rattle.lapi_base.specs.Record.{Run, deliver, deliver_entry, hand_over, reply_with}
-use Rattle.lapi_base.specs.Seen.{no_rules, IsRecord, performed}
-use Rattle.lapi_base.specs.Spelling.{Spells}
-use Rattle.lapi_base.specs.Written as written
+use Rattle.lapi_base.specs.Record.Wires.{Run}
+use Rattle.lapi_base.specs.Record.Acts.{deliver, deliver_entry, hand_over, reply_with}
+use Rattle.lapi_base.specs.Record.WorldView.{no_rules, IsRecord, performed}
+use Rattle.lapi_base.specs.Packet.Spelling.{Spells}
+use Rattle.lapi_base.specs.Packet.PacketBytes as written
 use Rattle.lapi_base.proofs.ListLaws.{found-at}
 use Rattle.lapi_link.specs.Sender.{SendingEnd}
 use Rattle.lapi_base.proofs.Spellings.{one_packet}
 use Rattle.lapi_parts.proofs.SpelledPackets.{packets-written}
 use Rattle.lapi_task.specs.declared.task.Task.{Task}
-use Rattle.lapi_task.specs.Does.{IsOnWire}
-use Rattle.lapi_task.specs.Performed.{IsPerformed}
+use Rattle.lapi_task.specs.HasEffect.{IsOnWire}
+use Rattle.lapi_task.specs.Supported.{IsSupported}
 use Rattle.lapi_task.specs.StandsFor.{SenderAt}
-use Rattle.lapi_world.specs.declared.kept.Kept.{Kept}
+use Rattle.lapi_world.specs.declared.network.Network.{Network}
 use Rattle.lapi_world.specs.Stands.{TaskAt, Stands}
 use Rattle.lapi_world.proofs.Acts.{task-read, performed-deliver}
 
@@ -58,22 +59,22 @@ module _ (script : Script) where
       receivers = h.receivers;
     }
 
-    kept-with : (kept : Kept) → Stands script kept r → Stands script kept replied
-    kept-with kept h = record {
+    network-with : (network : Network) → Stands script network r → Stands script network replied
+    network-with network h = record {
       journal = h.journal;
       task_count = h.task_count;
       wire_count = h.wire_count;
-      tasks = λ t l. task-with t (slice_get kept.tasks.items t) (h.tasks t l);
+      tasks = λ t l. task-with t (slice_get network.tasks.items t) (h.tasks t l);
       wires = h.wires;
     }
 
   -- The wire that is read.
-  read-wire : (kept : Kept) (r : Run) (a b place : ℕ) (wire : List (List ℕ)) → Stands script kept r → a < script.tasks → b < script.tasks → place ≡ a * script.tasks + b → wire ≡ get_or kept.wires.items place wire → wire ≡ map written.packet (r.wire a b)
-  read-wire kept r a b place wire h la lb is e =
+  read-wire : (network : Network) (r : Run) (a b place : ℕ) (wire : List (List ℕ)) → Stands script network r → a < script.tasks → b < script.tasks → place ≡ a * script.tasks + b → wire ≡ get_or network.wires.items place wire → wire ≡ map written.packet (r.wire a b)
+  read-wire network r a b place wire h la lb is e =
       let room = mul-add-lt a script.tasks b script.tasks la lb in
-      let found = found-at kept.wires.items place wire (omega (arith, room, is, h.wire_count)) e in
+      let found = found-at network.wires.items place wire (omega (arith, room, is, h.wire_count)) e in
       let told = h.wires a b la lb in
-      let same : Some wire ≡ Some (map written.packet (r.wire a b)) = sym found ∙ ap (slice_get kept.wires.items) is ∙ told in
+      let same : Some wire ≡ Some (map written.packet (r.wire a b)) = sym found ∙ ap (slice_get network.wires.items) is ∙ told in
       cc
 
   no-packet : (o : Option Packet) → option_map written.packet o ≡ None → o ≡ None
@@ -84,26 +85,26 @@ module _ (script : Script) where
   some-packet None bytes e = absurd (cc)
   some-packet (Some p) bytes e = (p, refl, (let q : bytes ≡ written.packet p = cc in q))
 
-  module _ (kept : Kept) (r : Run) (a b k place : ℕ) (wire : List (List ℕ)) (h : Stands script kept r) (la : a < script.tasks) (lb : b < script.tasks) (at : place ≡ a * script.tasks + b) (e : wire ≡ get_or kept.wires.items place wire) where
+  module _ (network : Network) (r : Run) (a b k place : ℕ) (wire : List (List ℕ)) (h : Stands script network r) (la : a < script.tasks) (lb : b < script.tasks) (at : place ≡ a * script.tasks + b) (e : wire ≡ get_or network.wires.items place wire) where
     entry-is : option_map written.packet (slice_get (r.wire a b) k) ≡ slice_get wire k
-    entry-is = sym (slice_get-map written.packet (r.wire a b) k) ∙ ap (λ (ws : List (List ℕ)). slice_get ws k) (sym (read-wire kept r a b place wire h la lb at e))
+    entry-is = sym (slice_get-map written.packet (r.wire a b) k) ∙ ap (λ (ws : List (List ℕ)). slice_get ws k) (sym (read-wire network r a b place wire h la lb at e))
 
     none-there : slice_get wire k ≡ None → slice_get (r.wire a b) k ≡ None
     none-there none = no-packet (slice_get (r.wire a b) k) (entry-is ∙ none)
 
-    pub absent-stands : slice_get wire k ≡ None → Stands script kept (performed script no_rules r (Deliver a b k))
-    absent-stands none = subst (Stands script kept) (sym (deliver-none r a b k (none-there none))) (kept-with r Absent kept h)
+    pub absent-stands : slice_get wire k ≡ None → Stands script network (performed script no_rules r (Deliver a b k))
+    absent-stands none = subst (Stands script network) (sym (deliver-none r a b k (none-there none))) (network-with r Absent network h)
 
     pub absent-replies : slice_get wire k ≡ None → (performed script no_rules r (Deliver a b k)).replies ≡ r.replies ++ Absent ∷ []
     absent-replies none = ap (λ (q : Run). q.replies) (deliver-none r a b k (none-there none))
 
     -- The entry that is read spells the packet at its place.
-    pub entry-spells : IsPerformed script → IsRecord script no_rules r → (bytes : List ℕ) → slice_get wire k ≡ Some bytes → (p : Packet) × (slice_get (r.wire a b) k ≡ Some p) × Spells p bytes
+    pub entry-spells : IsSupported script → IsRecord script no_rules r → (bytes : List ℕ) → slice_get wire k ≡ Some bytes → (p : Packet) × (slice_get (r.wire a b) k ≡ Some p) × Spells p bytes
     entry-spells perf is bytes found =
         let some = some-packet (slice_get (r.wire a b) k) bytes (entry-is ∙ found) in
         (some.0, some.1, subst (Spells some.0) (sym some.2) (packets-written script no_rules r is perf.valid (lit≤ tt, lit≤ tt) a b k some.0 some.1))
 
-    pub on-wire : IsPerformed script → IsRecord script no_rules r → (bytes : List ℕ) → slice_get wire k ≡ Some bytes → (task : Task) → task ≡ get_or kept.tasks.items b task → (p : Packet) → Spells p bytes → IsOnWire task a p
+    pub on-wire : IsSupported script → IsRecord script no_rules r → (bytes : List ℕ) → slice_get wire k ≡ Some bytes → (task : Task) → task ≡ get_or network.tasks.items b task → (p : Packet) → Spells p bytes → IsOnWire task a p
     on-wire perf is bytes found task read p spells =
         let entry = entry-spells perf is bytes found in
         record {
@@ -112,7 +113,7 @@ module _ (script : Script) where
           task = b;
           run = r;
           place = k;
-          at = task-read script r b kept task is h lb read;
+          at = task-read script r b network task is h lb read;
           from_known = la;
           entry = entry.1 ∙ ap Some (one_packet entry.0 p bytes entry.2 spells);
         }

@@ -6,9 +6,9 @@ use Rattle.std.proofs.lemmas.Bool.{cases_eq, ne_eqb, eq-eqb, cond-true, cond-fal
 use Rattle.std.proofs.lemmas.List.{append-nil, reverse-append}
 use Rattle.lapi_base.specs.declared.event.Event.{Event}
 use Rattle.lapi_base.specs.declared.wire.WireEntry.{WireEntry}
-use Rattle.lapi_base.specs.Record.{followed}
+use Rattle.lapi_base.specs.Record.Acts.{followed}
 use Rattle.lapi_base.proofs.ListLaws.{get-set, get-set-other}
-use Rattle.lapi_task.specs.Does.{bytes_to}
+use Rattle.lapi_task.specs.HasEffect.{bytes_to}
 use Rattle.lapi_world.specs.Grows.{bytes_at, ArePut}
 use Rattle.lapi_world.proofs.Pairs.{place-apart}
 

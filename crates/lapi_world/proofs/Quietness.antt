@@ -2,10 +2,10 @@
 use Rattle.std.proofs.Common.{◌≡◌, ℕ, ◌<◌, Bool, true, false, ◌&&◌, sym}
 use Rattle.std.proofs.lemmas.Bool.{and_from, and_parts, both_ways, false_from_ne_true}
 use Rattle.lapi_base.specs.declared.script.Script.{Script}
-use Rattle.lapi_base.specs.Below.{every_below}
-use Rattle.lapi_base.specs.Final.{is_idle, is_settled, is_quiet}
-use Rattle.lapi_base.specs.Record.{Run}
-use Rattle.lapi_base.specs.Seen.{no_rules}
+use Rattle.lapi_base.specs.Record.Below.{every_below}
+use Rattle.lapi_base.specs.Record.Final.{is_idle, is_settled, is_quiet}
+use Rattle.lapi_base.specs.Record.Wires.{Run}
+use Rattle.lapi_base.specs.Record.WorldView.{no_rules}
 use Rattle.lapi_base.proofs.BelowLaws.{every_below-at, every_below-from}
 
 every-both : (n : ℕ) (p q : ℕ → Bool) → every_below n (λ k. p k && q k) ≡ true → (every_below n p && every_below n q) ≡ true

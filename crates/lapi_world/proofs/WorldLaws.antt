@@ -7,20 +7,20 @@ use Rattle.lapi_base.specs.declared.event.Event.{Event}
 use Rattle.lapi_base.specs.declared.schedule.Act.{Act}
 use Rattle.lapi_base.specs.declared.schedule.Line.{Line}
 use Rattle.lapi_base.specs.declared.reply.Reply.{Reply}
-use Rattle.lapi_base.specs.Atomic.{AtomicInTime}
-use Rattle.lapi_base.specs.Built.{is_built_act}
-use Rattle.lapi_base.specs.Headline.{HoldsOfRuns}
-use Rattle.lapi_base.specs.Record.{Run, start}
-use Rattle.lapi_base.specs.Seen.{no_rules, IsRecord, act_at, acts_of, record_of, record_at, performed}
-use Rattle.lapi_base.specs.Spelling.{refusal, spells_packet}
-use Rattle.lapi_base.specs.Valid.{ValidAct, ValidLine}
-use Rattle.lapi_base.specs.Written.{packet_size}
+use Rattle.lapi_base.specs.Record.Atomic.{AtomicInTime}
+use Rattle.lapi_base.specs.Input.Built.{is_built_act}
+use Rattle.lapi_base.specs.Laws.Headline.{HoldsOfRuns}
+use Rattle.lapi_base.specs.Record.Wires.{Run, start}
+use Rattle.lapi_base.specs.Record.WorldView.{no_rules, IsRecord, act_at, acts_of, record_of, record_at, performed}
+use Rattle.lapi_base.specs.Packet.Spelling.{refusal, spells_packet}
+use Rattle.lapi_base.specs.Record.Valid.{ValidAct, ValidLine}
+use Rattle.lapi_base.specs.Packet.PacketBytes.{packet_size}
 use Rattle.lapi_base.proofs.ListLaws.{all-get}
 use Rattle.lapi_parts.proofs.LinesTaken.{record-first, record-more, acts-valid}
 use Rattle.lapi_task.specs.declared.task.Task.{Task}
-use Rattle.lapi_task.specs.Does.{IsAt}
-use Rattle.lapi_world.specs.declared.kept.Kept.{Kept}
-use Rattle.lapi_world.specs.Stands.{TaskAt, Stands, IsPerformedLine, IsWorld}
+use Rattle.lapi_task.specs.HasEffect.{IsAt}
+use Rattle.lapi_world.specs.declared.network.Network.{Network}
+use Rattle.lapi_world.specs.Stands.{TaskAt, Stands, IsSupportedLine, IsWorld}
 
 module _ (script : Script) where
   -- A line of the schedule.
@@ -28,19 +28,19 @@ module _ (script : Script) where
   act-of None act e = absurd (cc)
   act-of (Some line) act e = (line, refl, (let q : line.act ≡ act = cc in q))
 
-  pub act-valid : (schedule : List Line) (n : ℕ) (act : Act) → AllByRecursion (ValidLine script spells_packet) schedule → AllByRecursion IsPerformedLine schedule → act_at schedule n ≡ Some act → ValidAct script spells_packet act × (is_built_act act ≡ true)
+  pub act-valid : (schedule : List Line) (n : ℕ) (act : Act) → AllByRecursion (ValidLine script spells_packet) schedule → AllByRecursion IsSupportedLine schedule → act_at schedule n ≡ Some act → ValidAct script spells_packet act × (is_built_act act ≡ true)
   act-valid schedule n act valid built at =
       let line = act-of (slice_get schedule n) act at in
-      (subst (ValidAct script spells_packet) line.2 (all-get (ValidLine script spells_packet) schedule n line.0 valid line.1).1, subst (λ x. is_built_act x ≡ true) line.2 (all-get IsPerformedLine schedule n line.0 built line.1))
+      (subst (ValidAct script spells_packet) line.2 (all-get (ValidLine script spells_packet) schedule n line.0 valid line.1).1, subst (λ x. is_built_act x ≡ true) line.2 (all-get IsSupportedLine schedule n line.0 built line.1))
 
   -- The record of the lines taken.
-  pub recorded : (schedule : List Line) (kept : Kept) (taken : List ℕ) (replies : List Reply) (spent : Bool) → IsWorld script schedule kept taken replies spent → IsRecord script no_rules (record_at script no_rules schedule taken)
-  recorded schedule kept taken replies spent w = (acts_of schedule taken, acts-valid script schedule taken w.schedule_valid, refl)
+  pub recorded : (schedule : List Line) (network : Network) (taken : List ℕ) (replies : List Reply) (spent : Bool) → IsWorld script schedule network taken replies spent → IsRecord script no_rules (record_at script no_rules schedule taken)
+  recorded schedule network taken replies spent w = (acts_of schedule taken, acts-valid script schedule taken w.schedule_valid, refl)
 
   -- A task of it.
-  pub task-stands : (schedule : List Line) (kept : Kept) (taken : List ℕ) (replies : List Reply) (spent : Bool) (t : ℕ) (task : Task) → IsWorld script schedule kept taken replies spent → spent ≡ false → t < script.tasks → slice_get kept.tasks.items t ≡ Some task → IsAt script t task (record_at script no_rules schedule taken)
-  task-stands schedule kept taken replies spent t task w free l at = record {
-    recorded = recorded schedule kept taken replies spent w;
+  pub task-stands : (schedule : List Line) (network : Network) (taken : List ℕ) (replies : List Reply) (spent : Bool) (t : ℕ) (task : Task) → IsWorld script schedule network taken replies spent → spent ≡ false → t < script.tasks → slice_get network.tasks.items t ≡ Some task → IsAt script t task (record_at script no_rules schedule taken)
+  task-stands schedule network taken replies spent t task w free l at = record {
+    recorded = recorded schedule network taken replies spent w;
     known = l;
     stands = subst (TaskAt script (record_at script no_rules schedule taken) t) at ((w.stands free).tasks t l);
   }
@@ -48,21 +48,21 @@ module _ (script : Script) where
   one-more : (schedule : List Line) (old new : List ℕ) (n : ℕ) (act : Act) → act_at schedule n ≡ Some act → new ≡ old ++ n ∷ [] → record_at script no_rules schedule new ≡ performed script no_rules (record_at script no_rules schedule old) act
   one-more schedule old new n act at push = ap (record_at script no_rules schedule) push ∙ record-more script no_rules schedule old n act at
 
-  pub line-stands : (schedule : List Line) (old new : List ℕ) (n : ℕ) (act : Act) (kept : Kept) → act_at schedule n ≡ Some act → new ≡ old ++ n ∷ [] → Stands script kept (performed script no_rules (record_at script no_rules schedule old) act) → Stands script kept (record_at script no_rules schedule new)
-  line-stands schedule old new n act kept at push h = subst (Stands script kept) (sym (one-more schedule old new n act at push)) h
+  pub line-stands : (schedule : List Line) (old new : List ℕ) (n : ℕ) (act : Act) (network : Network) → act_at schedule n ≡ Some act → new ≡ old ++ n ∷ [] → Stands script network (performed script no_rules (record_at script no_rules schedule old) act) → Stands script network (record_at script no_rules schedule new)
+  line-stands schedule old new n act network at push h = subst (Stands script network) (sym (one-more schedule old new n act at push)) h
 
   pub line-replies : (schedule : List Line) (old new : List ℕ) (n : ℕ) (act : Act) (reply : Reply) → act_at schedule n ≡ Some act → new ≡ old ++ n ∷ [] → (performed script no_rules (record_at script no_rules schedule old) act).replies ≡ (record_at script no_rules schedule old).replies ++ reply ∷ [] → (record_at script no_rules schedule new).replies ≡ (record_at script no_rules schedule old).replies ++ reply ∷ []
   line-replies schedule old new n act reply at push h = ap (λ (r : Run). r.replies) (one-more schedule old new n act at push) ∙ h
 
-  pub first-stands : (schedule : List Line) (kept : Kept) (taken : List ℕ) → taken ≡ [] → Stands script kept start → Stands script kept (record_at script no_rules schedule taken)
-  first-stands schedule kept taken e h = subst (Stands script kept) (sym (ap (record_at script no_rules schedule) e ∙ record-first script no_rules schedule)) h
+  pub first-stands : (schedule : List Line) (network : Network) (taken : List ℕ) → taken ≡ [] → Stands script network start → Stands script network (record_at script no_rules schedule taken)
+  first-stands schedule network taken e h = subst (Stands script network) (sym (ap (record_at script no_rules schedule) e ∙ record-first script no_rules schedule)) h
 
   pub first-replies : (schedule : List Line) (taken : List ℕ) → taken ≡ [] → [] ≡ (record_at script no_rules schedule taken).replies
   first-replies schedule taken e = sym (ap (λ (r : Run). r.replies) (ap (record_at script no_rules schedule) e ∙ record-first script no_rules schedule))
 
   -- Its journal is atomic.
-  pub world-atomic : HoldsOfRuns (λ script rules r. AtomicInTime script rules (reverse r.journal)) → (schedule : List Line) (kept : Kept) (taken : List ℕ) (replies : List Reply) (spent : Bool) (journal : List Event) → IsWorld script schedule kept taken replies spent → spent ≡ false → journal ≡ kept.journal → AtomicInTime script no_rules journal
+  pub world-atomic : HoldsOfRuns (λ script rules r. AtomicInTime script rules (reverse r.journal)) → (schedule : List Line) (network : Network) (taken : List ℕ) (replies : List Reply) (spent : Bool) (journal : List Event) → IsWorld script schedule network taken replies spent → spent ≡ false → journal ≡ network.journal → AtomicInTime script no_rules journal
   unfolding record_of
-  world-atomic law schedule kept taken replies spent journal w free told =
+  world-atomic law schedule network taken replies spent journal w free told =
       subst (AtomicInTime script no_rules) (sym (told ∙ (w.stands free).journal))
       (law script no_rules spells_packet packet_size refusal (acts_of schedule taken) (acts-valid script schedule taken w.schedule_valid))

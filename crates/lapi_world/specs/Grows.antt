@@ -1,21 +1,21 @@
--- What a line makes of what is kept.
+-- What a line makes of what is network.
 use Rattle.std.specs.Prelude.{◌≡◌, ℕ, ◌+◌, ◌*◌, ◌==◌, List, [], ◌∷◌, ◌++◌, length, map, filter, slice_get, option_map}
 use Rattle.lapi_base.specs.declared.script.Script.{Script}
 use Rattle.lapi_base.specs.declared.schedule.Act.{Act}
 use Rattle.lapi_base.specs.declared.reply.Reply.{Reply}
 use Rattle.lapi_base.specs.declared.wire.WireEntry.{WireEntry}
-use Rattle.lapi_base.specs.Record.{Run}
-use Rattle.lapi_base.specs.Seen.{no_rules, IsRecord, performed}
+use Rattle.lapi_base.specs.Record.Wires.{Run}
+use Rattle.lapi_base.specs.Record.WorldView.{no_rules, IsRecord, performed}
 use Rattle.lapi_task.specs.declared.outcome.Outcome.{Outcome}
-use Rattle.lapi_world.specs.declared.kept.Kept.{Kept}
+use Rattle.lapi_world.specs.declared.network.Network.{Network}
 use Rattle.lapi_world.specs.Stands.{Stands}
 
 -- what stood for a record stands for it with this act
-abbrev pub Performs : Script → Act → (old new : Kept) → Type 0
-Performs script act old new = (r : Run) → IsRecord script no_rules r → Stands script old r → Stands script new (performed script no_rules r act)
+abbrev pub KeepsRecord : Script → Act → (old new : Network) → Type 0
+KeepsRecord script act old new = (r : Run) → IsRecord script no_rules r → Stands script old r → Stands script new (performed script no_rules r act)
 
 -- and this is the reply to the act
-abbrev pub Answers : Script → Act → Kept → Reply → Type 0
+abbrev pub Answers : Script → Act → Network → Reply → Type 0
 Answers script act old reply = (r : Run) → IsRecord script no_rules r → Stands script old r → (performed script no_rules r act).replies ≡ r.replies ++ reply ∷ []
 
 -- the bytes of the entries that go from task t onto the wire at this place
@@ -27,7 +27,7 @@ abbrev pub ArePut : (tasks t : ℕ) → List WireEntry → (old new : List (List
 ArePut tasks t entries old new = (place : ℕ) → slice_get new place ≡ option_map (λ wire. wire ++ bytes_at tasks t place entries) (slice_get old place)
 
 -- what a task did was added
-pub record IsAdded (tasks t : ℕ) (out : Outcome) (old new : Kept) : Type 0 where
+pub record IsAdded (tasks t : ℕ) (out : Outcome) (old new : Network) : Type 0 where
   pub journal : new.journal ≡ old.journal ++ out.events
   pub wire_count : length new.wires.items ≡ length old.wires.items
   pub wires : ArePut tasks t out.entries old.wires.items new.wires.items

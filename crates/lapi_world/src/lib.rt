@@ -1,7 +1,7 @@
 //! Worlds: tasks, the wires between them and a journal, line by line.
 #![tactic(auto)]
 
-mod kept;
+mod network;
 mod wire;
 mod world;
 

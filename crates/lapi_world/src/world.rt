@@ -1,14 +1,14 @@
 ghost use Rattle.std.specs.Prelude.{◌≡◌, ◌<◌, true, false, ◌∷◌, [], ◌++◌, length, map, reverse, OnOk, OnErr, IfOk, Some};
-ghost use Rattle.lapi_base.specs.Atomic.{AtomicInTime};
-ghost use Rattle.lapi_base.specs.Final.{is_quiet};
-ghost use Rattle.lapi_base.specs.Seen.{seen_record, no_rules, act_at};
-ghost use Rattle.lapi_base.specs.Built.{IsBuilt};
-ghost use Rattle.lapi_base.specs.Spelling.{spells_packet};
-ghost use Rattle.lapi_base.specs.Valid.{ValidScript, ValidSchedule};
-ghost use Rattle.lapi_base.specs.Written as written;
-ghost use Rattle.lapi_task.specs.Does.{IsAt};
+ghost use Rattle.lapi_base.specs.Record.Atomic.{AtomicInTime};
+ghost use Rattle.lapi_base.specs.Record.Final.{is_quiet};
+ghost use Rattle.lapi_base.specs.Record.WorldView.{view_record, no_rules, act_at};
+ghost use Rattle.lapi_base.specs.Input.Built.{IsBuilt};
+ghost use Rattle.lapi_base.specs.Packet.Spelling.{spells_packet};
+ghost use Rattle.lapi_base.specs.Record.Valid.{ValidScript, ValidSchedule};
+ghost use Rattle.lapi_base.specs.Packet.PacketBytes as written;
+ghost use Rattle.lapi_task.specs.HasEffect.{IsAt};
 
-use crate::kept::Kept;
+use crate::network::Network;
 use lapi_base::{Act, Bytes, Event, Line, Memory, Numbers, Replies, Reply, Schedule, Script};
 use lapi_laws::journal_is_atomic;
 use lapi_task::Task;
@@ -23,21 +23,21 @@ use std::marker::Model;
 pub struct World {
     script: Script,
     schedule: Schedule,
-    kept: Kept,
+    network: Network,
     taken: Numbers,
     replies: Replies,
     spent: bool,
 }
 
 impl Model for World {
-    ghost use Rattle.lapi_base.specs.Seen.{Seen, no_rules};
+    ghost use Rattle.lapi_base.specs.Record.WorldView.{WorldView, no_rules};
     ghost use Rattle.lapi_world.specs.Stands.{IsWorld};
 
-    ghost Value = { Seen };
+    ghost Value = { WorldView };
 
     ghost view = { λ w. record { script = w.script; rules = no_rules; schedule = w.schedule; taken = w.taken; spent = w.spent } };
 
-    ghost invariant = { λ w. IsWorld w.script w.schedule w.kept w.taken w.replies w.spent };
+    ghost invariant = { λ w. IsWorld w.script w.schedule w.network w.taken w.replies w.spent };
 }
 
 impl World {
@@ -48,11 +48,11 @@ impl World {
         requires built { IsBuilt (record { script = script; schedule = schedule }) }
         ensures { IfOk result (λ w. w ≡ record { script = script; rules = no_rules; schedule = schedule; taken = []; spent = false }) }
     {
-        let kept = Kept::new(alloc, &script)?;
+        let network = Network::new(alloc, &script)?;
         Ok(World {
             script,
             schedule,
-            kept,
+            network,
             taken: Numbers::new(alloc),
             replies: Replies::new(alloc),
             spent: false,
@@ -63,7 +63,7 @@ impl World {
     pub fn line(&mut self, alloc: Global, n: u32) -> Result<Reply, Memory>
         requires { n < length self.old.schedule }
         ensures ok { OnOk result ((self.old.spent ≡ false) × (self.new ≡ record self.old { taken = self.old.taken ++ n ∷ [] })) }
-        ensures reply { IfOk result (λ reply. (seen_record self.new).replies ≡ (seen_record self.old).replies ++ reply ∷ []) }
+        ensures reply { IfOk result (λ reply. (view_record self.new).replies ≡ (view_record self.old).replies ++ reply ∷ []) }
         ensures err { OnErr result (self.new ≡ record self.old { spent = true }) }
     {
         if self.spent {
@@ -71,7 +71,7 @@ impl World {
         }
         self.spent = true;
         let act = act_at(self.schedule.as_slice(), n);
-        let reply = self.kept.perform(alloc, &self.script, act)?;
+        let reply = self.network.perform(alloc, &self.script, act)?;
         self.replies.push(reply)?;
         self.taken.push(n)?;
         self.spent = false;
@@ -99,43 +99,43 @@ impl World {
 
     /// The reply of each line taken.
     pub fn replies(&self) -> &[Reply]
-        ensures { self.now.spent ≡ false → result.now ≡ (seen_record self.now).replies }
+        ensures { self.now.spent ≡ false → result.now ≡ (view_record self.now).replies }
     {
         self.replies.as_slice()
     }
 
     /// What happened so far, in order.
     pub fn journal(&self) -> &[Event]
-        ensures same { self.now.spent ≡ false → result.now ≡ reverse (seen_record self.now).journal }
+        ensures same { self.now.spent ≡ false → result.now ≡ reverse (view_record self.now).journal }
         ensures atomic { self.now.spent ≡ false → AtomicInTime self.now.script self.now.rules result.now }
     {
         journal_is_atomic();
-        self.kept.journal()
+        self.network.journal()
     }
 
     /// The entries on the wire from task `a` to task `b`, in order.
     pub fn wire(&self, a: u32, b: u32) -> &[Bytes]
         requires a { a < self.now.script.tasks }
         requires b { b < self.now.script.tasks }
-        ensures { self.now.spent ≡ false → result.now ≡ map written.packet ((seen_record self.now).wire a b) }
+        ensures { self.now.spent ≡ false → result.now ≡ map written.packet ((view_record self.now).wire a b) }
     {
-        self.kept.entries(self.script.tasks, a, b)
+        self.network.entries(self.script.tasks, a, b)
     }
 
     /// Task `t`, as the lines taken left it.
     pub fn task(&self, t: u32) -> &Task
         requires { t < self.now.script.tasks }
-        ensures stands { self.now.spent ≡ false → IsAt self.now.script t result.now (seen_record self.now) }
+        ensures stands { self.now.spent ≡ false → IsAt self.now.script t result.now (view_record self.now) }
         ensures rules { self.now.rules ≡ no_rules }
     {
-        self.kept.task(t)
+        self.network.task(t)
     }
 
     /// Whether everything sent is acknowledged, no job waits or runs, and nothing is left to copy or to send.
     pub fn quiet(&self) -> bool
-        ensures { self.now.spent ≡ false → result ≡ is_quiet self.now.script self.now.rules (seen_record self.now) }
+        ensures { self.now.spent ≡ false → result ≡ is_quiet self.now.script self.now.rules (view_record self.now) }
     {
-        self.kept.is_quiet()
+        self.network.is_quiet()
     }
 
     /// Whether an earlier call answered Memory.

@@ -10,10 +10,10 @@
 //! ```
 
 ghost use Rattle.std.specs.Prelude.{◌≡◌, ◌≤◌, ◌+◌, ◌++◌, length, IfOk};
-ghost use Rattle.lapi_base.specs.Form.{bytes_form};
-ghost use Rattle.lapi_base.specs.Heads.{am_form, header_count_form};
+ghost use Rattle.lapi_base.specs.Packet.Format.{bytes_form};
+ghost use Rattle.lapi_base.specs.Packet.Heads.{am_form, header_count_form};
 ghost use Rattle.lapi_packet.specs.Reader.{Reads};
-ghost use Rattle.lapi_base.specs.Written as written;
+ghost use Rattle.lapi_base.specs.Packet.PacketBytes as written;
 
 use crate::counter;
 use crate::fault::{Fault, cut_short, refused};
@@ -24,7 +24,7 @@ const LAST_HANDLER: u32 = 15;
 
 const LONGEST_HEADER: u32 = 64;
 
-#[tactic(auto, using(lapi_base::proofs::FormLaws::read_bind), unfolding(lapi_base::specs::Heads::am_form))]
+#[tactic(auto, using(lapi_base::proofs::FormLaws::read_bind), unfolding(lapi_base::specs::Packet::Heads::am_form))]
 pub(crate) fn read(bytes: &[u8]) -> Result<(Head, &[u8]), Fault>
     ensures { Reads am_form bytes.now result }
 {
@@ -64,7 +64,7 @@ pub(crate) fn write(
     out.extend_from_slice(header);
 }
 
-#[tactic(auto, unfolding(lapi_base::specs::Heads::header_count_form))]
+#[tactic(auto, unfolding(lapi_base::specs::Packet::Heads::header_count_form))]
 fn read_count(bytes: &[u8]) -> Result<(u32, &[u8]), Fault>
     ensures read { Reads header_count_form bytes.now result }
     ensures most { IfOk result (λ x. x.0 ≤ 64) }

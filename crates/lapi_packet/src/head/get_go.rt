@@ -10,10 +10,10 @@
 //! ```
 
 ghost use Rattle.std.specs.Prelude.{◌≡◌, ◌≤◌, ◌+◌, ◌++◌, length};
-ghost use Rattle.lapi_base.specs.Heads.{get_go_form};
-ghost use Rattle.lapi_base.specs.Layout.{First};
+ghost use Rattle.lapi_base.specs.Packet.Heads.{get_go_form};
+ghost use Rattle.lapi_base.specs.Packet.Layout.{First};
 ghost use Rattle.lapi_packet.specs.Reader.{Reads};
-ghost use Rattle.lapi_base.specs.Written as written;
+ghost use Rattle.lapi_base.specs.Packet.PacketBytes as written;
 
 use crate::counter;
 use crate::fault::{Fault, refused};
@@ -22,7 +22,7 @@ use crate::number::{read_four, write_four};
 use crate::range::read_range;
 use lapi_base::{FRAME_ROOM, Frame, Head, Reason};
 
-#[tactic(auto, using(lapi_base::proofs::FormLaws::read_bind), unfolding(lapi_base::specs::Heads::get_go_form))]
+#[tactic(auto, using(lapi_base::proofs::FormLaws::read_bind), unfolding(lapi_base::specs::Packet::Heads::get_go_form))]
 pub(crate) fn read(bytes: &[u8]) -> Result<(Head, &[u8]), Fault>
     ensures { Reads (get_go_form First) bytes.now result }
 {

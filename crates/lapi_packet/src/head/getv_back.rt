@@ -9,16 +9,16 @@
 //! ```
 
 ghost use Rattle.std.specs.Prelude.{◌≡◌, ◌≤◌, ◌+◌, ◌++◌, length};
-ghost use Rattle.lapi_base.specs.Heads.{getv_back_form};
+ghost use Rattle.lapi_base.specs.Packet.Heads.{getv_back_form};
 ghost use Rattle.lapi_packet.specs.Reader.{Reads};
-ghost use Rattle.lapi_base.specs.Written as written;
+ghost use Rattle.lapi_base.specs.Packet.PacketBytes as written;
 
 use crate::fault::Fault;
 use crate::number::write_one;
 use crate::{counter, spans};
 use lapi_base::{FRAME_ROOM, Frame, Head, Spans};
 
-#[tactic(auto, using(lapi_base::proofs::FormLaws::read_bind), unfolding(lapi_base::specs::Heads::getv_back_form))]
+#[tactic(auto, using(lapi_base::proofs::FormLaws::read_bind), unfolding(lapi_base::specs::Packet::Heads::getv_back_form))]
 pub(crate) fn read(length: u32, bytes: &[u8]) -> Result<(Head, &[u8]), Fault>
     ensures { Reads (getv_back_form length) bytes.now result }
 {

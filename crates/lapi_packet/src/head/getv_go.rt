@@ -10,10 +10,10 @@
 //! ```
 
 ghost use Rattle.std.specs.Prelude.{◌≡◌, ◌≤◌, ◌+◌, ◌++◌, length};
-ghost use Rattle.lapi_base.specs.Heads.{getv_go_form};
-ghost use Rattle.lapi_base.specs.Layout.{First};
+ghost use Rattle.lapi_base.specs.Packet.Heads.{getv_go_form};
+ghost use Rattle.lapi_base.specs.Packet.Layout.{First};
 ghost use Rattle.lapi_packet.specs.Reader.{Reads};
-ghost use Rattle.lapi_base.specs.Written as written;
+ghost use Rattle.lapi_base.specs.Packet.PacketBytes as written;
 
 use crate::fault::Fault;
 use crate::fragment::LONGEST;
@@ -21,7 +21,7 @@ use crate::number::write_one;
 use crate::{counter, spans};
 use lapi_base::{FRAME_ROOM, Frame, Head, Spans};
 
-#[tactic(auto, using(lapi_base::proofs::FormLaws::read_bind), unfolding(lapi_base::specs::Heads::getv_go_form))]
+#[tactic(auto, using(lapi_base::proofs::FormLaws::read_bind), unfolding(lapi_base::specs::Packet::Heads::getv_go_form))]
 pub(crate) fn read(bytes: &[u8]) -> Result<(Head, &[u8]), Fault>
     ensures { Reads (getv_go_form First) bytes.now result }
 {

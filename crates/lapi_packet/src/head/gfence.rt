@@ -6,9 +6,9 @@
 //! ```
 
 ghost use Rattle.std.specs.Prelude.{◌≡◌, ◌≤◌, ◌+◌, ◌++◌, length};
-ghost use Rattle.lapi_base.specs.Heads.{gfence_form, round_form};
+ghost use Rattle.lapi_base.specs.Packet.Heads.{gfence_form, round_form};
 ghost use Rattle.lapi_packet.specs.Reader.{Reads};
-ghost use Rattle.lapi_base.specs.Written as written;
+ghost use Rattle.lapi_base.specs.Packet.PacketBytes as written;
 
 use crate::fault::{Fault, refused};
 use crate::number::{read_two, write_two};
@@ -16,7 +16,7 @@ use lapi_base::{FRAME_ROOM, Frame, Head, Reason};
 
 const LAST_ROUND: u32 = 511;
 
-#[tactic(auto, using(lapi_base::proofs::FormLaws::read_bind), unfolding(lapi_base::specs::Heads::gfence_form))]
+#[tactic(auto, using(lapi_base::proofs::FormLaws::read_bind), unfolding(lapi_base::specs::Packet::Heads::gfence_form))]
 pub(crate) fn read(bytes: &[u8]) -> Result<(Head, &[u8]), Fault>
     ensures { Reads gfence_form bytes.now result }
 {
@@ -33,7 +33,7 @@ pub(crate) fn write(round: u32, out: &mut Frame)
 }
 
 /// The number of a collective call.
-#[tactic(auto, unfolding(lapi_base::specs::Heads::round_form))]
+#[tactic(auto, unfolding(lapi_base::specs::Packet::Heads::round_form))]
 pub(super) fn read_round(bytes: &[u8]) -> Result<(u32, &[u8]), Fault>
     ensures { Reads round_form bytes.now result }
 {

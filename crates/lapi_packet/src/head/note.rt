@@ -6,15 +6,15 @@
 //! ```
 
 ghost use Rattle.std.specs.Prelude.{◌≡◌, ◌≤◌, ◌+◌, ◌++◌, length};
-ghost use Rattle.lapi_base.specs.Heads.{note_form};
+ghost use Rattle.lapi_base.specs.Packet.Heads.{note_form};
 ghost use Rattle.lapi_packet.specs.Reader.{Reads};
-ghost use Rattle.lapi_base.specs.Written as written;
+ghost use Rattle.lapi_base.specs.Packet.PacketBytes as written;
 
 use crate::fault::{Fault, refused};
 use crate::number::{read_one, write_one};
 use lapi_base::{FRAME_ROOM, Frame, Head, NoteOp, Reason};
 
-#[tactic(auto, using(lapi_base::proofs::FormLaws::read_bind), unfolding(lapi_base::specs::Heads::note_form))]
+#[tactic(auto, using(lapi_base::proofs::FormLaws::read_bind), unfolding(lapi_base::specs::Packet::Heads::note_form))]
 pub(crate) fn read(op: NoteOp, bytes: &[u8]) -> Result<(Head, &[u8]), Fault>
     ensures { Reads (note_form op) bytes.now result }
 {

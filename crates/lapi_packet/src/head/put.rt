@@ -8,9 +8,9 @@
 //! ```
 
 ghost use Rattle.std.specs.Prelude.{◌≡◌, ◌≤◌, ◌+◌, ◌++◌, length};
-ghost use Rattle.lapi_base.specs.Heads.{put_form};
+ghost use Rattle.lapi_base.specs.Packet.Heads.{put_form};
 ghost use Rattle.lapi_packet.specs.Reader.{Reads};
-ghost use Rattle.lapi_base.specs.Written as written;
+ghost use Rattle.lapi_base.specs.Packet.PacketBytes as written;
 
 use crate::counter;
 use crate::fault::Fault;
@@ -18,7 +18,7 @@ use crate::number::write_four;
 use crate::range::read_range;
 use lapi_base::{FRAME_ROOM, Frame, Head};
 
-#[tactic(auto, using(lapi_base::proofs::FormLaws::read_bind), unfolding(lapi_base::specs::Heads::put_form))]
+#[tactic(auto, using(lapi_base::proofs::FormLaws::read_bind), unfolding(lapi_base::specs::Packet::Heads::put_form))]
 pub(crate) fn read(length: u32, bytes: &[u8]) -> Result<(Head, &[u8]), Fault>
     ensures { Reads (put_form length) bytes.now result }
 {

@@ -7,9 +7,9 @@
 //! ```
 
 ghost use Rattle.std.specs.Prelude.{◌≡◌, ◌≤◌, ◌+◌, ◌++◌, length};
-ghost use Rattle.lapi_base.specs.Heads.{rmw_back_form};
+ghost use Rattle.lapi_base.specs.Packet.Heads.{rmw_back_form};
 ghost use Rattle.lapi_packet.specs.Reader.{Reads};
-ghost use Rattle.lapi_base.specs.Written as written;
+ghost use Rattle.lapi_base.specs.Packet.PacketBytes as written;
 
 use crate::counter;
 use crate::fault::Fault;
@@ -17,7 +17,7 @@ use crate::number::write_four;
 use crate::range::read_word;
 use lapi_base::{FRAME_ROOM, Frame, Head};
 
-#[tactic(auto, using(lapi_base::proofs::FormLaws::read_bind), unfolding(lapi_base::specs::Heads::rmw_back_form))]
+#[tactic(auto, using(lapi_base::proofs::FormLaws::read_bind), unfolding(lapi_base::specs::Packet::Heads::rmw_back_form))]
 pub(crate) fn read(bytes: &[u8]) -> Result<(Head, &[u8]), Fault>
     ensures { Reads rmw_back_form bytes.now result }
 {

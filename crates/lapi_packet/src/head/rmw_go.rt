@@ -11,10 +11,10 @@
 //! ```
 
 ghost use Rattle.std.specs.Prelude.{◌≡◌, ◌≤◌, ◌+◌, ◌++◌, length};
-ghost use Rattle.lapi_base.specs.Heads.{rmw_go_form, update_form, update_of};
-ghost use Rattle.lapi_base.specs.Written.{update_number};
+ghost use Rattle.lapi_base.specs.Packet.Heads.{rmw_go_form, update_form, update_of};
+ghost use Rattle.lapi_base.specs.Packet.PacketBytes.{update_number};
 ghost use Rattle.lapi_packet.specs.Reader.{Reads};
-ghost use Rattle.lapi_base.specs.Written as written;
+ghost use Rattle.lapi_base.specs.Packet.PacketBytes as written;
 
 use crate::counter;
 use crate::fault::{Fault, refused};
@@ -22,7 +22,7 @@ use crate::number::{read_four, read_one, write_four, write_one};
 use crate::range::read_word;
 use lapi_base::{FRAME_ROOM, Frame, Head, Reason, RmwOp};
 
-#[tactic(auto, using(lapi_base::proofs::FormLaws::read_bind), unfolding(lapi_base::specs::Heads::rmw_go_form))]
+#[tactic(auto, using(lapi_base::proofs::FormLaws::read_bind), unfolding(lapi_base::specs::Packet::Heads::rmw_go_form))]
 pub(crate) fn read(bytes: &[u8]) -> Result<(Head, &[u8]), Fault>
     ensures { Reads rmw_go_form bytes.now result }
 {
@@ -67,7 +67,7 @@ pub(crate) fn write(
     counter::write(org, out);
 }
 
-#[tactic(auto, unfolding(lapi_base::specs::Heads::update_form))]
+#[tactic(auto, unfolding(lapi_base::specs::Packet::Heads::update_form))]
 fn read_update(bytes: &[u8]) -> Result<(u32, &[u8]), Fault>
     ensures { Reads update_form bytes.now result }
 {

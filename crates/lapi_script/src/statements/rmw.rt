@@ -1,7 +1,7 @@
 //! The read-modify-write statements, by their operation.
 
 ghost use Rattle.std.specs.Prelude.{◌≡◌};
-ghost use Rattle.lapi_base.specs.Forms.{run, rmw_form, one_operand_form, cas_form};
+ghost use Rattle.lapi_base.specs.Input.Forms.{run, rmw_form, one_operand_form, cas_form};
 ghost use Rattle.lapi_script.specs.Gives.{Gives};
 
 use crate::fault::{LineFault, syntax};
@@ -10,7 +10,7 @@ use crate::words::{Words, is_text};
 use lapi_base::{RmwOp, Statement};
 
 /// An operation with one operand.
-#[tactic(auto, unfolding(lapi_base::specs::Forms::one_operand_form))]
+#[tactic(auto, unfolding(lapi_base::specs::Input::Forms::one_operand_form))]
 fn one_operand(target: u32, op: RmwOp, words: &mut Words) -> Result<Statement, LineFault>
     ensures { Gives (λ s. s) result (run (one_operand_form target op) words.old) }
 {
@@ -30,7 +30,7 @@ fn one_operand(target: u32, op: RmwOp, words: &mut Words) -> Result<Statement, L
     })
 }
 
-#[tactic(auto, unfolding(lapi_base::specs::Forms::cas_form))]
+#[tactic(auto, unfolding(lapi_base::specs::Input::Forms::cas_form))]
 fn cas(target: u32, words: &mut Words) -> Result<Statement, LineFault>
     ensures { Gives (λ s. s) result (run (cas_form target) words.old) }
 {
@@ -51,7 +51,7 @@ fn cas(target: u32, words: &mut Words) -> Result<Statement, LineFault>
     })
 }
 
-#[tactic(auto, unfolding(lapi_base::specs::Forms::rmw_form))]
+#[tactic(auto, unfolding(lapi_base::specs::Input::Forms::rmw_form))]
 pub(crate) fn rmw(words: &mut Words) -> Result<Statement, LineFault>
     ensures { Gives (λ s. s) result (run rmw_form words.old) }
 {

@@ -1,7 +1,7 @@
 //! Statements that write bytes, or send them.
 
 ghost use Rattle.std.specs.Prelude.{◌≡◌};
-ghost use Rattle.lapi_base.specs.Forms.{run, store_form, put_form, get_form, amsend_form};
+ghost use Rattle.lapi_base.specs.Input.Forms.{run, store_form, put_form, get_form, amsend_form};
 ghost use Rattle.lapi_script.specs.Gives.{Gives};
 
 use crate::fault::LineFault;
@@ -10,7 +10,7 @@ use crate::words::Words;
 use lapi_base::Statement;
 use std::alloc::Global;
 
-#[tactic(auto, unfolding(lapi_base::specs::Forms::store_form))]
+#[tactic(auto, unfolding(lapi_base::specs::Input::Forms::store_form))]
 pub(crate) fn store(alloc: Global, words: &mut Words) -> Result<Statement, LineFault>
     ensures { Gives (λ s. s) result (run store_form words.old) }
 {
@@ -20,7 +20,7 @@ pub(crate) fn store(alloc: Global, words: &mut Words) -> Result<Statement, LineF
     Ok(Statement::Store { at, bytes })
 }
 
-#[tactic(auto, unfolding(lapi_base::specs::Forms::put_form))]
+#[tactic(auto, unfolding(lapi_base::specs::Input::Forms::put_form))]
 pub(crate) fn put(words: &mut Words) -> Result<Statement, LineFault>
     ensures { Gives (λ s. s) result (run put_form words.old) }
 {
@@ -43,7 +43,7 @@ pub(crate) fn put(words: &mut Words) -> Result<Statement, LineFault>
     })
 }
 
-#[tactic(auto, unfolding(lapi_base::specs::Forms::get_form))]
+#[tactic(auto, unfolding(lapi_base::specs::Input::Forms::get_form))]
 pub(crate) fn get(words: &mut Words) -> Result<Statement, LineFault>
     ensures { Gives (λ s. s) result (run get_form words.old) }
 {
@@ -64,7 +64,7 @@ pub(crate) fn get(words: &mut Words) -> Result<Statement, LineFault>
     })
 }
 
-#[tactic(auto, unfolding(lapi_base::specs::Forms::amsend_form))]
+#[tactic(auto, unfolding(lapi_base::specs::Input::Forms::amsend_form))]
 pub(crate) fn amsend(alloc: Global, words: &mut Words) -> Result<Statement, LineFault>
     ensures { Gives (λ s. s) result (run amsend_form words.old) }
 {

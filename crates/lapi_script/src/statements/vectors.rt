@@ -1,7 +1,7 @@
 //! Statements with a vector on either side.
 
 ghost use Rattle.std.specs.Prelude.{◌≡◌};
-ghost use Rattle.lapi_base.specs.Forms.{run, putv_form, getv_form};
+ghost use Rattle.lapi_base.specs.Input.Forms.{run, putv_form, getv_form};
 ghost use Rattle.lapi_script.specs.ReadLines.{HoldsStatement};
 
 use crate::fault::LineFault;
@@ -10,7 +10,7 @@ use crate::statements::ReadStatement;
 use crate::words::Words;
 use lapi_base::Statement;
 
-#[tactic(auto, unfolding(lapi_base::specs::Forms::putv_form, lapi_base::specs::Reading::keeps_pieces))]
+#[tactic(auto, unfolding(lapi_base::specs::Input::Forms::putv_form, lapi_base::specs::Input::Reading::keeps_pieces))]
 pub(crate) fn putv(words: &mut Words) -> Result<ReadStatement, LineFault>
     ensures { HoldsStatement result (run putv_form words.old) }
 {
@@ -34,7 +34,7 @@ pub(crate) fn putv(words: &mut Words) -> Result<ReadStatement, LineFault>
     })
 }
 
-#[tactic(auto, unfolding(lapi_base::specs::Forms::getv_form, lapi_base::specs::Reading::keeps_pieces))]
+#[tactic(auto, unfolding(lapi_base::specs::Input::Forms::getv_form, lapi_base::specs::Input::Reading::keeps_pieces))]
 pub(crate) fn getv(words: &mut Words) -> Result<ReadStatement, LineFault>
     ensures { HoldsStatement result (run getv_form words.old) }
 {

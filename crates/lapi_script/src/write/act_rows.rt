@@ -1,7 +1,7 @@
 //! What a schedule line does, as it is written.
 
 ghost use Rattle.std.specs.Prelude.{◌≡◌, ◌++◌, ◌∷◌, OnOk};
-ghost use Rattle.lapi_base.specs.Rows.{act_row, row_line};
+ghost use Rattle.lapi_base.specs.Input.Rows.{act_row, row_line};
 
 use crate::write::values::{number, optional_hex, put, word_with_two};
 use lapi_base::{Act, Memory};

@@ -1,7 +1,7 @@
 //! Statements as they are written.
 
 ghost use Rattle.std.specs.Prelude.{◌≡◌, ◌++◌, OnOk};
-ghost use Rattle.lapi_base.specs.Rows.{operation_word, statement_row, row_line};
+ghost use Rattle.lapi_base.specs.Input.Rows.{operation_word, statement_row, row_line};
 ghost use Rattle.lapi_script.specs.Kinds.{IsPut, IsGet, IsPutv, IsGetv, IsRmw, IsAm};
 ghost use Rattle.lapi_script.specs.Operations.{second_text, operation_text};
 

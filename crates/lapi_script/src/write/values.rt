@@ -3,7 +3,7 @@
 ghost use Rattle.std.specs.Prelude.{◌≡◌, ◌++◌, ◌∷◌, OnOk, map};
 ghost use Rattle.std.specs.List.{flat_map, join_with_byte};
 ghost use Rattle.std.specs.Fmt.{decimal};
-ghost use Rattle.lapi_base.specs.Tokens.{Counter, Hex, OptionalHex, canonical, offset_text, address_text, piece_text, vector_text};
+ghost use Rattle.lapi_base.specs.Input.Tokens.{Counter, Hex, OptionalHex, canonical, offset_text, address_text, piece_text, vector_text};
 
 use lapi_base::{Addr, Memory, Piece, Vector};
 use std::alloc::Global;

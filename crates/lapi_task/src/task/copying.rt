@@ -2,10 +2,10 @@
 ghost use Rattle.std.specs.Prelude.{◌≡◌, ℕ, ◌∷◌, [], ◌++◌, List, OnOk, slice_get, option_and_then};
 ghost use Rattle.lapi_base.specs.declared.event.Event.TheVariants.{Copy as IsCopy};
 ghost use Rattle.lapi_base.specs.declared.message.Leg.TheVariants.{Go};
-ghost use Rattle.lapi_base.specs.Names.{message};
-ghost use Rattle.lapi_base.specs.Operations.{statements};
-ghost use Rattle.lapi_base.specs.Record.{Run};
-ghost use Rattle.lapi_task.specs.Performed.{IsPerformed};
+ghost use Rattle.lapi_base.specs.Record.Names.{message};
+ghost use Rattle.lapi_base.specs.Record.Operations.{statements};
+ghost use Rattle.lapi_base.specs.Record.Wires.{Run};
+ghost use Rattle.lapi_task.specs.Supported.{IsSupported};
 ghost use Rattle.lapi_task.specs.Puts.{put_of};
 ghost use Rattle.lapi_task.specs.StandsFor.{StandsFor};
 ghost use Rattle.lapi_task.specs.Copies.{IsCopyable, IsCopied, CopiesNext};
@@ -26,7 +26,7 @@ impl Task {
         script: &Script,
         events: &mut Events,
     ) -> Result<(), Memory>
-        requires script { IsPerformed script.now }
+        requires script { IsSupported script.now }
         requires next { (t : ℕ) × (r : Run) × (i : ℕ) × (rest : List ℕ) × CopiesNext script.now t self.old r i rest }
         ensures stands { OnOk result ((t : ℕ) (r : Run) (i : ℕ) (rest : List ℕ) → CopiesNext script.now t self.old r i rest → StandsFor script.now t self.new (record r { journal = IsCopy (message t i Go) ∷ r.journal })) }
         ensures event { OnOk result ((t : ℕ) (r : Run) (i : ℕ) (rest : List ℕ) → CopiesNext script.now t self.old r i rest → (events.new ≡ events.old ++ IsCopy (message t i Go) ∷ []) × (self.new.uncopied.items ≡ rest)) }

@@ -1,10 +1,11 @@
 //! A poll: what was issued is copied, and what the windows allow is sent.
 ghost use Rattle.std.specs.Prelude.{◌≡◌, ℕ, ◌≤◌, ◌++◌, List, length, OnOk};
-ghost use Rattle.lapi_base.specs.Record.{Run, copy_each, ready, poll};
-ghost use Rattle.lapi_base.specs.Seen.{no_rules};
-ghost use Rattle.lapi_task.specs.Performed.{IsPerformed};
+ghost use Rattle.lapi_base.specs.Record.Wires.{Run};
+ghost use Rattle.lapi_base.specs.Record.Acts.{copy_each, ready, poll};
+ghost use Rattle.lapi_base.specs.Record.WorldView.{no_rules};
+ghost use Rattle.lapi_task.specs.Supported.{IsSupported};
 ghost use Rattle.lapi_task.specs.StandsFor.{StandsFor};
-ghost use Rattle.lapi_task.specs.Does.{IsAt, IsAtSome, Does};
+ghost use Rattle.lapi_task.specs.HasEffect.{IsAt, IsAtSome, HasEffect};
 ghost use Rattle.lapi_task.specs.Copies.{AllCopied, AllSent, packets_now};
 ghost use Rattle.lapi_task.specs.Sends.{entries_of};
 
@@ -17,9 +18,9 @@ use std::alloc::Global;
 impl Task {
     /// Copies what was issued, and sends what the windows allow.
     pub fn poll(&mut self, alloc: Global, script: &Script, out: &mut Outcome) -> Result<(), Memory>
-        requires script { IsPerformed script.now }
+        requires script { IsSupported script.now }
         requires record { IsAtSome script.now self.old }
-        ensures { OnOk result ((t : ℕ) (r : Run) → IsAt script.now t self.old r → Does script.now t r (poll script.now no_rules r t) self.new out.old out.new) }
+        ensures { OnOk result ((t : ℕ) (r : Run) → IsAt script.now t self.old r → HasEffect script.now t r (poll script.now no_rules r t) self.new out.old out.new) }
     {
         self.copy_all(alloc, script, &mut out.events)?;
         send_all(&mut self.senders, script.tasks, &mut out.entries)
@@ -32,7 +33,7 @@ impl Task {
         script: &Script,
         events: &mut Events,
     ) -> Result<(), Memory>
-        requires script { IsPerformed script.now }
+        requires script { IsSupported script.now }
         requires record { IsAtSome script.now self.old }
         ensures { OnOk result ((t : ℕ) (r : Run) → IsAt script.now t self.old r → AllCopied script.now t r self.new events.old events.new) }
     {

@@ -4,15 +4,16 @@ ghost use Rattle.lapi_base.specs.declared.script.Script.{Script};
 ghost use Rattle.lapi_base.specs.declared.packet.Packet.{Packet as ThePacket};
 ghost use Rattle.lapi_base.specs.declared.packet.Packet.TheVariants.{Data};
 ghost use Rattle.lapi_base.specs.declared.reply.Bad.{Bad};
-ghost use Rattle.lapi_base.specs.Arrived.{noted};
-ghost use Rattle.lapi_base.specs.Record.{Run, deliver};
-ghost use Rattle.lapi_base.specs.Seen.{no_rules};
-ghost use Rattle.lapi_base.specs.Spelling.{Spells, HasSpelling, decoded};
+ghost use Rattle.lapi_base.specs.Record.Arrived.{noted};
+ghost use Rattle.lapi_base.specs.Record.Wires.{Run};
+ghost use Rattle.lapi_base.specs.Record.Acts.{deliver};
+ghost use Rattle.lapi_base.specs.Record.WorldView.{no_rules};
+ghost use Rattle.lapi_base.specs.Packet.Spelling.{Spells, HasSpelling, decoded};
 ghost use Rattle.lapi_link.specs.declared.arrival.Arrival.TheVariants as arrivals;
-ghost use Rattle.lapi_link.specs.Receiver.{ReceivingEnd, ReceivesFor, Fits, arrival_of};
-ghost use Rattle.lapi_task.specs.Performed.{IsPerformed};
-ghost use Rattle.lapi_task.specs.Does.{IsAt, Does, IsOnWire, received_as};
-ghost use Rattle.lapi_task.specs.Landed.{ArrivalSuits, HeadSuits, HasArrived, note_packet, with_note, MayTake, HasCome};
+ghost use Rattle.lapi_link.specs.Receiver.{ReceivingEnd, ReceivesFor, MayArrive, arrival_of};
+ghost use Rattle.lapi_task.specs.Supported.{IsSupported};
+ghost use Rattle.lapi_task.specs.HasEffect.{IsAt, HasEffect, IsOnWire, received_as};
+ghost use Rattle.lapi_task.specs.Landed.{ArrivalMayLand, HeadMayLand, HasArrived, note_packet, with_note, MayTake, HasCome};
 
 use crate::counting::announce;
 use crate::note::{append_note, note_of};
@@ -36,8 +37,8 @@ impl Task {
     ) -> Result<Received, Memory>
         requires { (p : ThePacket) → Spells p bytes.now → IsOnWire self.old from p }
         ensures refused { (bad : Bad) → decoded bytes.now ≡ Err bad → (result ≡ Ok (Received.Refused bad)) × (self.new ≡ self.old) × (out.new ≡ out.old) }
-        ensures told { IfOk result (λ received. received ≡ received_as (decoded bytes.now)) }
-        ensures does { OnOk result ((script : Script) (t k : ℕ) (r : Run) (p : ThePacket) → IsPerformed script → IsAt script t self.old r → from < script.tasks → Spells p bytes.now → slice_get (r.wire from t) k ≡ Some p → Does script t r (deliver script no_rules r from t k) self.new out.old out.new) }
+        ensures kind { IfOk result (λ received. received ≡ received_as (decoded bytes.now)) }
+        ensures effect { OnOk result ((script : Script) (t k : ℕ) (r : Run) (p : ThePacket) → IsSupported script → IsAt script t self.old r → from < script.tasks → Spells p bytes.now → slice_get (r.wire from t) k ≡ Some p → HasEffect script t r (deliver script no_rules r from t k) self.new out.old out.new) }
     {
         match decode(bytes) {
             Err(bad) => Ok(Received::Refused(bad)),
@@ -61,7 +62,7 @@ impl Task {
         out: &mut Outcome,
     ) -> Result<(), Memory>
         requires { IsOnWire self.old from (Data packet.now) }
-        ensures { OnOk result ((script : Script) (t k : ℕ) (r : Run) → IsPerformed script → IsAt script t self.old r → from < script.tasks → slice_get (r.wire from t) k ≡ Some (Data packet.now) → Does script t r (deliver script no_rules r from t k) self.new out.old out.new) }
+        ensures { OnOk result ((script : Script) (t k : ℕ) (r : Run) → IsSupported script → IsAt script t self.old r → from < script.tasks → slice_get (r.wire from t) k ≡ Some (Data packet.now) → HasEffect script t r (deliver script no_rules r from t k) self.new out.old out.new) }
     {
         let arrival = take(&mut self.receivers, alloc, from, packet)?;
         self.take_effect(alloc, from, &arrival, &mut out.events)?;
@@ -77,7 +78,7 @@ impl Task {
         events: &mut Events,
     ) -> Result<(), Memory>
         requires link { from < length self.old.senders.items }
-        requires suits { ArrivalSuits self.old.number from arrival.now self.old.memory self.old.counters }
+        requires allowed { ArrivalMayLand self.old.number from arrival.now self.old.memory self.old.counters }
         ensures { OnOk result (HasArrived from arrival.now self.old self.new events.old events.new) }
     {
         match arrival {
@@ -95,7 +96,7 @@ impl Task {
         events: &mut Events,
     ) -> Result<(), Memory>
         requires link { from < length self.old.senders.items }
-        requires suits { HeadSuits self.old.number from message.now.name message.now.head message.now.bytes self.old.memory self.old.counters }
+        requires allowed { HeadMayLand self.old.number from message.now.name message.now.head message.now.bytes self.old.memory self.old.counters }
         ensures { OnOk result (HasArrived from (arrivals.Whole message.now) self.old self.new events.old events.new) }
     {
         events.push(Event::Land(message.name))?;
@@ -142,7 +143,7 @@ fn take(
 ) -> Result<Arrival, Memory>
     requires { MayTake receivers.old from packet.now }
     ensures taken { OnOk result ((end : ReceivingEnd) → slice_get receivers.old from ≡ Some end → HasCome receivers.old receivers.new from packet.now end) }
-    ensures arrival { IfOk result (λ arrival. (end : ReceivingEnd) (script : Script) (packets : List ThePacket) → slice_get receivers.old from ≡ Some end → ReceivesFor script end packets → Fits script packets packet.now → arrival ≡ arrival_of script packets packet.now) }
+    ensures arrival { IfOk result (λ arrival. (end : ReceivingEnd) (script : Script) (packets : List ThePacket) → slice_get receivers.old from ≡ Some end → ReceivesFor script end packets → MayArrive script packets packet.now → arrival ≡ arrival_of script packets packet.now) }
 {
     receivers[from as usize].arrive(alloc, packet)
 }

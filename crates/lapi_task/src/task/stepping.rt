@@ -1,15 +1,16 @@
 //! How a task begins, and how it performs its statements.
 ghost use Rattle.std.specs.Prelude.{◌≡◌, ℕ, ◌+◌, ◌<◌, ◌^◌, ◌∷◌, [], ◌++◌, false, IsTrue, IfOk, OnOk, length};
 ghost use Rattle.std.specs.List.{AllByRecursion};
-ghost use Rattle.lapi_base.specs.Record.{Run, start, step};
-ghost use Rattle.lapi_base.specs.Seen.{no_rules};
-ghost use Rattle.lapi_base.specs.Layout.{window_of, unit_of};
-ghost use Rattle.lapi_link.specs.Sender.{IsFresh};
+ghost use Rattle.lapi_base.specs.Record.Wires.{Run, start};
+ghost use Rattle.lapi_base.specs.Record.Acts.{step};
+ghost use Rattle.lapi_base.specs.Record.WorldView.{no_rules};
+ghost use Rattle.lapi_base.specs.Packet.Layout.{window_of, unit_of};
+ghost use Rattle.lapi_link.specs.Sender.{IsNewSender};
 ghost use Rattle.lapi_link.specs.Receiver.{IsBlank};
-ghost use Rattle.lapi_task.specs.Performed.{IsPerformed};
+ghost use Rattle.lapi_task.specs.Supported.{IsSupported};
 ghost use Rattle.lapi_task.specs.StandsFor.{StandsFor};
-ghost use Rattle.lapi_task.specs.Steps.{Suits, IsRefused, IsIssued, IsPassed, IsBlocked, IsPast};
-ghost use Rattle.lapi_task.specs.Does.{IsAt, IsAtSome, Does};
+ghost use Rattle.lapi_task.specs.Steps.{MayStep, IsRefused, IsIssued, PassesWait, IsBlocked, Advances};
+ghost use Rattle.lapi_task.specs.HasEffect.{IsAt, IsAtSome, HasEffect};
 
 use crate::outcome::Outcome;
 use crate::reason::reason_of;
@@ -25,7 +26,7 @@ use std::collections::VecDeque;
 impl Task {
     /// A task of the script before its first line.
     pub fn new(alloc: Global, script: &Script, task: u32) -> Result<Task, Memory>
-        requires script { IsPerformed script.now }
+        requires script { IsSupported script.now }
         requires task { task < script.now.tasks }
         ensures { IfOk result (λ made. StandsFor script.now task made start) }
     {
@@ -48,9 +49,9 @@ impl Task {
 
     /// Performs the next statement, if its condition holds.
     pub fn step(&mut self, script: &Script, out: &mut Outcome) -> Result<Reply, Memory>
-        requires script { IsPerformed script.now }
+        requires script { IsSupported script.now }
         requires record { IsAtSome script.now self.old }
-        ensures does { OnOk result ((t : ℕ) (r : Run) → IsAt script.now t self.old r → Does script.now t r (step script.now no_rules r t) self.new out.old out.new) }
+        ensures effect { OnOk result ((t : ℕ) (r : Run) → IsAt script.now t self.old r → HasEffect script.now t r (step script.now no_rules r t) self.new out.old out.new) }
         ensures reply { IfOk result (λ reply. (t : ℕ) (r : Run) → IsAt script.now t self.old r → (step script.now no_rules r t).replies ≡ r.replies ++ reply ∷ []) }
     {
         let Some(statement) = statement_of(script, self.number, self.next) else {
@@ -86,7 +87,7 @@ impl Task {
     fn wait(&mut self, counter: u32, value: u32, out: &mut Outcome) -> Result<bool, Memory>
         requires next { self.old.next + 1 < 2 ^ 32 }
         requires counter { counter < length self.old.counters }
-        ensures passed { IfOk result (λ is_past. IsTrue is_past → IsPassed counter value self.old self.new out.old out.new) }
+        ensures passed { IfOk result (λ is_past. IsTrue is_past → PassesWait counter value self.old self.new out.old out.new) }
         ensures blocked { IfOk result (λ is_past. is_past ≡ false → IsBlocked counter value self.old self.new out.old out.new) }
     {
         if !self.counters.try_wait(counter, value) {
@@ -103,7 +104,7 @@ impl Task {
     /// The next statement is issued.
     fn issue(&mut self, statement: &Statement, out: &mut Outcome) -> Result<(), Memory>
         requires next { self.old.next + 1 < 2 ^ 32 }
-        requires suits { Suits statement.now self.old.memory self.old.counters }
+        requires allowed { MayStep statement.now self.old.memory self.old.counters }
         ensures { OnOk result (IsIssued statement.now self.old self.new out.old out.new) }
     {
         match statement {
@@ -125,7 +126,7 @@ impl Task {
 
     fn advance(&mut self, event: Event, out: &mut Outcome) -> Result<(), Memory>
         requires { self.old.next + 1 < 2 ^ 32 }
-        ensures past { OnOk result (IsPast event self.old self.new out.old out.new) }
+        ensures past { OnOk result (Advances event self.old self.new out.old out.new) }
         ensures rest { self.new ≡ record self.old { next = self.new.next } }
     {
         out.events.push(event)?;
@@ -137,7 +138,7 @@ impl Task {
 /// The sending ends of the links to each task.
 fn senders(alloc: Global, script: &Script) -> Result<Vec<Sender>, Memory>
     ensures count { IfOk result (λ made. length made.items ≡ script.now.tasks) }
-    ensures fresh { IfOk result (λ made. AllByRecursion (IsFresh (window_of script.now)) made.items) }
+    ensures fresh { IfOk result (λ made. AllByRecursion (IsNewSender (window_of script.now)) made.items) }
 {
     let mut senders = Vec::new(alloc);
     for _task in 0..script.tasks {

@@ -1,5 +1,5 @@
 use Rattle.std.proofs.Common.{map, sym, ap, ◌∙◌}
-use Rattle.lapi_base.specs.Operations.{pieces_of}
+use Rattle.lapi_base.specs.Record.Operations.{pieces_of}
 use Rattle.lapi_calls.specs.declared.reach.Reach.{Reach}
 use Rattle.lapi_calls.specs.Reaches.{reach_of, stride_reaches}
 use Rattle.lapi_calls.proofs.ReasonLaws.{strides-are}

@@ -1,5 +1,5 @@
 use Rattle.std.proofs.Common.{◌≡◌, length}
-use Rattle.lapi_base.specs.Refusals.{first_reason}
+use Rattle.lapi_base.specs.Record.Refusals.{first_reason}
 use Rattle.lapi_calls.proofs.reason.first_reason.Given as goal
 
 abbrev pub invariant-loop-rest : goal.invariant-loop-rest

@@ -1,9 +1,9 @@
 use Rattle.std.proofs.Common.{map, sym, ap, ◌∙◌, subst}
 use Rattle.std.specs.Prelude.{unwrap_or}
 use Rattle.lapi_base.specs.declared.statement.Statement.{Statement}
-use Rattle.lapi_base.specs.Operations.{statement, target, target_of, target_pieces, origin_pieces}
-use Rattle.lapi_base.specs.Refusals.{first_reason}
-use Rattle.lapi_base.specs.Valid.{ValidStatement}
+use Rattle.lapi_base.specs.Record.Operations.{statement, target, target_of, target_pieces, origin_pieces}
+use Rattle.lapi_base.specs.Record.Refusals.{first_reason}
+use Rattle.lapi_base.specs.Record.Valid.{ValidStatement}
 use Rattle.lapi_calls.specs.Entries.{is_told}
 use Rattle.lapi_calls.specs.Reaches.{reach_of}
 use Rattle.lapi_calls.specs.Reasons.{reach_tests}

@@ -1,4 +1,4 @@
-use Rattle.lapi_base.specs.Atomic.{Atomic}
+use Rattle.lapi_base.specs.Record.Atomic.{Atomic}
 use Rattle.lapi_laws.proofs.Laws.{in-time}
 use Rattle.lapi_laws.proofs.Once.{of-journals}
 use Rattle.lapi_laws.proofs.Runs.{run-sound}

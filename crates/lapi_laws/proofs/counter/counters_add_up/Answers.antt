@@ -1,4 +1,4 @@
-use Rattle.lapi_base.specs.Headline.{CountersAddUp}
+use Rattle.lapi_base.specs.Laws.Headline.{CountersAddUp}
 use Rattle.lapi_laws.proofs.Once.{of-journals}
 use Rattle.lapi_laws.proofs.Counts.{counters-add-up, counters-start}
 use Rattle.lapi_laws.proofs.counter.counters_add_up.Goals as goal

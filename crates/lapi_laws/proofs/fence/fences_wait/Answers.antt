@@ -1,4 +1,4 @@
-use Rattle.lapi_base.specs.Headline.{FencesWait, GlobalFencesWait}
+use Rattle.lapi_base.specs.Laws.Headline.{FencesWait, GlobalFencesWait}
 use Rattle.lapi_laws.proofs.Once.{of-journals}
 use Rattle.lapi_laws.proofs.Fences.{fences-wait, global-fences-wait}
 use Rattle.lapi_laws.proofs.fence.fences_wait.Goals as goal

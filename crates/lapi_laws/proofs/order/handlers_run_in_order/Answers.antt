@@ -1,4 +1,4 @@
-use Rattle.lapi_base.specs.Headline.{HandlersOnce, HandlersInOrder}
+use Rattle.lapi_base.specs.Laws.Headline.{HandlersOnce, HandlersInOrder}
 use Rattle.lapi_laws.proofs.Once.{handlers-once, handlers-in-order, of-journals}
 use Rattle.lapi_laws.proofs.order.handlers_run_in_order.Goals as goal
 

@@ -1,4 +1,4 @@
-use Rattle.lapi_base.specs.Headline.{LandsOnce}
+use Rattle.lapi_base.specs.Laws.Headline.{LandsOnce}
 use Rattle.lapi_laws.proofs.Once.{lands-once, of-journals}
 use Rattle.lapi_laws.proofs.order.messages_land_once.Goals as goal
 

@@ -1,5 +1,5 @@
 use Rattle.std.proofs.Common.{◌∙◌, arith}
-use Rattle.lapi_base.specs.Spelling.{packet_form}
+use Rattle.lapi_base.specs.Packet.Spelling.{packet_form}
 use Rattle.lapi_base.proofs.FormLaws.{answer_spelled}
 use Rattle.lapi_packet.proofs.Answering.{found_if, refused_if}
 use Rattle.lapi_packet.proofs.decoding.decode.Goals as goal

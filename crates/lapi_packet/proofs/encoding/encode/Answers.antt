@@ -1,5 +1,5 @@
 use Rattle.std.proofs.Common.{◌∙◌, sym, subst, List, ℕ}
-use Rattle.lapi_base.specs.Spelling.{Spells}
+use Rattle.lapi_base.specs.Packet.Spelling.{Spells}
 use Rattle.lapi_base.proofs.Spellings.{spelling_is}
 use Rattle.lapi_packet.proofs.encoding.encode.Goals as goal
 

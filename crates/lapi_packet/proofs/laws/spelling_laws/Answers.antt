@@ -1,5 +1,5 @@
 use Rattle.std.proofs.Common.{◌∙◌, sym, refl}
-use Rattle.lapi_base.specs.Spelling.{packet_form}
+use Rattle.lapi_base.specs.Packet.Spelling.{packet_form}
 use Rattle.lapi_base.proofs.FormLaws.{answer_spelled, no_prefix, at_most_spelling}
 use Rattle.lapi_packet.proofs.Lengths.{at_most_packet}
 use Rattle.lapi_base.proofs.Spellings.{spelling_is, one_packet}

@@ -1,6 +1,6 @@
 use Rattle.std.proofs.Common.{◌≡◌, ◌-◌, length}
-use Rattle.lapi_base.specs.Form.{reading, repeated}
-use Rattle.lapi_base.specs.Parts.{covering_form, covering_span, left_behind}
+use Rattle.lapi_base.specs.Packet.Format.{reading, repeated}
+use Rattle.lapi_base.specs.Packet.Fields.{covering_form, covering_span, left_behind}
 use Rattle.lapi_base.proofs.FormLists.{with_front}
 use Rattle.lapi_packet.proofs.spans.read_covering.Given as goal
 

@@ -1,7 +1,7 @@
 use Rattle.std.proofs.Common.{◌≡◌, ℕ, ◌-◌, ◌++◌, Ok, Err, subst, ◌+◌, List, [], ◌∷◌, length, drop, arith}
 use Rattle.std.proofs.lemmas.List.{length-append}
-use Rattle.lapi_base.specs.Form.{reading, repeated}
-use Rattle.lapi_base.specs.Parts.{matching_form, matching_span, behind}
+use Rattle.lapi_base.specs.Packet.Format.{reading, repeated}
+use Rattle.lapi_base.specs.Packet.Fields.{matching_form, matching_span, behind}
 use Rattle.lapi_base.specs.declared.reply.Reason.{Reason}
 use Rattle.lapi_base.specs.declared.span.Span.{Span}
 use Rattle.lapi_packet.proofs.MatchingSpans.{span_at, behind_at}

@@ -1,6 +1,6 @@
 use Rattle.std.proofs.Common.{◌≡◌, ◌-◌, length, drop}
-use Rattle.lapi_base.specs.Form.{reading, repeated}
-use Rattle.lapi_base.specs.Parts.{matching_form, matching_span, behind}
+use Rattle.lapi_base.specs.Packet.Format.{reading, repeated}
+use Rattle.lapi_base.specs.Packet.Fields.{matching_form, matching_span, behind}
 use Rattle.lapi_base.proofs.FormLists.{with_front}
 use Rattle.lapi_packet.proofs.spans.read_matching.Given as goal
 

@@ -1,7 +1,7 @@
 use Rattle.std.proofs.Common.{◌-◌, ◌+◌, [], ◌∷◌, arith}
 use Rattle.std.proofs.lemmas.List.{length-append}
-use Rattle.lapi_base.specs.Form.{reading}
-use Rattle.lapi_base.specs.Parts.{within_form, within_span, left_behind}
+use Rattle.lapi_base.specs.Packet.Format.{reading}
+use Rattle.lapi_base.specs.Packet.Fields.{within_form, within_span, left_behind}
 use Rattle.lapi_base.proofs.FormLists.{begins, goes_on, ends, is_done}
 use Rattle.lapi_packet.proofs.spans.read_within.Goals as goal
 

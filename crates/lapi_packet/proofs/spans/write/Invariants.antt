@@ -1,5 +1,5 @@
 use Rattle.std.proofs.Common.{◌≡◌, ◌+◌, ◌*◌, ◌++◌, length, take}
-use Rattle.lapi_base.specs.Written as written
+use Rattle.lapi_base.specs.Packet.PacketBytes as written
 use Rattle.lapi_packet.proofs.spans.write.Given as goal
 
 abbrev pub invariant-loop-span : goal.invariant-loop-span

@@ -2,7 +2,7 @@ use Rattle.std.proofs.Common.{◌≡◌, ◌≤◌, ◌+◌, ◌*◌, ◌++◌, 
 use Rattle.std.specs.Prelude.{codes}
 use Rattle.std.specs.List.{flat_map}
 use Rattle.lapi_base.specs.declared.span.Span.{Span}
-use Rattle.lapi_base.specs.PacketText.{span_word}
+use Rattle.lapi_base.specs.Output.PacketText.{span_word}
 use Rattle.lapi_report.proofs.head.add_others.Given as goal
 
 abbrev pub invariant-loop-span : goal.invariant-loop-span

@@ -1,5 +1,5 @@
 use Rattle.std.proofs.Common.{rules}
-use Rattle.lapi_base.specs.JournalText.{event_line}
+use Rattle.lapi_base.specs.Output.JournalText.{event_line}
 use Rattle.lapi_report.proofs.Progress.{refused, item_written, item_stops}
 use Rattle.lapi_report.proofs.journal.write_events.Goals as goal
 

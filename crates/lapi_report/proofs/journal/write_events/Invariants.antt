@@ -1,7 +1,7 @@
 use Rattle.std.proofs.Common.{◌≡◌, ◌≤◌, drop}
 use Rattle.std.specs.List.{flat_map}
-use Rattle.lapi_base.specs.JournalText.{event_line}
-use Rattle.lapi_report.specs.Written.{Progress}
+use Rattle.lapi_base.specs.Output.JournalText.{event_line}
+use Rattle.lapi_report.specs.SinkWrites.{Progress}
 use Rattle.lapi_report.proofs.journal.write_events.Given as goal
 
 abbrev pub invariant-loop-event : goal.invariant-loop-event

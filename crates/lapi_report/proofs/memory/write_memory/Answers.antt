@@ -1,7 +1,7 @@
 use Rattle.std.proofs.Common.{rules, ◌<◌, ◌≤◌}
 use Rattle.std.specs.Prelude.{length}
 use Rattle.std.specs.Int.{div_ceil}
-use Rattle.lapi_base.specs.ReportText.{numbered_row_text}
+use Rattle.lapi_base.specs.Output.ReportText.{numbered_row_text}
 use Rattle.lapi_report.proofs.Progress.{refused}
 use Rattle.lapi_report.proofs.Numbers.{number_written, number_stops, numbers_done}
 use Rattle.lapi_report.proofs.memory.write_memory.Goals as goal

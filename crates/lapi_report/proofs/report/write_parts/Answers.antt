@@ -1,5 +1,5 @@
 use Rattle.std.proofs.Common.{rules}
-use Rattle.lapi_base.specs.ReportText.{report_text}
+use Rattle.lapi_base.specs.Output.ReportText.{report_text}
 use Rattle.lapi_report.proofs.Progress.{refused, stops_early, stops_later, then_wrote}
 use Rattle.lapi_report.proofs.report.write_parts.Goals as goal
 

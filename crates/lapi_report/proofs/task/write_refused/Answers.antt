@@ -1,5 +1,5 @@
 use Rattle.std.proofs.Common.{rules}
-use Rattle.lapi_base.specs.ReportText.{refused_if}
+use Rattle.lapi_base.specs.Output.ReportText.{refused_if}
 use Rattle.lapi_report.proofs.Progress.{refused, item_written, item_stops}
 use Rattle.lapi_report.proofs.task.write_refused.Goals as goal
 

@@ -1,7 +1,7 @@
 use Rattle.std.proofs.Common.{◌≡◌, ◌≤◌, drop}
 use Rattle.std.specs.List.{flat_map}
-use Rattle.lapi_base.specs.ReportText.{refused_if}
-use Rattle.lapi_report.specs.Written.{Progress}
+use Rattle.lapi_base.specs.Output.ReportText.{refused_if}
+use Rattle.lapi_report.specs.SinkWrites.{Progress}
 use Rattle.lapi_report.proofs.task.write_refused.Given as goal
 
 abbrev pub invariant-loop-refusal : goal.invariant-loop-refusal

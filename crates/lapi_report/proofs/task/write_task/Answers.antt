@@ -1,8 +1,8 @@
 use Rattle.std.proofs.Common.{rules, sym, ap, ◌∙◌}
 use Rattle.lapi_base.specs.declared.rule.Rules.{Rules}
-use Rattle.lapi_base.specs.Seen.{seen_record}
-use Rattle.lapi_base.specs.Values.{memory_bytes}
-use Rattle.lapi_base.specs.ReportText.{task_text}
+use Rattle.lapi_base.specs.Record.WorldView.{view_record}
+use Rattle.lapi_base.specs.Record.Values.{memory_bytes}
+use Rattle.lapi_base.specs.Output.ReportText.{task_text}
 use Rattle.lapi_report.proofs.Progress.{refused, stops_early, stops_later, then_wrote}
 use Rattle.lapi_report.proofs.task.write_task.Goals as goal
 
@@ -37,7 +37,7 @@ returns-in_err-write_counters g c = record {
 pub returns : goal.returns
 unfolding task_text
 returns g c =
-    let told = c.bytes_of.ensures ∙ c.memory.ensures c.args.world.now.script c.args.t (seen_record c.args.world.now) (c.task.ensures.stands c.requires.spent).stands ∙ ap (λ (rules : Rules). memory_bytes c.args.world.now.script rules (seen_record c.args.world.now).journal c.args.t) (sym c.task.ensures.rules) in
+    let told = c.bytes_of.ensures ∙ c.memory.ensures c.args.world.now.script c.args.t (view_record c.args.world.now) (c.task.ensures.stands c.requires.spent).stands ∙ ap (λ (rules : Rules). memory_bytes c.args.world.now.script rules (view_record c.args.world.now).journal c.args.t) (sym c.task.ensures.rules) in
     let memory = rw told at c.write_memory.ensures.text in
     record {
       text = then_wrote _ _ _ _ _ _ c.in_ok-write_standing.ensures.text (then_wrote _ _ _ _ _ _ c.in_ok-write_statements.ensures.text (then_wrote _ _ _ _ _ _ c.in_ok-write_counters.ensures.text memory));

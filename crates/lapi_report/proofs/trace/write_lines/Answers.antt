@@ -3,7 +3,7 @@ use Rattle.std.proofs.lemmas.List.{length_push}
 use Rattle.std.proofs.lemmas.Slice.Zip.{zip_turn, zip_end}
 use Rattle.std.specs.Slice.Iter.{iter_rest}
 use Rattle.std.specs.Iterator.Adapters.{zip_first, zip_second}
-use Rattle.lapi_base.specs.TraceText.{taken_text}
+use Rattle.lapi_base.specs.Output.TraceText.{taken_text}
 use Rattle.lapi_report.proofs.Pairs.{pair_written, pair_stops, pairs_done}
 use Rattle.lapi_report.proofs.Progress.{refused}
 use Rattle.lapi_report.proofs.trace.write_lines.Goals as goal

@@ -1,7 +1,7 @@
 use Rattle.std.proofs.Common.{◌≡◌, ◌≤◌, drop, length}
 use Rattle.std.specs.List.{flat_map, zip}
-use Rattle.lapi_base.specs.TraceText.{taken_text, trace_text}
-use Rattle.lapi_report.specs.Written.{Progress}
+use Rattle.lapi_base.specs.Output.TraceText.{taken_text, trace_text}
+use Rattle.lapi_report.specs.SinkWrites.{Progress}
 use Rattle.lapi_report.proofs.trace.write_lines.Given as goal
 
 abbrev pub invariant-loop-n : goal.invariant-loop-n

@@ -1,6 +1,6 @@
 use Rattle.std.proofs.Common.{◌≡◌, ◌≤◌, drop}
-use Rattle.lapi_base.specs.WireText.{entry_lines}
-use Rattle.lapi_report.specs.Written.{Progress}
+use Rattle.lapi_base.specs.Output.WireText.{entry_lines}
+use Rattle.lapi_report.specs.SinkWrites.{Progress}
 use Rattle.lapi_report.proofs.wire.write_entries.Given as goal
 
 abbrev pub invariant-loop-k : goal.invariant-loop-k

@@ -2,7 +2,7 @@ use Rattle.std.proofs.Common.{◌≡◌, List, length}
 use Rattle.std.specs.Prelude.{◌==◌}
 use Rattle.std.specs.List.{slice_split}
 use Rattle.lapi_base.specs.declared.piece.Piece.{Piece}
-use Rattle.lapi_base.specs.Tokens.{pieces_of}
+use Rattle.lapi_base.specs.Input.Tokens.{pieces_of}
 use Rattle.lapi_script.specs.Vectors.{address_by}
 use Rattle.lapi_script.proofs.PieceLists.{with_front, IsSeen}
 use Rattle.lapi_script.proofs.pieces.pieces_of.Given as goal

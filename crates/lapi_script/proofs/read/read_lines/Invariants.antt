@@ -1,6 +1,6 @@
 use Rattle.std.proofs.Common.{◌≡◌, ◌≤◌, ◌+◌, length}
-use Rattle.lapi_base.specs.Lines.{lines_of}
-use Rattle.lapi_base.specs.Reading.{read_from, First}
+use Rattle.lapi_base.specs.Input.Lines.{lines_of}
+use Rattle.lapi_base.specs.Input.Reading.{read_from, First}
 use Rattle.lapi_script.specs.States.{state_of}
 use Rattle.lapi_script.proofs.read.read_lines.Given as goal
 

@@ -1,5 +1,5 @@
 use Rattle.std.proofs.Common.{◌≡◌, length}
-use Rattle.lapi_base.specs.Lines.{is_clean}
+use Rattle.lapi_base.specs.Input.Lines.{is_clean}
 use Rattle.lapi_script.proofs.scan.is_clean.Given as goal
 
 abbrev pub invariant-loop-rest : goal.invariant-loop-rest

@@ -1,5 +1,5 @@
 use Rattle.std.proofs.Common.{◌≡◌, take}
-use Rattle.lapi_base.specs.Lines.{is_clean}
+use Rattle.lapi_base.specs.Input.Lines.{is_clean}
 use Rattle.lapi_script.proofs.scan.is_clean_block.Given as goal
 
 abbrev pub invariant-loop-b : goal.invariant-loop-b

@@ -1,5 +1,5 @@
 use Rattle.std.proofs.Common.{◌≡◌, drop}
-use Rattle.lapi_base.specs.Tokens.{digits_from}
+use Rattle.lapi_base.specs.Input.Tokens.{digits_from}
 use Rattle.lapi_script.proofs.values.digits.Given as goal
 
 abbrev pub invariant-loop-byte : goal.invariant-loop-byte

@@ -1,5 +1,5 @@
 use Rattle.std.proofs.Common.{◌≡◌, length}
-use Rattle.lapi_base.specs.Lines.{words_of}
+use Rattle.lapi_base.specs.Input.Lines.{words_of}
 use Rattle.lapi_script.proofs.words.first_word.Given as goal
 
 abbrev pub invariant-loop-word : goal.invariant-loop-word

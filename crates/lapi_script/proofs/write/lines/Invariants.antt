@@ -1,6 +1,6 @@
 use Rattle.std.proofs.Common.{◌≡◌, ◌++◌, map, take}
 use Rattle.std.specs.List.{flat_map}
-use Rattle.lapi_base.specs.Rows.{row_text, line_row}
+use Rattle.lapi_base.specs.Input.Rows.{row_text, line_row}
 use Rattle.lapi_script.proofs.write.lines.Given as goal
 
 abbrev pub invariant-loop-each : goal.invariant-loop-each

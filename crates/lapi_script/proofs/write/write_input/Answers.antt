@@ -1,6 +1,6 @@
 use Rattle.std.proofs.Common.{◌≡◌, ◌≤◌, length, Ok}
-use Rattle.lapi_base.specs.Reading.{read, most_input}
-use Rattle.lapi_base.specs.Rows.{canon}
+use Rattle.lapi_base.specs.Input.Reading.{read, most_input}
+use Rattle.lapi_base.specs.Input.Rows.{canon}
 use Rattle.lapi_script.specs.Inputs.{input_of}
 use Rattle.lapi_script.proofs.Texts.{of_written}
 use Rattle.lapi_script.proofs.write.write_input.Goals as goal

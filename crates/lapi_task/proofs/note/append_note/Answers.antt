@@ -3,8 +3,8 @@ use Rattle.std.specs.Prelude.{slice_get, slice_set}
 use Rattle.std.proofs.lemmas.Option.{slice_get_read}
 use Rattle.lapi_base.specs.declared.packet.DataPacket.{DataPacket}
 use Rattle.lapi_base.specs.declared.packet.Packet.TheVariants.{Data}
-use Rattle.lapi_base.specs.Spelling.{HasSpelling}
-use Rattle.lapi_base.specs.Written as written
+use Rattle.lapi_base.specs.Packet.Spelling.{HasSpelling}
+use Rattle.lapi_base.specs.Packet.PacketBytes as written
 use Rattle.lapi_base.proofs.Results.{on-ok}
 use Rattle.lapi_link.specs.Sender.{SendingEnd, appended}
 use Rattle.lapi_task.specs.Landed.{note_packet, noted_at}

@@ -1,10 +1,10 @@
 use Rattle.std.proofs.Common.{◌≡◌, ℕ, ◌+◌, ◌<◌, map, max, sym, ap, ◌∙◌, subst, arith}
 use Rattle.lapi_base.specs.declared.packet.DataPacket.{DataPacket}
 use Rattle.lapi_base.specs.declared.packet.Packet.TheVariants.{Data}
-use Rattle.lapi_base.specs.Fragments.{fragments_in, fragment_bytes}
-use Rattle.lapi_base.specs.Operations.{upto}
-use Rattle.lapi_base.specs.Spelling.{HasSpelling}
-use Rattle.lapi_base.specs.Written as written
+use Rattle.lapi_base.specs.Record.Fragments.{fragments_in, fragment_bytes}
+use Rattle.lapi_base.specs.Record.Operations.{numbers_below}
+use Rattle.lapi_base.specs.Packet.Spelling.{HasSpelling}
+use Rattle.lapi_base.specs.Packet.PacketBytes as written
 use Rattle.lapi_link.specs.Sender.{SendingEnd, appended}
 use Rattle.lapi_task.specs.Puts.{put_packet, put_bytes, extended}
 use Rattle.lapi_task.proofs.PutPackets.{extended-none, extended-more, extended-count, fragment-count}
@@ -41,4 +41,4 @@ returns c =
     let s = c.args.sender.now in
     let f = put_bytes c.args.unit put c.args.t c.args.i s.window.numbers c.args.bytes.now in
     let end : c.max-fragment-end.result ≡ fragments_in c.args.unit put.len = c.max-fragment-end.ensures ∙ ap (λ (k : ℕ). max k 1) c.div_ceil.ensures ∙ fragment-count c.args.unit put.len c.requires.unit.0 in
-    c.loop-fragment.invariant ∙ ap (λ (k : ℕ). extended s (map f (upto k))) (let e : c.loop-fragment.fragment ≡ fragments_in c.args.unit put.len = omega (arith, c.loop-fragment-test.false, c.loop-fragment.auto.fragment-end, end) in e)
+    c.loop-fragment.invariant ∙ ap (λ (k : ℕ). extended s (map f (numbers_below k))) (let e : c.loop-fragment.fragment ≡ fragments_in c.args.unit put.len = omega (arith, c.loop-fragment-test.false, c.loop-fragment.auto.fragment-end, end) in e)

@@ -1,6 +1,6 @@
 use Rattle.std.proofs.Common.{◌≡◌}
-use Rattle.lapi_base.specs.Operations.{upto}
+use Rattle.lapi_base.specs.Record.Operations.{numbers_below}
 use Rattle.lapi_tool.proofs.performed.performed.Given as goal
 
 abbrev pub invariant-loop-n : goal.invariant-loop-n
-invariant-loop-n l = l.world ≡ record l.initial.world { taken = upto l.n }
+invariant-loop-n l = l.world ≡ record l.initial.world { taken = numbers_below l.n }

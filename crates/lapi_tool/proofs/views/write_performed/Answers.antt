@@ -1,5 +1,5 @@
 use Rattle.std.proofs.Common.{subst}
-use Rattle.lapi_report.specs.Written.{WritesWithMemory}
+use Rattle.lapi_report.specs.SinkWrites.{WritesWithMemory}
 use Rattle.lapi_tool.proofs.WorldTexts.{world_texts}
 use Rattle.lapi_tool.proofs.views.write_performed.Goals as goal
 

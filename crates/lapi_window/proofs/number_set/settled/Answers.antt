@@ -1,5 +1,5 @@
 use Rattle.std.proofs.Common.{◌≡◌, ◌+◌, sym, ap, ◌∙◌, subst, arith}
-use Rattle.lapi_base.specs.Below.{has_bit}
+use Rattle.lapi_base.specs.Record.Below.{has_bit}
 use Rattle.lapi_base.proofs.BitLaws.{IsRun, run_of}
 use Rattle.lapi_window.specs.NumberSet.{is_covered}
 use Rattle.lapi_window.proofs.Flags.{is_in-view}

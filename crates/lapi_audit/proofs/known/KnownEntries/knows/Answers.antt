@@ -1,6 +1,6 @@
 use Rattle.std.proofs.Common.{sym, ap, ◌∙◌}
-use Rattle.lapi_base.specs.Names.{Passed}
-use Rattle.lapi_base.specs.Refusals.{option_any}
+use Rattle.lapi_base.specs.Record.Names.{Passed}
+use Rattle.lapi_base.specs.Record.Refusals.{option_any}
 use Rattle.lapi_audit.specs.Noted.{stood}
 use Rattle.lapi_audit.specs.declared.operation.Operation.{Operation}
 use Rattle.lapi_audit.proofs.known.KnownEntries.knows.Goals as goal

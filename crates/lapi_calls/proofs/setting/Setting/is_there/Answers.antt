@@ -1,6 +1,6 @@
 use Rattle.std.proofs.Common.{◌∙◌, ◌&&◌, sym}
-use Rattle.lapi_base.specs.Atomic.{has_statement}
-use Rattle.lapi_base.specs.Operations.{statement}
+use Rattle.lapi_base.specs.Record.Atomic.{has_statement}
+use Rattle.lapi_base.specs.Record.Operations.{statement}
 use Rattle.lapi_calls.specs.Setting.{rules_of, has_event}
 use Rattle.lapi_calls.proofs.SettingLaws.{there_by}
 use Rattle.lapi_calls.proofs.setting.Setting.is_there.Goals as goal

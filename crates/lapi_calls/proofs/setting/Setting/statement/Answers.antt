@@ -1,7 +1,7 @@
 use Rattle.std.proofs.Common.{◌≡◌, true, false, Some, None, MatchOption, sym}
 use Rattle.std.specs.Prelude.{slice_get, option_map}
-use Rattle.lapi_base.specs.Atomic.{has_statement}
-use Rattle.lapi_base.specs.Operations.{statements, statement}
+use Rattle.lapi_base.specs.Record.Atomic.{has_statement}
+use Rattle.lapi_base.specs.Record.Operations.{statements, statement}
 use Rattle.lapi_calls.specs.Setting.{rules_of}
 use Rattle.lapi_calls.proofs.SettingLaws.{there_at, absent_at}
 use Rattle.lapi_calls.proofs.setting.Setting.statement.Goals as goal

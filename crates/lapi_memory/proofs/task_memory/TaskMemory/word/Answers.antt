@@ -1,6 +1,6 @@
 use Rattle.std.proofs.Common.{rules, ◌≡◌, ◌∙◌, sym, ap}
 use Rattle.std.specs.Int.{w32, from_be_bytes}
-use Rattle.lapi_base.specs.Handlers.{number_of}
+use Rattle.lapi_base.specs.Record.Handlers.{number_of}
 use Rattle.lapi_memory.specs.TaskMemory.{bytes_at}
 use Rattle.lapi_memory.proofs.Words.{word_at}
 use Rattle.lapi_memory.proofs.task_memory.TaskMemory.word.Goals as goal

@@ -1,6 +1,6 @@
 use Rattle.std.proofs.Common.{◌≡◌, ◌≤◌, ◌++◌, length}
 use Rattle.hex.specs.Hex.{encode_lower}
-use Rattle.lapi_report.specs.Written.{Progress}
+use Rattle.lapi_report.specs.SinkWrites.{Progress}
 use Rattle.lapi_report.proofs.text_line.TextLine.long_hex.Given as goal
 
 abbrev pub invariant-loop-rest : goal.invariant-loop-rest

@@ -1,6 +1,6 @@
 use Rattle.std.proofs.Common.{◌≡◌, ◌++◌, ◌∷◌, take}
 use Rattle.std.specs.List.{flat_map}
-use Rattle.lapi_base.specs.Tokens.{piece_text}
+use Rattle.lapi_base.specs.Input.Tokens.{piece_text}
 use Rattle.lapi_script.proofs.write.values.more_pieces.Given as goal
 
 abbrev pub invariant-loop-each : goal.invariant-loop-each

@@ -12,8 +12,8 @@ take-requires c =
     let x = c.requires in
     subst (λ ends. MayTake ends c.args.from c.args.packet.now) (sym c.deref_mut.ensures.value) (may-take x.script x.performed x.task x.run c.args.self.now x.at c.args.from x.place x.from_known c.args.packet.now x.entry)
 
-pub take_effect-requires-clause-suits : goal.take_effect-requires-clause-suits
-take_effect-requires-clause-suits c =
+pub take_effect-requires-clause-allowed : goal.take_effect-requires-clause-allowed
+take_effect-requires-clause-allowed c =
     let x = c.requires in
     let task = c.args.self.now in
     let a = c.args.from in

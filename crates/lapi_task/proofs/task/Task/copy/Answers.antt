@@ -1,7 +1,7 @@
 use Rattle.std.proofs.Common.{ℕ, List, refl, sym, ap, ◌∙◌, subst}
 use Rattle.lapi_base.specs.declared.packet.Packet.TheVariants.{Data}
-use Rattle.lapi_base.specs.Fragments.{fragment_bytes}
-use Rattle.lapi_base.specs.Spelling.{HasSpelling}
+use Rattle.lapi_base.specs.Record.Fragments.{fragment_bytes}
+use Rattle.lapi_base.specs.Packet.Spelling.{HasSpelling}
 use Rattle.lapi_base.proofs.ListLaws.{at-place}
 use Rattle.lapi_base.proofs.Results.{on-ok}
 use Rattle.lapi_memory.specs.TaskMemory.{bytes_at}

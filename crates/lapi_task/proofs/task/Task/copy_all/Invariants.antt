@@ -1,6 +1,6 @@
 use Rattle.std.proofs.Common.{ℕ}
-use Rattle.lapi_base.specs.Record.{Run}
-use Rattle.lapi_task.specs.Does.{IsAt}
+use Rattle.lapi_base.specs.Record.Wires.{Run}
+use Rattle.lapi_task.specs.HasEffect.{IsAt}
 use Rattle.lapi_task.proofs.PollCopies.{SomeCopied}
 use Rattle.lapi_task.proofs.task.Task.copy_all.Given as goal
 

@@ -1,7 +1,7 @@
 use Rattle.std.proofs.Common.{ℕ, refl, subst}
 use Rattle.lapi_base.proofs.Results.{on-ok}
 use Rattle.lapi_task.specs.declared.task.Task.{Task}
-use Rattle.lapi_base.specs.Layout.{unit_of}
+use Rattle.lapi_base.specs.Packet.Layout.{unit_of}
 use Rattle.lapi_task.specs.Copies.{IsCopied}
 use Rattle.lapi_task.proofs.CopyLaws.{popped-is, found-put, no-put, copyable, copied-stands}
 use Rattle.lapi_task.proofs.task.Task.copy_next.Goals as goal

@@ -1,10 +1,10 @@
 use Rattle.std.proofs.Common.{sym, ap, ◌∙◌, Some}
-use Rattle.lapi_task.specs.Performed.{reason_of}
+use Rattle.lapi_task.specs.Supported.{reason_of}
 use Rattle.lapi_task.proofs.StepLaws.{next-fits, is-suited, idle-does, idle-replies, refused-does, refused-replies, issued-does, issued-replies, passed-does, passed-replies, blocked-does, blocked-replies}
 use Rattle.lapi_task.proofs.task.Task.step.Goals as goal
 
-pub returns-in_default-clause-does : goal.returns-in_default-clause-does
-returns-in_default-clause-does c = λ t r at. idle-does c.args.script.now c.requires.script c.args.self.now t r at c.args.out.now (sym c.in_default.ensures)
+pub returns-in_default-clause-effect : goal.returns-in_default-clause-effect
+returns-in_default-clause-effect c = λ t r at. idle-does c.args.script.now c.requires.script c.args.self.now t r at c.args.out.now (sym c.in_default.ensures)
 
 pub returns-in_default-clause-reply : goal.returns-in_default-clause-reply
 returns-in_default-clause-reply c = λ t r at. idle-replies c.args.script.now c.requires.script c.args.self.now t r at (sym c.in_default.ensures)
@@ -12,8 +12,8 @@ returns-in_default-clause-reply c = λ t r at. idle-replies c.args.script.now c.
 pub refuse-requires : goal.refuse-requires
 refuse-requires c = let x = c.requires.«record» in next-fits c.args.script.now c.requires.script c.args.self.now x.0 x.1 x.2 c.in-Some.statement.now (sym c.in-Some.ensures)
 
-pub returns-in-Some-reason_of-clause-does : goal.returns-in-Some-reason_of-clause-does
-returns-in-Some-reason_of-clause-does c = λ t r at. refused-does c.args.script.now c.requires.script c.args.self.now t r at c.in-Some.statement.now (sym c.in-Some.ensures) c.in-Some-reason_of.why c.refuse.new.self c.args.out.now c.refuse.new.out (sym c.in-Some-reason_of.ensures) c.in_ok-refuse.ensures
+pub returns-in-Some-reason_of-clause-effect : goal.returns-in-Some-reason_of-clause-effect
+returns-in-Some-reason_of-clause-effect c = λ t r at. refused-does c.args.script.now c.requires.script c.args.self.now t r at c.in-Some.statement.now (sym c.in-Some.ensures) c.in-Some-reason_of.why c.refuse.new.self c.args.out.now c.refuse.new.out (sym c.in-Some-reason_of.ensures) c.in_ok-refuse.ensures
 
 pub returns-in-Some-reason_of-clause-reply : goal.returns-in-Some-reason_of-clause-reply
 returns-in-Some-reason_of-clause-reply c = λ t r at. refused-replies c.args.script.now c.requires.script c.args.self.now t r at c.in-Some.statement.now (sym c.in-Some.ensures) c.in-Some-reason_of.why (sym c.in-Some-reason_of.ensures)
@@ -21,14 +21,14 @@ returns-in-Some-reason_of-clause-reply c = λ t r at. refused-replies c.args.scr
 pub wait-requires-clause-next : goal.wait-requires-clause-next
 wait-requires-clause-next c = let x = c.requires.«record» in next-fits c.args.script.now c.requires.script c.args.self.now x.0 x.1 x.2 c.in-Some.statement.now (sym c.in-Some.ensures)
 
-pub returns-then-is_past-clause-does : goal.returns-then-is_past-clause-does
-returns-then-is_past-clause-does c = λ t r at. passed-does c.args.script.now c.requires.script c.args.self.now t r at c.in-Wait.counter c.in-Wait.value (sym c.in-Some.ensures ∙ ap Some c.in-Wait.is) (ap (reason_of c.args.script.now) (sym c.in-Wait.is) ∙ sym c.in_default-reason_of.ensures) c.wait.new.self c.args.out.now c.wait.new.out (c.in_ok-is_past.ensures.passed c.if-is_past.true)
+pub returns-then-is_past-clause-effect : goal.returns-then-is_past-clause-effect
+returns-then-is_past-clause-effect c = λ t r at. passed-does c.args.script.now c.requires.script c.args.self.now t r at c.in-Wait.counter c.in-Wait.value (sym c.in-Some.ensures ∙ ap Some c.in-Wait.is) (ap (reason_of c.args.script.now) (sym c.in-Wait.is) ∙ sym c.in_default-reason_of.ensures) c.wait.new.self c.args.out.now c.wait.new.out (c.in_ok-is_past.ensures.passed c.if-is_past.true)
 
 pub returns-then-is_past-clause-reply : goal.returns-then-is_past-clause-reply
 returns-then-is_past-clause-reply c = λ t r at. passed-replies c.args.script.now c.requires.script c.args.self.now t r at c.in-Wait.counter c.in-Wait.value (sym c.in-Some.ensures ∙ ap Some c.in-Wait.is) (ap (reason_of c.args.script.now) (sym c.in-Wait.is) ∙ sym c.in_default-reason_of.ensures) (let g = c.in_ok-is_past.ensures.passed c.if-is_past.true in g.enough)
 
-pub returns-else-is_past-clause-does : goal.returns-else-is_past-clause-does
-returns-else-is_past-clause-does c = λ t r at. blocked-does c.args.script.now c.requires.script c.args.self.now t r at c.in-Wait.counter c.in-Wait.value (sym c.in-Some.ensures ∙ ap Some c.in-Wait.is) (ap (reason_of c.args.script.now) (sym c.in-Wait.is) ∙ sym c.in_default-reason_of.ensures) c.wait.new.self c.args.out.now c.wait.new.out (c.in_ok-is_past.ensures.blocked c.if-is_past.false)
+pub returns-else-is_past-clause-effect : goal.returns-else-is_past-clause-effect
+returns-else-is_past-clause-effect c = λ t r at. blocked-does c.args.script.now c.requires.script c.args.self.now t r at c.in-Wait.counter c.in-Wait.value (sym c.in-Some.ensures ∙ ap Some c.in-Wait.is) (ap (reason_of c.args.script.now) (sym c.in-Wait.is) ∙ sym c.in_default-reason_of.ensures) c.wait.new.self c.args.out.now c.wait.new.out (c.in_ok-is_past.ensures.blocked c.if-is_past.false)
 
 pub returns-else-is_past-clause-reply : goal.returns-else-is_past-clause-reply
 returns-else-is_past-clause-reply c = λ t r at. blocked-replies c.args.script.now c.requires.script c.args.self.now t r at c.in-Wait.counter c.in-Wait.value (sym c.in-Some.ensures ∙ ap Some c.in-Wait.is) (ap (reason_of c.args.script.now) (sym c.in-Wait.is) ∙ sym c.in_default-reason_of.ensures) (let g = c.in_ok-is_past.ensures.blocked c.if-is_past.false in g.less)
@@ -38,11 +38,11 @@ issue-requires c =
     let x = c.requires.«record» in
     record {
       next = next-fits c.args.script.now c.requires.script c.args.self.now x.0 x.1 x.2 c.in-Some.statement.now (sym c.in-Some.ensures);
-      suits = is-suited c.args.script.now c.requires.script c.args.self.now x.0 x.1 x.2 c.in-Some.statement.now (sym c.in-Some.ensures) (sym c.in_default-reason_of.ensures);
+      allowed = is-suited c.args.script.now c.requires.script c.args.self.now x.0 x.1 x.2 c.in-Some.statement.now (sym c.in-Some.ensures) (sym c.in_default-reason_of.ensures);
     }
 
 pub returns : goal.returns
 returns c = record {
-  does = λ t r at. issued-does c.args.script.now c.requires.script c.args.self.now t r at c.in-Some.statement.now (sym c.in-Some.ensures) c.issue.new.self c.args.out.now c.issue.new.out (λ counter value e. c.in_default-statement.not-Wait counter value e) (sym c.in_default-reason_of.ensures) c.in_ok-issue.ensures;
+  effect = λ t r at. issued-does c.args.script.now c.requires.script c.args.self.now t r at c.in-Some.statement.now (sym c.in-Some.ensures) c.issue.new.self c.args.out.now c.issue.new.out (λ counter value e. c.in_default-statement.not-Wait counter value e) (sym c.in_default-reason_of.ensures) c.in_ok-issue.ensures;
   reply = λ t r at. issued-replies c.args.script.now c.requires.script c.args.self.now t r at c.in-Some.statement.now (sym c.in-Some.ensures) (λ counter value e. c.in_default-statement.not-Wait counter value e) (sym c.in_default-reason_of.ensures);
 }

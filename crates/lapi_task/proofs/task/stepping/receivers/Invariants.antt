@@ -1,6 +1,6 @@
 use Rattle.std.proofs.Common.{◌≡◌, length}
 use Rattle.std.specs.List.{AllByRecursion}
-use Rattle.lapi_base.specs.Layout.{window_of, unit_of}
+use Rattle.lapi_base.specs.Packet.Layout.{window_of, unit_of}
 use Rattle.lapi_link.specs.Receiver.{IsBlank}
 use Rattle.lapi_task.proofs.task.stepping.receivers.Given as goal
 

@@ -1,5 +1,5 @@
 use Rattle.std.proofs.Common.{rules}
-use Rattle.lapi_base.specs.Refusals.{first_reason}
+use Rattle.lapi_base.specs.Record.Refusals.{first_reason}
 use Rattle.lapi_vector.proofs.Vectors.{why_of_sides}
 use Rattle.lapi_vector.proofs.pieces.Pieces.check.Goals as goal
 

@@ -1,6 +1,6 @@
 use Rattle.std.proofs.Common.{◌≡◌, ℕ, take}
 use Rattle.std.specs.List.{flat_map}
-use Rattle.lapi_base.specs.Values.{Memories, gathered}
+use Rattle.lapi_base.specs.Record.Values.{Memories, gathered}
 use Rattle.lapi_memory.specs.TaskMemory.{bytes_at, IsMemoryOf}
 use Rattle.lapi_vector.proofs.pieces.Pieces.gather.Given as goal
 

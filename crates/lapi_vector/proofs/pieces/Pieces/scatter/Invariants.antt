@@ -1,6 +1,6 @@
 use Rattle.std.proofs.Common.{◌≡◌, ℕ, length, drop, get_or}
 use Rattle.std.specs.List.{fold}
-use Rattle.lapi_base.specs.Values.{scattered, byte_after}
+use Rattle.lapi_base.specs.Record.Values.{scattered, byte_after}
 use Rattle.lapi_memory.specs.TaskMemory.{written}
 use Rattle.lapi_vector.specs.Pieces.{total_of}
 use Rattle.lapi_vector.proofs.pieces.Pieces.scatter.Given as goal

@@ -1,7 +1,7 @@
 use Rattle.std.proofs.Common.{◌≡◌, ℕ, ◌+◌, ◌<◌, ◌≤◌, Bool, not, true, false, length, arith, sym, ap, ◌∙◌, ⊎_elim, ◌⊎◌, inl, inr}
 use Rattle.std.proofs.lemmas.Bool.{cases_lt, both_ways}
 use Rattle.std.specs.List.{slice_get}
-use Rattle.lapi_base.specs.Below.{below}
+use Rattle.lapi_base.specs.Record.Below.{below}
 use Rattle.lapi_base.proofs.BelowLaws.{below-place, below_goes_on, length-below-none}
 use Rattle.lapi_window.specs.NumberSet.{is_in}
 use Rattle.lapi_window.proofs.Covered.{is_in-of, is_covered-low}

@@ -1,5 +1,5 @@
 use Rattle.std.proofs.Common.{◌≡◌, ◌+◌, ◌-◌, ◌≤◌, not, length}
-use Rattle.lapi_base.specs.Below.{below}
+use Rattle.lapi_base.specs.Record.Below.{below}
 use Rattle.lapi_window.specs.NumberSet.{is_in}
 use Rattle.lapi_window.proofs.number_set.NumberSet.absent_at.Given as goal
 

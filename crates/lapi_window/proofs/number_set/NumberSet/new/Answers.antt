@@ -1,6 +1,6 @@
 use Rattle.std.proofs.Common.{◌-◌, lit<, arith, ◌∙◌}
 use Rattle.std.proofs.lemmas.Bool.{both_ways}
-use Rattle.lapi_base.specs.Below.{has_bit}
+use Rattle.lapi_base.specs.Record.Below.{has_bit}
 use Rattle.lapi_base.proofs.BitLaws.{has_bit-zero}
 use Rattle.lapi_window.proofs.Flags.{is_in-view}
 use Rattle.lapi_window.proofs.Covered.{is_covered-high}

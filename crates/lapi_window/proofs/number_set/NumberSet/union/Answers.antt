@@ -1,5 +1,5 @@
 use Rattle.std.proofs.Common.{◌≡◌, ◌/◌, ◌-◌, ◌^◌, ◌||◌, bit_or, sym, ap, ◌∙◌, arith}
-use Rattle.lapi_base.specs.Below.{has_bit}
+use Rattle.lapi_base.specs.Record.Below.{has_bit}
 use Rattle.lapi_window.specs.NumberSet.{is_covered}
 use Rattle.lapi_window.proofs.Covered.{is_in-of, union-covers, union-small}
 use Rattle.lapi_window.proofs.number_set.NumberSet.union.Goals as goal

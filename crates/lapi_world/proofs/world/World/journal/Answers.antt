@@ -1,11 +1,11 @@
 use Rattle.std.proofs.Common.{◌≡◌, false, subst, sym}
-use Rattle.lapi_base.specs.Seen.{Seen}
-use Rattle.lapi_base.specs.Atomic.{AtomicInTime}
+use Rattle.lapi_base.specs.Record.WorldView.{WorldView}
+use Rattle.lapi_base.specs.Record.Atomic.{AtomicInTime}
 use Rattle.lapi_world.proofs.WorldLaws.{world-atomic}
 use Rattle.lapi_world.proofs.world.World.journal.Goals as goal
 
 pub returns-clause-atomic : goal.returns-clause-atomic
 returns-clause-atomic c = λ free.
     let w = c.self.inside in
-    subst (λ (v : Seen). AtomicInTime v.script v.rules c.journal.result.now) c.self.view_is
-    (world-atomic w.script c.journal_is_atomic.ensures.in_time w.schedule w.kept w.taken w.replies w.spent c.journal.result.now c.self.invariant (subst (λ (v : Seen). v.spent ≡ false) (sym c.self.view_is) free) c.journal.ensures)
+    subst (λ (v : WorldView). AtomicInTime v.script v.rules c.journal.result.now) c.self.view_is
+    (world-atomic w.script c.journal_is_atomic.ensures.in_time w.schedule w.network w.taken w.replies w.spent c.journal.result.now c.self.invariant (subst (λ (v : WorldView). v.spent ≡ false) (sym c.self.view_is) free) c.journal.ensures)

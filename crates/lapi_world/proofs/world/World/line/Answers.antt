@@ -1,7 +1,7 @@
 use Rattle.std.proofs.Common.{◌≡◌, ◌++◌, ◌∷◌, [], List, subst, sym, ap, ◌∙◌}
 use Rattle.lapi_base.specs.declared.schedule.Line.{Line}
 use Rattle.lapi_base.specs.declared.reply.Reply.{Reply}
-use Rattle.lapi_base.specs.Seen.{Seen, no_rules, act_at, record_at, seen_record}
+use Rattle.lapi_base.specs.Record.WorldView.{WorldView, no_rules, act_at, record_at, view_record}
 use Rattle.lapi_world.proofs.WorldLaws.{act-valid, recorded, line-stands, line-replies}
 use Rattle.lapi_world.proofs.world.World.line.Goals as goal
 
@@ -12,14 +12,14 @@ perform-requires c =
     record {
       script = c.self.invariant.script_performed;
       act = act-valid w.script w.schedule c.args.n c.act_at-act.result.now c.self.invariant.schedule_valid.lines c.self.invariant.schedule_performed at;
-      stands = (record_at w.script no_rules w.schedule w.taken, recorded w.script w.schedule w.kept w.taken w.replies w.spent c.self.invariant, c.self.invariant.stands c.if-self.false);
+      stands = (record_at w.script no_rules w.schedule w.taken, recorded w.script w.schedule w.network w.taken w.replies w.spent c.self.invariant, c.self.invariant.stands c.if-self.false);
     }
 
 pub invariant_of-self-2 : goal.invariant_of-self-2
 invariant_of-self-2 c =
     let w = c.self.inside in
     let r = record_at w.script no_rules w.schedule w.taken in
-    let is = recorded w.script w.schedule w.kept w.taken w.replies w.spent c.self.invariant in
+    let is = recorded w.script w.schedule w.network w.taken w.replies w.spent c.self.invariant in
     let stands = c.self.invariant.stands c.if-self.false in
     let act = c.act_at-act.result.now in
     let at = ap (λ (s : List Line). act_at s c.args.n) (sym c.as_slice.ensures) ∙ c.act_at-act.ensures in
@@ -39,7 +39,7 @@ pub returns-clause-reply : goal.returns-clause-reply
 returns-clause-reply c =
     let w = c.self.inside in
     let r = record_at w.script no_rules w.schedule w.taken in
-    let is = recorded w.script w.schedule w.kept w.taken w.replies w.spent c.self.invariant in
+    let is = recorded w.script w.schedule w.network w.taken w.replies w.spent c.self.invariant in
     let at = ap (λ (s : List Line). act_at s c.args.n) (sym c.as_slice.ensures) ∙ c.act_at-act.ensures in
-    subst (λ (v : Seen). (record_at w.script no_rules w.schedule c.push-2.new.self).replies ≡ (seen_record v).replies ++ c.in_ok-reply.reply ∷ []) c.self.view_is
+    subst (λ (v : WorldView). (record_at w.script no_rules w.schedule c.push-2.new.self).replies ≡ (view_record v).replies ++ c.in_ok-reply.reply ∷ []) c.self.view_is
     (line-replies w.script w.schedule w.taken c.push-2.new.self c.args.n c.act_at-act.result.now c.in_ok-reply.reply at c.in_ok-push-2.ensures.ok (c.in_ok-reply.ensures.reply r is (c.self.invariant.stands c.if-self.false)))

@@ -1,0 +1,75 @@
+-- What a command answers: a status, and the text that is written. This is the project's own.
+use Rattle.std.specs.Prelude.{ℕ, List, ◌++◌, length, map, codes, Result, Ok, Err}
+use Rattle.std.specs.List.{sum}
+use Rattle.std.specs.Fmt.{decimal}
+use Rattle.lapi_base.specs.declared.command.View.{View}
+use Rattle.lapi_base.specs.declared.command.View.TheVariants.{Report, Journal, Wires, Trace}
+use Rattle.lapi_base.specs.declared.input.Input.{Input}
+use Rattle.lapi_base.specs.declared.input.Which.{Which}
+use Rattle.lapi_base.specs.declared.input.Which.TheVariants as which
+use Rattle.lapi_base.specs.declared.input.LineError.TheVariants.{Syntax, Limit}
+use Rattle.lapi_base.specs.declared.status.Status.{Status}
+use Rattle.lapi_base.specs.declared.status.Status.TheVariants as status
+use Rattle.lapi_base.specs.Record.Operations.{numbers_below}
+use Rattle.lapi_base.specs.Record.Wires.{Run}
+use Rattle.lapi_base.specs.Input.Reading.{Fault}
+use Rattle.lapi_base.specs.Record.WorldView.{no_rules, record_of_all}
+use Rattle.lapi_base.specs.Output.ReportText.{report_text}
+use Rattle.lapi_base.specs.Output.JournalText.{journal_text}
+use Rattle.lapi_base.specs.Output.WireText.{wire_text}
+use Rattle.lapi_base.specs.Output.TraceText.{trace_text}
+use Rattle.lapi_base.specs.Output.PacketText.{packet_text}
+
+pub record Answer : Type 0 where
+  pub status : Status
+  pub text : List ℕ
+
+-- Words that are no command.
+abbrev pub usage_text : List ℕ
+usage_text = codes "usage: lapi run|journal|wire|trace|check|live, lapi show HEX, lapi gen N, lapi sum N\n"
+
+abbrev pub usage_answer : Answer
+usage_answer = record { status = status.Usage; text = usage_text }
+
+-- A packet that is shown.
+abbrev pub shown_answer : List ℕ → Answer
+shown_answer bytes = record { status = status.Ok; text = packet_text bytes }
+
+-- What is no input: syntax LINE, or limit WHICH LINE.
+abbrev pub which_name : Which → List ℕ
+which_name which.Input = codes "input"
+which_name which.Tasks = codes "tasks"
+which_name which.Memory = codes "memory"
+which_name which.Counters = codes "counters"
+which_name which.Workers = codes "workers"
+which_name which.Statements = codes "statements"
+which_name which.Lines = codes "lines"
+which_name which.Lane = codes "lane"
+which_name which.Pieces = codes "pieces"
+which_name which.Bytes = codes "bytes"
+which_name which.Unbuilt = codes "unbuilt"
+
+abbrev pub fault_answer : Fault → Answer
+fault_answer (Syntax, line) = record { status = status.Syntax; text = codes "syntax " ++ decimal line ++ codes "\n" }
+fault_answer (Limit w, line) = record { status = status.Limit; text = codes "limit " ++ which_name w ++ codes " " ++ decimal line ++ codes "\n" }
+
+-- What is written of an input: its counts alone, or of the record of all its lines in order.
+abbrev pub recorded : Input → Run
+recorded x = record_of_all x.script no_rules x.schedule
+
+-- ok tasks T statements S lines L
+abbrev pub counts_line : (tasks statements lines : ℕ) → List ℕ
+counts_line tasks statements lines = codes "ok tasks " ++ decimal tasks ++ codes " statements " ++ decimal statements ++ codes " lines " ++ decimal lines ++ codes "\n"
+
+abbrev pub counts_text : Input → List ℕ
+counts_text x = counts_line x.script.tasks (sum (map (λ list. length list) x.script.lists)) (length x.schedule)
+
+abbrev pub view_text : View → Input → List ℕ
+view_text Report x = report_text x.script no_rules (recorded x) (length x.schedule)
+view_text Journal x = journal_text (recorded x)
+view_text Wires x = wire_text x.script (recorded x)
+view_text Trace x = trace_text x.schedule (numbers_below (length x.schedule)) (recorded x).replies
+
+abbrev pub input_answer : (text : Input → List ℕ) → Result Input Fault → Answer
+input_answer text (Ok x) = record { status = status.Ok; text = text x }
+input_answer text (Err fault) = fault_answer fault

@@ -1,0 +1,39 @@
+-- The words of a command, and what they ask for. This is the project's own.
+use Rattle.std.specs.Prelude.{ℕ, nat_le, if◌then◌else◌, List, [], ◌∷◌, length, codes, Option, Some, None, option_map, option_and_then}
+use Rattle.lapi_base.specs.declared.command.View.{View}
+use Rattle.lapi_base.specs.declared.command.View.TheVariants.{Report, Journal, Wires, Trace}
+use Rattle.lapi_base.specs.declared.command.Command.{Command}
+use Rattle.lapi_base.specs.declared.command.Command.TheVariants as commands
+use Rattle.lapi_base.specs.Input.Tokens.{same_text, hex_of}
+
+-- the most bytes that are shown
+abbrev pub most_shown : ℕ
+most_shown = 640
+
+abbrev pub few_bytes : List ℕ → Option (List ℕ)
+few_bytes bytes = if nat_le (length bytes) most_shown then Some bytes else None
+
+-- the bytes that a word spells, one of 2 to 1,280 digits, an even number of them
+abbrev pub shown_of : List ℕ → Option (List ℕ)
+shown_of word = option_and_then few_bytes (hex_of word)
+
+abbrev pub view_of : List ℕ → Option View
+view_of word =
+    if same_text word (codes "run") then Some Report
+    else if same_text word (codes "journal") then Some Journal
+    else if same_text word (codes "wire") then Some Wires
+    else if same_text word (codes "trace") then Some Trace
+    else None
+
+abbrev pub read_of : List ℕ → Option Command
+read_of word =
+    if same_text word (codes "check") then Some commands.Check else option_map (λ view. commands.Read view) (view_of word)
+
+abbrev pub show_of : (word digits : List ℕ) → Option Command
+show_of word digits = if same_text word (codes "show") then option_map (λ bytes. commands.Show bytes) (shown_of digits) else None
+
+unfoldable pub command_of : List (List ℕ) → Option Command
+command_of [] = None
+command_of (word ∷ []) = read_of word
+command_of (word ∷ argument ∷ []) = show_of word argument
+command_of (word ∷ argument ∷ more ∷ words) = None

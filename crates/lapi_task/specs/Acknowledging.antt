@@ -1,0 +1,22 @@
+-- What a task answers to the packets that came to it.
+use Rattle.std.specs.Prelude.{◌≡◌, ℕ, ◌<◌, List, slice_get}
+use Rattle.lapi_base.specs.declared.script.Script.{Script}
+use Rattle.lapi_base.specs.declared.packet.Packet.{Packet}
+use Rattle.lapi_base.specs.declared.wire.WireEntry.{WireEntry}
+use Rattle.lapi_base.specs.Record.Arrived.{ack_of}
+use Rattle.lapi_base.specs.Packet.PacketBytes as written
+use Rattle.lapi_task.specs.declared.task.Task.{Task}
+use Rattle.lapi_task.specs.Supported.{IsSupported}
+use Rattle.lapi_task.specs.StandsFor.{ReceiverAt}
+
+-- the acknowledgement of these packets of the link between two tasks, as an entry of the wire back
+abbrev pub answer : Script → List Packet → (from to : ℕ) → WireEntry
+answer script ps a b = record { to = a; bytes = written.packet (ack_of script ps a b) }
+
+-- Task t has taken these packets from a task.
+pub record HasTaken (script : Script) (t : ℕ) (task : Task) (from : ℕ) (ps : List Packet) : Type 0 where
+  pub performed : IsSupported script
+  pub number : task.number ≡ t
+  pub known : t < script.tasks
+  pub from_known : from < script.tasks
+  pub receiver : ReceiverAt script ps (slice_get task.receivers.items from)

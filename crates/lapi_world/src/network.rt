@@ -1,0 +1,239 @@
+ghost use Rattle.std.specs.Prelude.{◌≡◌, ◌+◌, ◌*◌, ◌<◌, ◌≤◌, true, [], ◌++◌, length, map, replicate, slice_get, Some, OnOk, IfOk};
+ghost use Rattle.std.specs.List.{AllByRecursion};
+ghost use Rattle.lapi_base.specs.declared.script.Script.{Script};
+ghost use Rattle.lapi_base.specs.declared.schedule.Act.TheVariants.{Step, Poll, Tick, Deliver};
+ghost use Rattle.lapi_base.specs.declared.wire.WireEntry.{WireEntry};
+ghost use Rattle.lapi_base.specs.Input.Built.{is_built_act};
+ghost use Rattle.lapi_base.specs.Record.Final.{is_quiet};
+ghost use Rattle.lapi_base.specs.Record.Wires.{Run, start};
+ghost use Rattle.lapi_base.specs.Record.WorldView.{no_rules, IsRecord};
+ghost use Rattle.lapi_base.specs.Packet.Spelling.{spells_packet};
+ghost use Rattle.lapi_base.specs.Record.Valid.{ValidAct};
+ghost use Rattle.lapi_base.specs.Packet.PacketBytes as written;
+ghost use Rattle.lapi_task.specs.Supported.{IsSupported};
+ghost use Rattle.lapi_world.specs.Stands.{Stands, StandsForOne, TasksStand};
+ghost use Rattle.lapi_world.specs.Grows.{KeepsRecord, Answers, ArePut, IsAdded};
+
+use crate::wire::Wire;
+use lapi_base::{Act, Bytes, Entries, Event, Events, Memory, Reply, Script, WireEntry};
+use lapi_task::{Outcome, Task};
+use std::alloc::Global;
+
+/// The tasks, the wires between them, and what happened so far.
+#[derive(Drop)]
+pub struct Network {
+    tasks: Vec<Task>,
+    /// The wire from `a` to `b` stands at `a * tasks + b`.
+    wires: Vec<Wire>,
+    journal: Events,
+}
+
+impl Network {
+    /// Nothing happened yet.
+    pub fn new(alloc: Global, script: &Script) -> Result<Network, Memory>
+        requires { IsSupported script.now }
+        ensures { IfOk result (λ network. Stands script.now network start) }
+    {
+        let tasks = new_tasks(alloc, script)?;
+        let wires = new_wires(alloc, script.tasks * script.tasks)?;
+        Ok(Network {
+            tasks,
+            wires,
+            journal: Events::new(alloc),
+        })
+    }
+
+    pub fn journal(&self) -> &[Event]
+        ensures { result.now ≡ self.now.journal }
+    {
+        self.journal.as_slice()
+    }
+
+    pub fn task(&self, t: u32) -> &Task
+        requires { t < length self.now.tasks.items }
+        ensures { slice_get self.now.tasks.items t ≡ Some result.now }
+    {
+        &self.tasks[t as usize]
+    }
+
+    /// What stands on the wire from `a` to `b`.
+    pub fn entries(&self, tasks: u32, a: u32, b: u32) -> &[Bytes]
+        requires { (a < tasks) × (b < tasks) × (tasks ≤ 8) }
+        ensures { (script : Script) (r : Run) → script.tasks ≡ tasks → Stands script self.now r → result.now ≡ map written.packet (r.wire a b) }
+    {
+        match self.wires.as_slice().get(place(tasks, a, b)) {
+            Some(wire) => wire.entries(),
+            None => &[],
+        }
+    }
+
+    /// What a schedule line of these forms does.
+    pub fn perform(&mut self, alloc: Global, script: &Script, act: &Act) -> Result<Reply, Memory>
+        requires script { IsSupported script.now }
+        requires act { ValidAct script.now spells_packet act.now × (is_built_act act.now ≡ true) }
+        requires stands { StandsForOne script.now self.old }
+        ensures ok { OnOk result (KeepsRecord script.now act.now self.old self.new) }
+        ensures reply { IfOk result (Answers script.now act.now self.old) }
+        ensures count { length self.new.tasks.items ≡ length self.old.tasks.items }
+    {
+        match act {
+            Act::Step(t) => self.step(alloc, script, *t),
+            Act::Poll(t) => self.poll(alloc, script, *t),
+            Act::Tick(t) => self.tick(alloc, script, *t),
+            Act::Deliver { a, b, k } => self.deliver(alloc, script, *a, *b, *k),
+            Act::Cut { .. } | Act::Inject { .. } | Act::Begin { .. } | Act::End { .. } =>
+                unreachable!(),
+        }
+    }
+
+    fn step(&mut self, alloc: Global, script: &Script, t: u32) -> Result<Reply, Memory>
+        requires script { IsSupported script.now }
+        requires task { t < script.now.tasks }
+        requires stands { StandsForOne script.now self.old }
+        ensures ok { OnOk result (KeepsRecord script.now (Step t) self.old self.new) }
+        ensures reply { IfOk result (Answers script.now (Step t) self.old) }
+        ensures count { length self.new.tasks.items ≡ length self.old.tasks.items }
+    {
+        let mut out = Outcome::new(alloc);
+        let task = &mut self.tasks[t as usize];
+        let reply = task.step(script, &mut out)?;
+        self.add(script.tasks, t, out)?;
+        Ok(reply)
+    }
+
+    fn poll(&mut self, alloc: Global, script: &Script, t: u32) -> Result<Reply, Memory>
+        requires script { IsSupported script.now }
+        requires task { t < script.now.tasks }
+        requires stands { StandsForOne script.now self.old }
+        ensures ok { OnOk result (KeepsRecord script.now (Poll t) self.old self.new) }
+        ensures reply { IfOk result (Answers script.now (Poll t) self.old) }
+        ensures count { length self.new.tasks.items ≡ length self.old.tasks.items }
+    {
+        let mut out = Outcome::new(alloc);
+        let task = &mut self.tasks[t as usize];
+        task.poll(alloc, script, &mut out)?;
+        self.add(script.tasks, t, out)?;
+        Ok(Reply::Did)
+    }
+
+    fn tick(&mut self, alloc: Global, script: &Script, t: u32) -> Result<Reply, Memory>
+        requires script { IsSupported script.now }
+        requires task { t < script.now.tasks }
+        requires stands { StandsForOne script.now self.old }
+        ensures ok { OnOk result (KeepsRecord script.now (Tick t) self.old self.new) }
+        ensures reply { IfOk result (Answers script.now (Tick t) self.old) }
+        ensures count { length self.new.tasks.items ≡ length self.old.tasks.items }
+    {
+        let mut out = Outcome::new(alloc);
+        let task = &mut self.tasks[t as usize];
+        task.tick(alloc, &mut out)?;
+        self.add(script.tasks, t, out)?;
+        Ok(Reply::Did)
+    }
+
+    /// Hands entry `k` of wire (`a`, `b`) to task `b`.
+    fn deliver(
+        &mut self,
+        alloc: Global,
+        script: &Script,
+        a: u32,
+        b: u32,
+        k: u32,
+    ) -> Result<Reply, Memory>
+        requires script { IsSupported script.now }
+        requires tasks { (a < script.now.tasks) × (b < script.now.tasks) }
+        requires stands { StandsForOne script.now self.old }
+        ensures ok { OnOk result (KeepsRecord script.now (Deliver a b k) self.old self.new) }
+        ensures reply { IfOk result (Answers script.now (Deliver a b k) self.old) }
+        ensures count { length self.new.tasks.items ≡ length self.old.tasks.items }
+    {
+        let wire = &self.wires[place(script.tasks, a, b)];
+        let Some(entry) = wire.entry(k) else {
+            return Ok(Reply::Absent);
+        };
+        let mut out = Outcome::new(alloc);
+        let task = &mut self.tasks[b as usize];
+        task.receive(alloc, a, entry, &mut out)?;
+        self.add(script.tasks, b, out)?;
+        Ok(Reply::Did)
+    }
+
+    /// Whether every task is still.
+    pub fn is_quiet(&self) -> bool
+        ensures { (script : Script) (r : Run) → IsSupported script → IsRecord script no_rules r → Stands script self.now r → result ≡ is_quiet script no_rules r }
+    {
+        for task in &self.tasks {
+            if !task.still() {
+                return false;
+            }
+        }
+        true
+    }
+
+    /// Adds what task `t` did.
+    fn add(&mut self, tasks: u32, t: u32, out: Outcome) -> Result<(), Memory>
+        requires known { (t < tasks) × (tasks ≤ 8) }
+        requires wires { length self.old.wires.items ≡ tasks * tasks }
+        requires ends { AllByRecursion (λ (e : WireEntry). e.to < tasks) out.entries }
+        ensures ok { OnOk result (IsAdded tasks t out self.old self.new) }
+        ensures tasks { self.new.tasks.items ≡ self.old.tasks.items }
+    {
+        let Outcome { events, entries } = out;
+        append(&mut self.journal, &events)?;
+        put_all(&mut self.wires, tasks, t, entries)
+    }
+}
+
+fn append(journal: &mut Events, events: &Events) -> Result<(), Memory>
+    ensures { OnOk result (journal.new ≡ journal.old ++ events.now) }
+{
+    for event in events.as_slice() {
+        journal.push(*event)?;
+    }
+    Ok(())
+}
+
+/// Moves each entry of task `t` onto its wire.
+fn put_all(wires: &mut Vec<Wire>, tasks: u32, t: u32, entries: Entries) -> Result<(), Memory>
+    requires known { (t < tasks) × (tasks ≤ 8) }
+    requires wires { length wires.old.items ≡ tasks * tasks }
+    requires ends { AllByRecursion (λ (e : WireEntry). e.to < tasks) entries }
+    ensures count { OnOk result (length wires.new.items ≡ length wires.old.items) }
+    ensures put { OnOk result (ArePut tasks t entries wires.old.items wires.new.items) }
+{
+    for entry in entries.into_vec() {
+        let wire = &mut wires[place(tasks, t, entry.to)];
+        wire.put(entry.bytes)?;
+    }
+    Ok(())
+}
+
+fn new_tasks(alloc: Global, script: &Script) -> Result<Vec<Task>, Memory>
+    requires { IsSupported script.now }
+    ensures { IfOk result (λ tasks. (length tasks.items ≡ script.now.tasks) × TasksStand script.now start tasks.items) }
+{
+    let mut tasks = Vec::new(alloc);
+    for t in 0..script.tasks {
+        let task = Task::new(alloc, script, t)?;
+        tasks.push(task)?;
+    }
+    Ok(tasks)
+}
+
+fn new_wires(alloc: Global, count: u32) -> Result<Vec<Wire>, Memory>
+    ensures { IfOk result (λ wires. wires.items ≡ replicate count []) }
+{
+    let mut wires = Vec::new(alloc);
+    for _wire in 0..count {
+        wires.push(Wire::new(alloc))?;
+    }
+    Ok(wires)
+}
+
+/// The place of the wire from `a` to `b`.
+fn place(tasks: u32, a: u32, b: u32) -> usize
+    requires { (a < tasks) × (b < tasks) × (tasks ≤ 8) }
+    ensures { result ≡ a * tasks + b }
+{
+    (a * tasks + b) as usize
+}
