@@ -22,9 +22,9 @@ use Rattle.lapi_base.specs.Packet.PacketBytes as written
 use Rattle.lapi_base.proofs.ListLaws.{found-at, get-set, get-set-other}
 use Rattle.lapi_parts.proofs.OtherTasks.{others-stay}
 use Rattle.lapi_parts.proofs.SameParts.{same-part}
-use Rattle.lapi_task.proofs.Apart.{stays-apart}
 use Rattle.lapi_task.specs.declared.outcome.Outcome.{Outcome}
 use Rattle.lapi_task.specs.declared.task.Task.{Task}
+use Rattle.lapi_task.specs.Apart.{TasksStayApart}
 use Rattle.lapi_task.specs.HasEffect.{IsAt, IsAtSome, HasEffect}
 use Rattle.lapi_task.specs.Supported.{IsSupported}
 use Rattle.lapi_task.specs.StandsFor.{StandsFor}
@@ -90,7 +90,7 @@ module _ (script : Script) where
   moved r s u f (Some task) h = f task h
 
   -- A task's outcome was added.
-  module _ (perf : IsSupported script) (r : Run) (is : IsRecord script no_rules r) (act : Act) (valid : ValidAct script spells_packet act) (t : ℕ) (acts-at : actor act ≡ t) (known : t < script.tasks) where
+  module _ (apart : TasksStayApart) (perf : IsSupported script) (r : Run) (is : IsRecord script no_rules r) (act : Act) (valid : ValidAct script spells_packet act) (t : ℕ) (acts-at : actor act ≡ t) (known : t < script.tasks) where
     abbrev after : Run
     after = performed script no_rules r act
 
@@ -103,7 +103,7 @@ module _ (script : Script) where
         (λ (same : u ≡ t). subst (λ v. TaskAt script after v (slice_get (set old.tasks.items t task) v)) (sym same) (let before = task-found r t old h known in subst (TaskAt script after t) (sym (get-set old.tasks.items t before.0 task before.1)) new))
         (λ (differs : u ≡ t → ⊥).
         subst (TaskAt script after u) (sym (get-set-other old.tasks.items t u task differs))
-        (moved r after u (λ x s. stays-apart script u x r act perf (record { recorded = is; known = l; stands = s }) valid (other-actor u differs)) (slice_get old.tasks.items u) (h.tasks u l)))
+        (moved r after u (λ x s. apart script u x r act perf (record { recorded = is; known = l; stands = s }) valid (other-actor u differs)) (slice_get old.tasks.items u) (h.tasks u l)))
         (cases_eq u t)
 
     wires-after : (old new : Network) (task : Task) (blank out : Outcome) → Stands script old r → HasEffect script t r after task blank out → blank.entries ≡ [] → ArePut script.tasks t out.entries old.wires.items new.wires.items → WiresStand script after new.wires.items

@@ -10,13 +10,14 @@ ghost use Rattle.lapi_base.specs.Record.WorldView.{no_rules, IsRecord};
 ghost use Rattle.lapi_base.specs.Packet.Spelling.{spells_packet};
 ghost use Rattle.lapi_base.specs.Record.Valid.{ValidAct};
 ghost use Rattle.lapi_base.specs.Packet.PacketBytes as written;
+ghost use Rattle.lapi_task.specs.Apart.{TasksStayApart};
 ghost use Rattle.lapi_task.specs.Supported.{IsSupported};
 ghost use Rattle.lapi_world.specs.Stands.{Stands, StandsForOne, TasksStand};
 ghost use Rattle.lapi_world.specs.Grows.{KeepsRecord, Answers, ArePut, IsAdded};
 
 use crate::wire::Wire;
 use lapi_base::{Act, Bytes, Entries, Event, Events, Memory, Reply, Script, WireEntry};
-use lapi_task::{Outcome, Task};
+use lapi_task::{Outcome, Task, tasks_stay_apart};
 use std::alloc::Global;
 
 /// The tasks, the wires between them, and what happened so far.
@@ -177,7 +178,9 @@ impl Network {
         requires ends { AllByRecursion (λ (e : WireEntry). e.to < tasks) out.entries }
         ensures ok { OnOk result (IsAdded tasks t out self.old self.new) }
         ensures tasks { self.new.tasks.items ≡ self.old.tasks.items }
+        ensures apart { TasksStayApart }
     {
+        tasks_stay_apart();
         let Outcome { events, entries } = out;
         append(&mut self.journal, &events)?;
         put_all(&mut self.wires, tasks, t, entries)

@@ -32,7 +32,7 @@ returns-clause-ok c = λ r is h.
     let script = c.args.script.now in
     let entry = entry-spells script c.args.self.now r c.args.a c.args.b c.args.k c.place.result c.index-wire.result.now h c.requires.tasks.0 c.requires.tasks.1 c.place.ensures c.index-wire.ensures c.requires.script is c.in-Some.entry.now (sym c.in-Some.ensures) in
     let at = task-read script r c.args.b c.args.self.now c.index_mut-task.result.now is h c.requires.tasks.1 c.index_mut-task.ensures.value in
-    act-stands script c.requires.script r is (Deliver c.args.a c.args.b c.args.k) (c.requires.tasks.0, c.requires.tasks.1, c.ranges.k.fits) c.args.b refl c.requires.tasks.1 c.args.self.now _ c.add.new.self c.receive.new.self c.new-out.result _ (records.deliver script no_rules r c.args.a c.args.b c.args.k) (performed-deliver script r c.args.a c.args.b c.args.k) h (c.in_ok-receive.ensures.effect script c.args.b c.args.k r entry.0 c.requires.script at c.requires.tasks.0 entry.2 entry.1) c.in_ok-add.ensures.ok c.new-out.ensures refl refl c.in_ok-add.ensures.tasks
+    act-stands script c.add.ensures.apart c.requires.script r is (Deliver c.args.a c.args.b c.args.k) (c.requires.tasks.0, c.requires.tasks.1, c.ranges.k.fits) c.args.b refl c.requires.tasks.1 c.args.self.now _ c.add.new.self c.receive.new.self c.new-out.result _ (records.deliver script no_rules r c.args.a c.args.b c.args.k) (performed-deliver script r c.args.a c.args.b c.args.k) h (c.in_ok-receive.ensures.effect script c.args.b c.args.k r entry.0 c.requires.script at c.requires.tasks.0 entry.2 entry.1) c.in_ok-add.ensures.ok c.new-out.ensures refl refl c.in_ok-add.ensures.tasks
 
 pub returns-clause-reply : goal.returns-clause-reply
 returns-clause-reply c = λ r is h.

@@ -9,7 +9,7 @@ pub returns-clause-ok : goal.returns-clause-ok
 returns-clause-ok c = λ r is h.
     let script = c.args.script.now in
     let at = task-read script r c.args.t c.args.self.now c.index_mut-task.result.now is h c.requires.task c.index_mut-task.ensures.value in
-    act-stands script c.requires.script r is (Tick c.args.t) c.requires.task c.args.t refl c.requires.task c.args.self.now _ c.add.new.self c.tick.new.self c.new-out.result _ (records.tick script no_rules r c.args.t) (performed-tick script r c.args.t) h (c.in_ok-tick.ensures script c.args.t r c.requires.script at) c.in_ok-add.ensures.ok c.new-out.ensures refl refl c.in_ok-add.ensures.tasks
+    act-stands script c.add.ensures.apart c.requires.script r is (Tick c.args.t) c.requires.task c.args.t refl c.requires.task c.args.self.now _ c.add.new.self c.tick.new.self c.new-out.result _ (records.tick script no_rules r c.args.t) (performed-tick script r c.args.t) h (c.in_ok-tick.ensures script c.args.t r c.requires.script at) c.in_ok-add.ensures.ok c.new-out.ensures refl refl c.in_ok-add.ensures.tasks
 
 pub returns-clause-reply : goal.returns-clause-reply
 returns-clause-reply c = λ r is h. let script = c.args.script.now in tick-replies script r c.args.t
