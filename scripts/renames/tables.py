@@ -63,7 +63,7 @@ WORDS = [
     ("Rattle.lapi_world.specs.Grows", "Performs", "KeepsRecord"),
     ("Rattle.lapi_world.specs.Stands", "IsPerformedLine", "IsSupportedLine"),
     ("Rattle.lapi_link.specs.Receiver", "Fits", "MayArrive"),
-    ("Rattle.lapi_task.specs.Steps", "IsBlank", "IsNewReceiver"),
+    ("Rattle.lapi_link.specs.Receiver", "IsBlank", "IsNewReceiver"),
     ("Rattle.lapi_link.specs.Sender", "IsFresh", "IsNewSender"),
 ]
 

@@ -88,8 +88,8 @@ module _ (script : Script) where
   arrival_of ps p = cond (has_number ps p.seq) Repeat (cond (is_complete (Data p ∷ ps) p.name p.length) (Whole (message_of ps p)) Part)
 
 -- Nothing was handed over on a link with this window and this unit.
-abbrev pub IsBlank : (window unit : ℕ) → ReceivingEnd → Type 0
-IsBlank window unit s = (script : Script) → window_of script ≡ window → unit_of script ≡ unit → ReceivesFor script s []
+abbrev pub IsNewReceiver : (window unit : ℕ) → ReceivingEnd → Type 0
+IsNewReceiver window unit s = (script : Script) → window_of script ≡ window → unit_of script ≡ unit → ReceivesFor script s []
 
 -- What comes of a packet, by what has come of its message with it, and by what came of its fragment.
 abbrev pub gathered_with : Gathering → DataPacket → Gathered

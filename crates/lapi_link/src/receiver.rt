@@ -10,7 +10,7 @@ ghost use Rattle.lapi_base.specs.Record.Wires.{has_number};
 ghost use Rattle.lapi_base.specs.Record.Arrived.{least_number};
 ghost use Rattle.lapi_reassembly.specs.Partial.{IsUnit};
 ghost use Rattle.lapi_reassembly.specs.Partials.{partial, is_there, HasRoom, Agrees, IsMissing, kept_of};
-ghost use Rattle.lapi_link.specs.Receiver.{ReceivesFor, IsBlank, MayArrive, arrival_of, arrival_by, arrival_with, gathered_with};
+ghost use Rattle.lapi_link.specs.Receiver.{ReceivesFor, IsNewReceiver, MayArrive, arrival_of, arrival_by, arrival_with, gathered_with};
 
 use crate::arrival::Arrival;
 use lapi_base::{DataPacket, Memory};
@@ -39,7 +39,7 @@ impl Receiver {
     pub fn new(alloc: Global, window: u32, unit: u32) -> Result<Receiver, Memory>
         requires window { (1 ≤ window) × (window ≤ 64) }
         requires unit { IsUnit unit }
-        ensures { IfOk result (λ made. IsBlank window unit made) }
+        ensures { IfOk result (λ made. IsNewReceiver window unit made) }
     {
         let partials = Partials::sized(alloc, window, unit)?;
         let window = RecvWindow::sized(window);

@@ -16,7 +16,7 @@ use Rattle.lapi_link.specs.Sender.{SendingEnd, IsNewSender}
 use Rattle.lapi_task.specs.declared.task.Task.{Task}
 use Rattle.lapi_task.specs.Sends.{packet_at, SendsFor}
 use Rattle.lapi_task.specs.StandsFor.{SenderAt, ReceiverAt, is_uncopied, HoldsFor, StandsFor}
-use Rattle.lapi_link.specs.Receiver.{IsBlank}
+use Rattle.lapi_link.specs.Receiver.{IsNewReceiver}
 use Rattle.lapi_task.proofs.StepMemories.{memory-blank}
 use Rattle.lapi_base.proofs.BelowLaws.{below-none}
 use Rattle.lapi_base.proofs.ListLaws.{all-get, get-some}
@@ -31,7 +31,7 @@ pub record IsNew (script : Script) (t : ℕ) (task : Task) : Type 0 where
   pub refusals : task.refusals.items ≡ []
   pub uncopied : task.uncopied.items ≡ []
   pub senders : (length task.senders.items ≡ script.tasks) × AllByRecursion (IsNewSender (window_of script)) task.senders.items
-  pub receivers : (length task.receivers.items ≡ script.tasks) × AllByRecursion (IsBlank (window_of script) (unit_of script)) task.receivers.items
+  pub receivers : (length task.receivers.items ≡ script.tasks) × AllByRecursion (IsNewReceiver (window_of script) (unit_of script)) task.receivers.items
 
 module _ (script : Script) where
   nothing-uncopied : (t k : ℕ) → is_uncopied script [] t k ≡ false
@@ -77,5 +77,5 @@ module _ (script : Script) where
         subst (SenderAt script start t b) (sym x.1) (fresh-sends t b x.0 (all-get (IsNewSender (window_of script)) task.senders.items b x.0 h.senders.1 x.1));
     receivers = λ a l.
         let x = get-some task.receivers.items a (let n = h.receivers.0 in omega (arith, l, n)) in
-        subst (ReceiverAt script []) (sym x.1) (all-get (IsBlank (window_of script) (unit_of script)) task.receivers.items a x.0 h.receivers.1 x.1 script refl refl);
+        subst (ReceiverAt script []) (sym x.1) (all-get (IsNewReceiver (window_of script) (unit_of script)) task.receivers.items a x.0 h.receivers.1 x.1 script refl refl);
   }

@@ -6,7 +6,7 @@ ghost use Rattle.lapi_base.specs.Record.Acts.{step};
 ghost use Rattle.lapi_base.specs.Record.WorldView.{no_rules};
 ghost use Rattle.lapi_base.specs.Packet.Layout.{window_of, unit_of};
 ghost use Rattle.lapi_link.specs.Sender.{IsNewSender};
-ghost use Rattle.lapi_link.specs.Receiver.{IsBlank};
+ghost use Rattle.lapi_link.specs.Receiver.{IsNewReceiver};
 ghost use Rattle.lapi_task.specs.Supported.{IsSupported};
 ghost use Rattle.lapi_task.specs.StandsFor.{StandsFor};
 ghost use Rattle.lapi_task.specs.Steps.{MayStep, IsRefused, IsIssued, PassesWait, IsBlocked, Advances};
@@ -151,7 +151,7 @@ fn senders(alloc: Global, script: &Script) -> Result<Vec<Sender>, Memory>
 /// The receiving ends of the links from each task.
 fn receivers(alloc: Global, script: &Script) -> Result<Vec<Receiver>, Memory>
     ensures count { IfOk result (λ made. length made.items ≡ script.now.tasks) }
-    ensures blank { IfOk result (λ v. AllByRecursion (IsBlank (window_of script.now) (unit_of script.now)) v.items) }
+    ensures blank { IfOk result (λ v. AllByRecursion (IsNewReceiver (window_of script.now) (unit_of script.now)) v.items) }
 {
     let mut receivers = Vec::new(alloc);
     for _task in 0..script.tasks {
