@@ -1,51 +1,82 @@
-# imports of lemmas go to the module that defines them
-import re,os,sys,subprocess
-T=sys.argv[1]
-os.chdir(T)
-files=[f for f in subprocess.run(['git','ls-files','*.antt','*.rt'],capture_output=True,text=True).stdout.split() if os.path.exists(f)]
-defs={}   # name -> set of modules
-own={}
-for f in files:
-    m=re.match(r'crates/(lapi_\w+)/proofs/([A-Z]\w*)\.antt$',f)
-    if not m: continue
-    s=open(f).read()
-    mod='Rattle.%s.proofs.%s'%(m.group(1),m.group(2))
-    names=set(re.findall(r'^\s*(?:abbrev |unfoldable )?pub ([\w][\w\-\']*) :',s,re.M))
-    own[mod]=names|set(re.findall(r'^\s*(?:abbrev |unfoldable )?(?:pub )?(?:record |data |abbrev |unfoldable )*([\w][\w\-\']*) :',s,re.M))|set(re.findall(r'pub (?:record|data) ([\w]+)',s))
-    for n in names: defs.setdefault(n,set()).add(mod)
-USE=re.compile(r'^(?P<head>(?:pub )?(?:ghost )?use )(?P<mod>Rattle\.lapi_\w+\.proofs\.[A-Z]\w*)\.\{(?P<names>[^}]*)\}(?P<tail>;?)$',re.M)
-changed=0
-for f in files:
-    s=open(f).read(); t=s
-    def fix(m):
-        if m.group('head').startswith('pub'): return m.group(0)
-        mod=m.group('mod'); names=[n.strip() for n in m.group('names').split(',') if n.strip()]
-        stay=[];go={}
-        for n in names:
-            b=n.split(' as ')[0].strip()
-            if mod in own and b in own[mod]: stay.append(n); continue
-            c=[d for d in defs.get(b,()) if d!=mod]
-            base=[d for d in c if d.startswith('Rattle.lapi_base.')] or c
-            if len(base)==1: go.setdefault(base[0],[]).append(n)
-            else:
-                print(f,mod,b,'->',base); stay.append(n)
-        lines=[]
-        if stay: lines.append('%s%s.{%s}%s'%(m.group('head'),mod,', '.join(stay),m.group('tail')))
-        for d,ns in go.items(): lines.append('%s%s.{%s}%s'%(m.group('head'),d,', '.join(ns),m.group('tail')))
-        return '\n'.join(lines)
-    t=USE.sub(fix,t)
-    # merge
-    out=[];seen={}
-    for line in t.split('\n'):
-        m=USE.fullmatch(line)
-        if m and not m.group('head').startswith('pub'):
-            k=m.group('mod')
-            if k in seen:
-                i=seen[k]; o=USE.fullmatch(out[i]); ns=[n.strip() for n in o.group('names').split(',')]
-                ns+=[n.strip() for n in m.group('names').split(',') if n.strip() not in ns]
-                out[i]='%s%s.{%s}%s'%(m.group('head'),k,', '.join(ns),m.group('tail')); continue
-            seen[k]=len(out)
-        out.append(line)
-    t='\n'.join(out)
-    if t!=s: open(f,'w').write(t); changed+=1
-print('changed',changed)
+#!/usr/bin/env python3
+"""Lets each import of a lemma name the module that defines it, in every crate of the tree that it is run in.
+
+    python3 reimport.py [TREE]
+
+For a crate that was written before small lemmas moved: a name that its module no longer defines is imported from the
+one module that does. A name that several define, or none, is printed and left.
+"""
+import os
+import re
+import subprocess
+import sys
+
+TREE = sys.argv[1] if len(sys.argv) > 1 else "."
+MODULE = re.compile(r"crates/(lapi_\w+)/proofs/([A-Z]\w*)\.antt$")
+PUBLIC = re.compile(r"^\s*(?:abbrev |unfoldable )?pub ([\w][\w\-']*) :", re.M)
+DEFINED = re.compile(r"^\s*(?:pub |abbrev |unfoldable |record |data )*([\w][\w\-']*)(?: [({][^\n]*)? :", re.M)
+USE = re.compile(r"^(?P<head>(?:ghost )?use )(?P<module>Rattle\.lapi_\w+\.proofs\.[A-Z]\w*)\.\{(?P<names>[^}]*)\}(?P<tail>;?)$", re.M)
+
+
+def names_in(text):
+    return [name.strip() for name in text.split(",") if name.strip()]
+
+
+def read_definitions(files):
+    """What each module of lemmas defines, and which modules have a public name."""
+    own, homes = {}, {}
+    for path in files:
+        found = MODULE.match(path)
+        if found:
+            module = "Rattle.%s.proofs.%s" % found.groups()
+            text = open(path).read()
+            own[module] = set(DEFINED.findall(text))
+            for name in PUBLIC.findall(text):
+                homes.setdefault(name, set()).add(module)
+    return own, homes
+
+
+def home_of(name, module, own, homes):
+    """The module that a name is to be imported from, or None where that isn't known."""
+    if name in own.get(module, ()):
+        return module
+    others = [home for home in homes.get(name, ()) if home != module]
+    base = [home for home in others if home.startswith("Rattle.lapi_base.")] or others
+    return base[0] if len(base) == 1 else None
+
+
+def redirect(path, text, own, homes):
+    wanted, lines, places = {}, [], {}
+    for line in text.split("\n"):
+        found = USE.fullmatch(line)
+        if not found:
+            lines.append(line)
+            continue
+        for name in names_in(found["names"]):
+            home = home_of(name.split(" as ")[0], found["module"], own, homes)
+            if home is None:
+                print(path, found["module"], name)
+                home = found["module"]
+            if home not in places:
+                places[home] = len(lines)
+                lines.append((found["head"], home, found["tail"]))
+            names = wanted.setdefault(home, [])
+            if name not in names:
+                names.append(name)
+    spelled = lambda use: "%s%s.{%s}%s" % (use[0], use[1], ", ".join(wanted[use[1]]), use[2])
+    return "\n".join(line if isinstance(line, str) else spelled(line) for line in lines)
+
+
+def main():
+    os.chdir(TREE)
+    listed = subprocess.run(["git", "ls-files", "*.antt", "*.rt"], capture_output=True, text=True).stdout.split()
+    files = [path for path in listed if os.path.exists(path)]
+    own, homes = read_definitions(files)
+    for path in files:
+        text = open(path).read()
+        changed = redirect(path, text, own, homes)
+        if changed != text:
+            open(path, "w").write(changed)
+
+
+main()

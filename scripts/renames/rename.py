@@ -1,23 +1,26 @@
 #!/usr/bin/env python3
 """Moves definitions into rooms and gives words other names, in every crate of the tree that it is run in.
 
-    python3 rename.py [TREE]
+    python3 rename.py TREE [CRATE..]
 
-It reads the tables below. It may be run again, and over crates that were written before: what has its new name stays.
+tables.py says what. It is done for all crates that stand here; for one that was written before, name that crate: then
+only its files are changed. Imports of small lemmas that moved are reimport.py's.
 """
 import os, re, subprocess, sys
 sys.path.insert(0, os.path.dirname(os.path.abspath(__file__)))
 from tables import MODULES, SYMBOLS, WORDS, LOCAL, PREFIXES, PREFIX_CRATES, CLAUSES, FILES, WIRES, TYPES
 
 TREE = os.path.abspath(sys.argv[1]) if len(sys.argv) > 1 else os.getcwd()
+CRATES = sys.argv[2:]
 IDENT = r"[\w\-'+]"
 
 def sources():
     for base, dirs, names in os.walk(os.path.join(TREE, "crates")):
         dirs[:] = [d for d in dirs if d != "out"]
         for name in names:
-            if name.endswith((".antt", ".rt", ".edit")):
-                yield os.path.join(base, name)
+            path = os.path.join(base, name)
+            if name.endswith((".antt", ".rt", ".edit")) and (not CRATES or crate_of(path) in CRATES):
+                yield path
 
 def crate_of(path):
     return os.path.relpath(path, os.path.join(TREE, "crates")).split(os.sep)[0]
@@ -30,13 +33,13 @@ def room_path(crate, kind, module):
 def move_modules():
     for (crate, kind, old, new) in MODULES:
         a, b = room_path(crate, kind, old), room_path(crate, kind, new)
-        if os.path.exists(a) and a != b:
+        if os.path.exists(a) and not os.path.exists(b):
             os.makedirs(os.path.dirname(b), exist_ok=True)
             subprocess.run(["git", "mv", a, b], cwd=TREE, check=True)
             rename_entry(crate, kind, old, new)
     for old, new in FILES:
         a, b = os.path.join(TREE, old), os.path.join(TREE, new)
-        if os.path.exists(a):
+        if os.path.exists(a) and not os.path.exists(b):
             os.makedirs(os.path.dirname(b), exist_ok=True)
             subprocess.run(["git", "mv", a, b], cwd=TREE, check=True)
 
