@@ -1,0 +1,8 @@
+# Completion of lapi's words for bash: source this file.
+_lapi() {
+  COMPREPLY=()
+  if [ "$COMP_CWORD" -eq 1 ]; then
+    mapfile -t COMPREPLY < <(compgen -W "run journal wire trace check show" -- "${COMP_WORDS[1]}")
+  fi
+}
+complete -F _lapi lapi
