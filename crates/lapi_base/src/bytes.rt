@@ -36,6 +36,13 @@ impl Bytes {
         Ok(Bytes { items })
     }
 
+    /// A copy of the list.
+    pub fn copy(&self, alloc: Global) -> Result<Bytes, Memory>
+        ensures { IfOk result (λ copy. copy ≡ self.now) }
+    {
+        Bytes::from_slice(alloc, self.as_slice())
+    }
+
     /// Appends a byte.
     pub fn push(&mut self, item: u8) -> Result<(), Memory>
         ensures ok { OnOk result (self.new ≡ self.old ++ item ∷ []) }

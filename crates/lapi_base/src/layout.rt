@@ -12,7 +12,7 @@ impl Script {
         ensures unit { result ≡ unit_of self.now }
         ensures one { (result ≡ 256) ⊎ (result ≡ 1024) }
     {
-        if self.layout == 2 { 1_024 } else { 256 }
+        self.sizes().unit()
     }
 
     /// How many packets from the least that is not acknowledged on a link sends.
@@ -29,7 +29,7 @@ impl Script {
     pub fn longest(&self) -> u32
         ensures { result ≡ longest_of self.now }
     {
-        if self.layout == 2 { 65_536 } else { 16_384 }
+        self.sizes().longest()
     }
 
     /// The bytes of the longest active message.

@@ -39,6 +39,16 @@ impl PieceList {
         PieceList { items }
     }
 
+    /// A copy of the list.
+    pub fn copy(&self) -> PieceList
+        ensures { result ≡ self.now }
+    {
+        match ArrayVec::try_from(self.as_slice()) {
+            Ok(items) => PieceList { items },
+            Err(_) => unreachable!(),
+        }
+    }
+
     /// Appends a piece.
     pub fn push(&mut self, item: Piece)
         requires { length self.old < 16 }

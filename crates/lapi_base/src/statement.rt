@@ -1,4 +1,4 @@
-ghost use Rattle.std.specs.Prelude.{◌≡◌, [], ◌∷◌, ◌++◌, OnOk, OnErr};
+ghost use Rattle.std.specs.Prelude.{◌≡◌, [], ◌∷◌, ◌++◌, IfOk, OnOk, OnErr};
 
 use crate::address::Addr;
 use crate::bytes::Bytes;
@@ -153,6 +153,18 @@ impl Statements {
     {
         self.items.push(item)?;
         Ok(())
+    }
+
+    /// A copy of the list.
+    pub fn copy(&self, alloc: Global) -> Result<Statements, Memory>
+        ensures { IfOk result (λ copy. copy ≡ self.now) }
+    {
+        let mut copy = Statements::new(alloc);
+        for statement in self.as_slice() {
+            let statement = statement.copy(alloc)?;
+            copy.push(statement)?;
+        }
+        Ok(copy)
     }
 
     pub fn as_slice(&self) -> &[Statement]

@@ -1,3 +1,5 @@
+ghost use Rattle.std.specs.Prelude.{◌≡◌};
+
 use crate::address::Addr;
 use crate::piece::PieceList;
 
@@ -12,4 +14,26 @@ pub enum Vector {
         stride: u32,
         count: u32,
     },
+}
+
+impl Vector {
+    /// A copy of the vector.
+    pub fn copy(&self) -> Vector
+        ensures { result ≡ self.now }
+    {
+        match self {
+            Vector::List(pieces) => Vector::List(pieces.copy()),
+            Vector::Stride {
+                base,
+                block,
+                stride,
+                count,
+            } => Vector::Stride {
+                base: *base,
+                block: *block,
+                stride: *stride,
+                count: *count,
+            },
+        }
+    }
 }

@@ -1,12 +1,16 @@
-ghost use Rattle.std.specs.Prelude.{◌≡◌, ◌<◌, ◌≤◌, length, map, vec_len};
+ghost use Rattle.std.specs.Prelude.{◌≡◌, ◌<◌, ◌≤◌, length, map, vec_len, IfOk};
 ghost use Rattle.lapi_base.specs.Record.Handlers.{header_answer, header_rule, completion_answer, completion_rule, kept_choice};
+ghost use Rattle.lapi_base.specs.Record.Valid.{ValidRules};
 ghost use Rattle.lapi_handlers.specs.HeaderFn.{IsInRange};
 
 use crate::completion_fn::CompletionFn;
 use crate::finished::Finished;
 use crate::header_fn::HeaderFn;
 use crate::job::Job;
-use lapi_base::{HeaderIn, HeaderOut};
+use lapi_base::{
+    CompletionRule, CompletionRules, HeaderIn, HeaderOut, HeaderRule, HeaderRules, Memory, Rules,
+};
+use std::alloc::Global;
 
 /// The handlers of a run, by their numbers.
 #[derive(Drop)]
@@ -44,6 +48,53 @@ impl Handlers {
         ensures bounded { result ≤ 16 }
     {
         self.completions.len() as u32
+    }
+
+    /// The rule of a header handler.
+    pub fn header_rule(&self, index: u32) -> HeaderRule
+        requires { index < length (rules_of self.now).headers }
+        ensures { result ≡ header_rule (rules_of self.now) index }
+    {
+        self.headers[index as usize].rule
+    }
+
+    /// The rule of a completion handler.
+    pub fn completion_rule(&self, index: u32) -> CompletionRule
+        requires { index < length (rules_of self.now).completions }
+        ensures { result ≡ completion_rule (rules_of self.now) index }
+    {
+        self.completions[index as usize].rule
+    }
+
+    /// A copy of all rules.
+    pub fn rules(&self, alloc: Global) -> Result<Rules, Memory>
+        ensures copy { IfOk result (λ rules. rules ≡ rules_of self.now) }
+        ensures valid { ValidRules (rules_of self.now) }
+    {
+        Ok(Rules {
+            headers: self.header_rules(alloc)?,
+            completions: self.completion_rules(alloc)?,
+        })
+    }
+
+    fn header_rules(&self, alloc: Global) -> Result<HeaderRules, Memory>
+        ensures { IfOk result (λ rules. rules ≡ (rules_of self.now).headers) }
+    {
+        let mut rules = HeaderRules::new(alloc);
+        for handler in &self.headers {
+            rules.push(handler.rule)?;
+        }
+        Ok(rules)
+    }
+
+    fn completion_rules(&self, alloc: Global) -> Result<CompletionRules, Memory>
+        ensures { IfOk result (λ rules. rules ≡ (rules_of self.now).completions) }
+    {
+        let mut rules = CompletionRules::new(alloc);
+        for handler in &self.completions {
+            rules.push(handler.rule)?;
+        }
+        Ok(rules)
     }
 
     /// The completion handler that a header handler chose, if there is one of that number.

@@ -1,10 +1,11 @@
 ghost use Rattle.std.specs.Prelude.{◌≡◌};
+ghost use Rattle.lapi_base.specs.declared.packet.Packet.TheVariants.{Data};
 ghost use Rattle.lapi_base.specs.Packet.Spelling.{Spells, HasSpelling};
 ghost use Rattle.lapi_base.specs.Packet.PacketBytes as written;
 
 use crate::front::{Front, Kind};
 use crate::{acknowledgement, data, front};
-use lapi_base::{Frame, Packet};
+use lapi_base::{DataPacket, Frame, Packet};
 
 /// Leaves in `out` the one spelling of a packet, and nothing else.
 pub fn encode(p: &Packet, out: &mut Frame)
@@ -12,6 +13,15 @@ pub fn encode(p: &Packet, out: &mut Frame)
     ensures { Spells p.now out.new }
 {
     write(p, out);
+}
+
+/// Leaves in `out` the one spelling of a data packet, and nothing else.
+pub fn encode_data(p: &DataPacket, out: &mut Frame)
+    requires { HasSpelling (Data p.now) }
+    ensures { Spells (Data p.now) out.new }
+{
+    out.clear();
+    data::write(p, out);
 }
 
 /// Leaves in `out` the bytes of any packet, each field reduced to its size.

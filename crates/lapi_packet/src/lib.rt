@@ -20,6 +20,6 @@ mod spans;
 mod validity;
 
 pub use decoding::decode;
-pub use encoding::encode;
+pub use encoding::{encode, encode_data};
 pub use laws::spelling_laws;
 pub use validity::valid;

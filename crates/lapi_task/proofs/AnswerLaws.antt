@@ -3,6 +3,7 @@ use Rattle.std.proofs.Common.{◌≡◌, ℕ, ◌+◌, ◌≤◌, ◌==◌, fals
 use Rattle.std.specs.Prelude.{slice_get}
 use Rattle.std.proofs.lemmas.Bool.{cond-true, cond-false, and_from}
 use Rattle.lapi_base.specs.declared.script.Script.{Script}
+use Rattle.lapi_base.specs.declared.rule.Rules.{Rules}
 use Rattle.lapi_base.specs.declared.packet.Packet.{Packet}
 use Rattle.lapi_base.specs.declared.packet.Packet.TheVariants.{Data, Ack}
 use Rattle.lapi_base.specs.declared.packet.DataPacket.{DataPacket}
@@ -12,7 +13,7 @@ use Rattle.lapi_base.specs.Record.Below.{bits_of}
 use Rattle.lapi_base.specs.Packet.Layout.{window_of}
 use Rattle.lapi_base.specs.Record.Wires.{Run, has_number, ack}
 use Rattle.lapi_base.specs.Record.Acts.{with_handed, hand_over, deliver_entry, deliver}
-use Rattle.lapi_base.specs.Record.WorldView.{no_rules, IsRecord}
+use Rattle.lapi_base.specs.Record.WorldView.{IsRecord}
 use Rattle.lapi_base.specs.Packet.Spelling.{HasSpelling}
 use Rattle.lapi_base.specs.Packet.PacketBytes as written
 use Rattle.lapi_link.specs.Receiver.{ReceivingEnd, ReceivesFor}
@@ -45,26 +46,27 @@ module _ (script : Script) where
 
     -- so much is told
     module _ (base bits : ℕ) (told : ReceivesFor script end ps → (base ≡ least_number ps) × (bits ≡ bits_of (window_of script) (λ i. has_number ps (least_number ps + i)))) where
-      is : Ack task.number from base bits ≡ ack_of script ps from t
-      is = told-is ps from t task.number base bits taken.number (told answers-for.1)
+      is : Ack task.state.number from base bits ≡ ack_of script ps from t
+      is = told-is ps from t task.state.number base bits taken.number (told answers-for.1)
 
-      pub answer-spelled : HasSpelling (Ack task.number from base bits)
+      pub answer-spelled : HasSpelling (Ack task.state.number from base bits)
       answer-spelled = subst HasSpelling (sym is) (ack-spelled script taken.performed.valid ps from t answers-for.1.numbers taken.from_known taken.known)
 
-      pub answer-put : (old new : List WireEntry) (bytes : List ℕ) → bytes ≡ written.packet (Ack task.number from base bits) → new ≡ old ++ record { to = from; bytes = bytes } ∷ [] → new ≡ old ++ answer script ps from t ∷ []
+      pub answer-put : (old new : List WireEntry) (bytes : List ℕ) → bytes ≡ written.packet (Ack task.state.number from base bits) → new ≡ old ++ record { to = from; bytes = bytes } ∷ [] → new ≡ old ++ answer script ps from t ∷ []
       answer-put old new bytes spells put = put ∙ ap (λ (bs : List ℕ). old ++ record { to = from; bytes = bs } ∷ []) (spells ∙ ap written.packet is)
+      -- A delivery of a data packet puts its acknowledgement on the wire back, and leaves the other wires.
 
-  -- A delivery of a data packet puts its acknowledgement on the wire back, and leaves the other wires.
-  module _ (valid : ValidScript script) (r : Run) (recorded : IsRecord script no_rules r) (a b k : ℕ) (p : DataPacket) (at : slice_get (r.wire a b) k ≡ Some (Data p)) where
-    wires : (x y : ℕ) → (deliver script no_rules r a b k).wire x y ≡ cond (x == b && y == a) (r.wire x y ++ ack script no_rules (with_handed script no_rules r a b (Data p)) a b ∷ []) (r.wire x y)
+module _ (script : Script) (rules : Rules) where
+  module _ (valid : ValidScript script) (r : Run) (recorded : IsRecord script rules r) (a b k : ℕ) (p : DataPacket) (at : slice_get (r.wire a b) k ≡ Some (Data p)) where
+    wires : (x y : ℕ) → (deliver script rules r a b k).wire x y ≡ cond (x == b && y == a) (r.wire x y ++ ack script rules (with_handed script rules r a b (Data p)) a b ∷ []) (r.wire x y)
     unfolding deliver hand_over
-    wires x y = ap (λ o. (deliver_entry script no_rules r a b o).wire x y) at ∙ ap (λ ps. cond (x == b && y == a) (r.wire x y ++ ps) (r.wire x y)) (told-at-once script no_rules valid (ack script no_rules (with_handed script no_rules r a b (Data p)) a b))
+    wires x y = ap (λ o. (deliver_entry script rules r a b o).wire x y) at ∙ ap (λ ps. cond (x == b && y == a) (r.wire x y ++ ps) (r.wire x y)) (told-at-once script rules valid (ack script rules (with_handed script rules r a b (Data p)) a b))
 
-    pub answered-wire : (deliver script no_rules r a b k).wire b a ≡ r.wire b a ++ ack_of script (Data p ∷ r.handed a b) a b ∷ []
+    pub answered-wire : (deliver script rules r a b k).wire b a ≡ r.wire b a ++ ack_of script (Data p ∷ r.handed a b) a b ∷ []
     answered-wire =
         wires b a
         ∙ cond-true (b == b && a == a) _ _ (and_from _ _ (eqb-refl b) (eqb-refl a))
-        ∙ ap (λ (q : Packet). r.wire b a ++ q ∷ []) (next-acks-told script no_rules r recorded a b k p at)
+        ∙ ap (λ (q : Packet). r.wire b a ++ q ∷ []) (next-acks-told script rules r recorded a b k p at)
 
-    pub other-wires : (x y : ℕ) → (x == b && y == a) ≡ false → (deliver script no_rules r a b k).wire x y ≡ r.wire x y
+    pub other-wires : (x y : ℕ) → (x == b && y == a) ≡ false → (deliver script rules r a b k).wire x y ≡ r.wire x y
     other-wires x y apart = wires x y ∙ cond-false (x == b && y == a) _ _ apart

@@ -3,6 +3,7 @@ use Rattle.std.proofs.Common.{◌≡◌, ℕ, ◌==◌, false, cond, not, ◌&&�
 use Rattle.std.specs.Prelude.{slice_get, option_map}
 use Rattle.std.proofs.lemmas.List.{append-nil}
 use Rattle.lapi_base.specs.declared.script.Script.{Script}
+use Rattle.lapi_base.specs.declared.rule.Rules.{Rules}
 use Rattle.lapi_base.specs.declared.refusal.Refusal.{Refusal}
 use Rattle.lapi_base.specs.declared.message.Leg.TheVariants.{Go}
 use Rattle.lapi_base.specs.declared.message.MsgName.{MsgName}
@@ -16,7 +17,7 @@ use Rattle.lapi_base.specs.Record.Operations.{numbers_below, statements, stateme
 use Rattle.lapi_base.specs.Record.Packets.{data_packet}
 use Rattle.lapi_base.specs.Record.Wires.{Run, numbered, has_number, has_ack}
 use Rattle.lapi_base.specs.Record.Refusals.{refusals}
-use Rattle.lapi_base.specs.Record.WorldView.{no_rules, performed, IsRecord}
+use Rattle.lapi_base.specs.Record.WorldView.{performed, IsRecord}
 use Rattle.lapi_base.specs.Record.TaskPart.{is_at, events_at, part_at}
 use Rattle.lapi_base.specs.Record.Values.{values, memory_bytes}
 use Rattle.lapi_base.specs.Packet.PacketBytes as written
@@ -29,12 +30,13 @@ use Rattle.lapi_parts.proofs.LocalQuestions.{by_points}
 use Rattle.lapi_parts.proofs.OtherTasks.{others-stay}
 use Rattle.lapi_parts.proofs.Records.{record-sound}
 use Rattle.lapi_parts.proofs.SameParts.{SamePart, same-part, bytes-same, told-statements, told-links, told-jobs, told-memory}
+use Rattle.lapi_task.specs.declared.state.State.{State}
 use Rattle.lapi_task.specs.declared.task.Task.{Task}
 use Rattle.lapi_task.specs.Apart.{TasksStayApart, StandsByPart}
 use Rattle.lapi_task.specs.Sends.{SendsFor, packet_at, spelled}
 use Rattle.lapi_task.specs.StandsFor.{is_uncopied, SenderAt, ReceiverAt, HoldsFor, StandsFor}
 
-module _ (script : Script) (t : ℕ) where
+module _ (script : Script) (rules : Rules) (t : ℕ) where
   refusals-step : Event → List (ℕ × Refusal) → List (ℕ × Refusal)
   refusals-step (Refuse a i why) xs = xs ++ cond (a == t) ((i, why) ∷ []) []
   refusals-step _ xs = xs
@@ -67,15 +69,15 @@ module _ (script : Script) (t : ℕ) where
   refusals-local J = folds script t (λ K. refusals K t) refusals-step refusals-steps refusals-others J
 
   -- Two records with the same part at the task.
-  module _ (r s : Run) (ir : IsRecord script no_rules r) (is : IsRecord script no_rules s) (e : part_at script t r ≡ part_at script t s) where
-    same : SamePart script no_rules t r s
-    same = same-part script no_rules t r s e
+  module _ (r s : Run) (ir : IsRecord script rules r) (is : IsRecord script rules s) (e : part_at script t r ≡ part_at script t s) where
+    same : SamePart script rules t r s
+    same = same-part script rules t r s e
 
-    acts : SameStatements script no_rules t r s
-    acts = told-statements script no_rules t r s ir is e
+    acts : SameStatements script rules t r s
+    acts = told-statements script rules t r s ir is e
 
-    links : SameLinks script no_rules t r s
-    links = told-links script no_rules t r s ir is e
+    links : SameLinks script rules t r s
+    links = told-links script rules t r s ir is e
 
     refusals-same : refusals r.journal t ≡ refusals s.journal t
     refusals-same = sym (refusals-local r.journal) ∙ ap (λ K. refusals K t) same.events ∙ refusals-local s.journal
@@ -86,12 +88,12 @@ module _ (script : Script) (t : ℕ) where
         ap (λ x. is_data (statement script t i) && (x && not (happened (Copied (message t i Go)) r.journal))) (acts.same_events (Issued t i) refl)
         ∙ ap (λ x. is_data (statement script t i) && (happened (Issued t i) s.journal && not x)) (acts.same_events (Copied (message t i Go)) refl))
 
-    memory-same : memory_bytes script no_rules r.journal t ≡ memory_bytes script no_rules s.journal t
+    memory-same : memory_bytes script rules r.journal t ≡ memory_bytes script rules s.journal t
     unfolding memory_bytes
-    memory-same = ap (λ (f : ℕ → ℕ). map f (numbers_below script.memory)) (by_points ((values script no_rules r.journal).memory t) ((values script no_rules s.journal).memory t) (told-memory script no_rules t r s ir is e))
+    memory-same = ap (λ (f : ℕ → ℕ). map f (numbers_below script.memory)) (by_points ((values script rules r.journal).memory t) ((values script rules s.journal).memory t) (told-memory script rules t r s ir is e))
 
-    pub holds-same : (task : Task) → HoldsFor script t task r.journal → HoldsFor script t task s.journal
-    holds-same task h = record {
+    pub holds-same : (state : State) → HoldsFor script rules t state r.journal → HoldsFor script rules t state s.journal
+    holds-same state h = record {
       number = h.number;
       next = h.next ∙ acts.next;
       ahead = λ i le. sym (acts.same_events (Issued t i) refl) ∙ h.ahead i le;
@@ -101,21 +103,21 @@ module _ (script : Script) (t : ℕ) where
       counter_count = h.counter_count;
       counters = λ c lt. h.counters c lt ∙ acts.counters c;
       uncopied = h.uncopied ∙ ap (below (length (statements script t))) uncopied-same;
-      jobless = λ w. let jobs = told-jobs script no_rules t r s ir is e in sym (jobs.running w) ∙ h.jobless w;
+      jobless = λ w. let jobs = told-jobs script rules t r s ir is e in sym (jobs.running w) ∙ h.jobless w;
     }
 
     -- the packet of a number
-    packet-same : (b n : ℕ) → packet_at script r.journal t b n ≡ packet_at script s.journal t b n
+    packet-same : (b n : ℕ) → packet_at script rules r.journal t b n ≡ packet_at script rules s.journal t b n
     unfolding packet_at
-    packet-same b n = ap (λ (pairs : List (MsgName × ℕ)). option_map (spelled script r.journal n) (slice_get pairs n)) (links.numbers b) ∙ one (slice_get (numbered script s.journal t b) n) refl
+    packet-same b n = ap (λ (pairs : List (MsgName × ℕ)). option_map (spelled script rules r.journal n) (slice_get pairs n)) (links.numbers b) ∙ one (slice_get (numbered script s.journal t b) n) refl
       where
-        one : (o : Option (MsgName × ℕ)) → slice_get (numbered script s.journal t b) n ≡ o → option_map (spelled script r.journal n) o ≡ option_map (spelled script s.journal n) o
+        one : (o : Option (MsgName × ℕ)) → slice_get (numbered script s.journal t b) n ≡ o → option_map (spelled script rules r.journal n) o ≡ option_map (spelled script rules s.journal n) o
         one None at = refl
         one (Some pair) at =
-            let bytes = bytes-same script no_rules t r s same (record-sound script no_rules r ir) (record-exact script no_rules r ir) (record-sound script no_rules s is) (record-exact script no_rules s is) pair.0 (numbered-copied script s.journal t b n pair at).1 in
+            let bytes = bytes-same script rules t r s same (record-sound script rules r ir) (record-exact script rules r ir) (record-sound script rules s is) (record-exact script rules s is) pair.0 (numbered-copied script s.journal t b n pair at).1 in
             ap (λ (bs : List ℕ). Some (written.packet (data_packet script pair.0 n pair.1 bs))) bytes
 
-    sends-same : (end : SendingEnd) (b : ℕ) → SendsFor script end r t b → SendsFor script end s t b
+    sends-same : (end : SendingEnd) (b : ℕ) → SendsFor script rules end r t b → SendsFor script rules end s t b
     sends-same end b h = record {
       numbers = record {
         size = h.numbers.size;
@@ -128,13 +130,14 @@ module _ (script : Script) (t : ℕ) where
       waiting = λ i. h.waiting i ∙ packet-same b _;
     }
 
-    sender-same : (b : ℕ) (o : Option SendingEnd) → SenderAt script r t b o → SenderAt script s t b o
+    sender-same : (b : ℕ) (o : Option SendingEnd) → SenderAt script rules r t b o → SenderAt script rules s t b o
     sender-same b None h = absurd h
     sender-same b (Some end) h = sends-same end b h
 
-    pub stands-same : (task : Task) → StandsFor script t task r → StandsFor script t task s
+    pub stands-same : (task : Task) → StandsFor script rules t task r → StandsFor script rules t task s
     stands-same task h = record {
-      holds = holds-same task h.holds;
+      calls = h.calls;
+      holds = holds-same task.state h.holds;
       sender_count = h.sender_count;
       receiver_count = h.receiver_count;
       senders = λ b lt. sender-same b (slice_get task.senders.items b) (h.senders b lt);
@@ -142,9 +145,9 @@ module _ (script : Script) (t : ℕ) where
     }
 
 pub stays-apart : TasksStayApart
-stays-apart script t task r act p h valid apart =
-    let s = performed script no_rules r act in
-    stands-same script t r s h.recorded (more-record script no_rules r act h.recorded valid) (sym (others-stay script no_rules r h.recorded act t apart)) task h.stands
+stays-apart script rules t task r act h valid apart =
+    let s = performed script rules r act in
+    stands-same script rules t r s h.recorded (more-record script rules r act h.recorded valid) (sym (others-stay script rules r h.recorded act t apart)) task h.stands
 
 pub stands-by-part : StandsByPart
-stands-by-part script t task r s h is e = record { recorded = is; known = h.known; stands = stands-same script t r s h.recorded is e task h.stands }
+stands-by-part script rules t task r s h is e = record { recorded = is; known = h.known; stands = stands-same script rules t r s h.recorded is e task h.stands }

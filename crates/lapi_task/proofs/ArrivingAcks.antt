@@ -6,6 +6,7 @@ use Rattle.std.proofs.Math.Bool.{or_comm}
 use Rattle.std.proofs.lemmas.Bool.{cond-true, and_from, or_parts, eqb-true, eqb-false, ltb-true}
 use Rattle.std.proofs.lemmas.List.{append-nil, length-set}
 use Rattle.lapi_base.specs.declared.script.Script.{Script}
+use Rattle.lapi_base.specs.declared.rule.Rules.{Rules}
 use Rattle.lapi_base.specs.declared.message.MsgName.{MsgName}
 use Rattle.lapi_base.specs.declared.event.Event.{Event}
 use Rattle.lapi_base.specs.declared.packet.Packet.{Packet}
@@ -15,7 +16,6 @@ use Rattle.lapi_base.specs.declared.reply.Reply.TheVariants.{Did}
 use Rattle.lapi_base.specs.Record.Arrived.{has_fragment, payload_of, whole_by}
 use Rattle.lapi_base.specs.Record.Wires.{Run, has_number, has_ack}
 use Rattle.lapi_base.specs.Record.Acts.{with_handed, hand_over, deliver_entry, deliver, reply_with, followed}
-use Rattle.lapi_base.specs.Record.WorldView.{no_rules}
 use Rattle.lapi_base.specs.Record.Valid.{ValidScript}
 use Rattle.lapi_base.specs.Packet.PacketBytes as written
 use Rattle.lapi_base.proofs.ListLaws.{at-place, get-set, get-set-other}
@@ -59,14 +59,14 @@ module _ (script : Script) (ps : List Packet) (x y base bits : ℕ) where
   unfolding has_ack is_covered
   acks-more n = refl
 
-module _ (script : Script) (r : Run) (from t k x y base bits : ℕ) where
+module _ (script : Script) (rules : Rules) (r : Run) (from t k x y base bits : ℕ) where
   -- the record with the acknowledgement handed over
   abbrev noted : Run
-  noted = reply_with script no_rules (with_handed script no_rules r from t (Ack x y base bits)) Did
+  noted = reply_with script rules (with_handed script rules r from t (Ack x y base bits)) Did
 
-  delivered : slice_get (r.wire from t) k ≡ Some (Ack x y base bits) → deliver script no_rules r from t k ≡ noted
+  delivered : slice_get (r.wire from t) k ≡ Some (Ack x y base bits) → deliver script rules r from t k ≡ noted
   unfolding deliver hand_over
-  delivered entry = ap (deliver_entry script no_rules r from t) entry
+  delivered entry = ap (deliver_entry script rules r from t) entry
 
   handed-own : noted.handed from t ≡ Ack x y base bits ∷ r.handed from t
   handed-own = cond-true (from == from && t == t) (Ack x y base bits ∷ r.handed from t) (r.handed from t) (and_from _ _ (eqb-refl from) (eqb-refl t))
@@ -75,7 +75,7 @@ module _ (script : Script) (r : Run) (from t k x y base bits : ℕ) where
   handed-other b apart = ap (λ c. cond (c && t == t) (Ack x y base bits ∷ r.handed b t) (r.handed b t)) apart
 
   -- Its own link has what it covers acknowledged too, and other links stay.
-  sends-own : (old new : SendingEnd) → IsAcked old new base bits → SendsFor script old r t from → SendsFor script new noted t from
+  sends-own : (old new : SendingEnd) → IsAcked old new base bits → SendsFor script rules old r t from → SendsFor script rules new noted t from
   sends-own old new g h = record {
     numbers = record {
       size = g.size ∙ h.numbers.size;
@@ -90,10 +90,10 @@ module _ (script : Script) (r : Run) (from t k x y base bits : ℕ) where
     };
     whole = (λ i. g.sent i + length (g.waiting i)) ∙ h.whole ∙ sym g.numbers;
     kept = λ n lt left. g.bytes n left ∙ h.kept n (subst (λ m. n < m) g.sent lt) (or_parts (window.is_acked old.window n) (is_covered base bits n) (sym (g.acked n) ∙ left)).0;
-    waiting = λ i. ap (λ (ws : List (List ℕ)). slice_get ws i) g.waiting ∙ h.waiting i ∙ ap (λ m. packet_at script r.journal t from (m + i)) (sym g.sent);
+    waiting = λ i. ap (λ (ws : List (List ℕ)). slice_get ws i) g.waiting ∙ h.waiting i ∙ ap (λ m. packet_at script rules r.journal t from (m + i)) (sym g.sent);
   }
 
-  sends-other : (b : ℕ) → (b == from) ≡ false → (s : SendingEnd) → SendsFor script s r t b → SendsFor script s noted t b
+  sends-other : (b : ℕ) → (b == from) ≡ false → (s : SendingEnd) → SendsFor script rules s r t b → SendsFor script rules s noted t b
   sends-other b apart s h = record {
     numbers = record {
       size = h.numbers.size;
@@ -106,7 +106,7 @@ module _ (script : Script) (r : Run) (from t k x y base bits : ℕ) where
     waiting = h.waiting;
   }
 
-  sender-other : (b : ℕ) → (b == from) ≡ false → (o : Option SendingEnd) → SenderAt script r t b o → SenderAt script noted t b o
+  sender-other : (b : ℕ) → (b == from) ≡ false → (o : Option SendingEnd) → SenderAt script rules r t b o → SenderAt script rules noted t b o
   sender-other b apart None h = absurd h
   sender-other b apart (Some s) h = sends-other b apart s h
 
@@ -121,33 +121,20 @@ module _ (script : Script) (r : Run) (from t k x y base bits : ℕ) where
   abbrev with_sender : Task → SendingEnd → Task
   with_sender task new = record task { senders = with_item task.senders from new }
 
-  holds-after : (task : Task) (new : SendingEnd) (J : List Event) → HoldsFor script t task J → HoldsFor script t (with_sender task new) J
-  holds-after task new J h = record {
-    number = h.number;
-    next = h.next;
-    ahead = h.ahead;
-    reads = h.reads;
-    refusals = h.refusals;
-    memory = h.memory;
-    counter_count = h.counter_count;
-    counters = h.counters;
-    uncopied = h.uncopied;
-    jobless = h.jobless;
-  }
-
-  stands-after : (task : Task) (old new : SendingEnd) → slice_get task.senders.items from ≡ Some old → IsAcked old new base bits → SendsFor script old r t from → StandsFor script t task r → StandsFor script t (with_sender task new) noted
+  stands-after : (task : Task) (old new : SendingEnd) → slice_get task.senders.items from ≡ Some old → IsAcked old new base bits → SendsFor script rules old r t from → StandsFor script rules t task r → StandsFor script rules t (with_sender task new) noted
   stands-after task old new there g own h =
       let ends = task.senders.items in
       record {
-        holds = holds-after task new r.journal h.holds;
+        calls = record { supported = h.calls.supported; rules_valid = h.calls.rules_valid; sizes = h.calls.sizes; statements = h.calls.statements; header_count = h.calls.header_count };
+        holds = h.holds;
         sender_count = length-set ends from new ∙ h.sender_count;
         receiver_count = h.receiver_count;
         senders = λ b lt.
-            elim (b == from) as (λ c. (b == from) ≡ c → SenderAt script noted t b (slice_get (slice_set ends from new) b)) [
+            elim (b == from) as (λ c. (b == from) ≡ c → SenderAt script rules noted t b (slice_get (slice_set ends from new) b)) [
               | true ↦ λ e.
-                  subst (λ n. SenderAt script noted t n (slice_get (slice_set ends from new) n)) (sym (eqb-true b from e))
-                  (subst (SenderAt script noted t from) (sym (get-set ends from old new there)) (sends-own old new g own))
-              | false ↦ λ e. subst (SenderAt script noted t b) (sym (get-set-other ends from b new (eqb-false b from e))) (sender-other b e (slice_get ends b) (h.senders b lt))
+                  subst (λ n. SenderAt script rules noted t n (slice_get (slice_set ends from new) n)) (sym (eqb-true b from e))
+                  (subst (SenderAt script rules noted t from) (sym (get-set ends from old new there)) (sends-own old new g own))
+              | false ↦ λ e. subst (SenderAt script rules noted t b) (sym (get-set-other ends from b new (eqb-false b from e))) (sender-other b e (slice_get ends b) (h.senders b lt))
             ] refl;
         receivers = λ a lt. receiver-after a (slice_get task.receivers.items a) (h.receivers a lt);
       }
@@ -156,7 +143,7 @@ module _ (script : Script) (r : Run) (from t k x y base bits : ℕ) where
   unfolding followed
   same-journal = refl
 
-  noted-does : (task : Task) (out : Outcome) → StandsFor script t task noted → HasEffect script t r noted task out out
+  noted-does : (task : Task) (out : Outcome) → StandsFor script rules t task noted → HasEffect script rules t r noted task out out
   noted-does task out h = record {
     events = [];
     entries = [];
@@ -168,25 +155,25 @@ module _ (script : Script) (r : Run) (from t k x y base bits : ℕ) where
     ends = tt;
   }
 
-  module _ (task : Task) (at : IsAt script t task r) (known : from < script.tasks) (entry : slice_get (r.wire from t) k ≡ Some (Ack x y base bits)) (end : SendingEnd) (read : end ≡ get_or task.senders.items from end) where
-    here : (slice_get task.senders.items from ≡ Some end) × SendsFor script end r t from
+  module _ (task : Task) (at : IsAt script rules t task r) (known : from < script.tasks) (entry : slice_get (r.wire from t) k ≡ Some (Ack x y base bits)) (end : SendingEnd) (read : end ≡ get_or task.senders.items from end) where
+    here : (slice_get task.senders.items from ≡ Some end) × SendsFor script rules end r t from
     here =
         let ends = task.senders.items in
-        elim (slice_get ends from) as (λ o. slice_get ends from ≡ o → SenderAt script r t from o → (o ≡ Some end) × SendsFor script end r t from) [
+        elim (slice_get ends from) as (λ o. slice_get ends from ≡ o → SenderAt script rules r t from o → (o ≡ Some end) × SendsFor script rules end r t from) [
           | None ↦ λ _ h. absurd h
-          | Some s ↦ λ e h. let same = at-place ends from s end e read in (ap Some (sym same), subst (λ z. SendsFor script z r t from) (sym same) h)
+          | Some s ↦ λ e h. let same = at-place ends from s end e read in (ap Some (sym same), subst (λ z. SendsFor script rules z r t from) (sym same) h)
         ] refl (at.stands.senders from known)
 
     -- It covers numbers alone that were sent,
     pub covers-sent : (n : ℕ) → is_covered base bits n ≡ true → n < sent_count end.window
     unfolding is_covered
-    covers-sent n covered = ltb-true n (sent_count end.window) (sym (here.1.numbers.sent n) ∙ acks-cover-sent script no_rules r at.recorded from t k n (Ack x y base bits) entry covered)
+    covers-sent n covered = ltb-true n (sent_count end.window) (sym (here.1.numbers.sent n) ∙ acks-cover-sent script rules r at.recorded from t k n (Ack x y base bits) entry covered)
 
     pub is-narrow : ValidScript script → end.window.window ≤ 32
     is-narrow valid = let size = here.1.numbers.size in let width = first-window script valid in omega (arith, size, width)
 
     -- and so the task is told of it.
-    pub acked-does : (new : SendingEnd) → IsAcked end new base bits → (out : Outcome) → HasEffect script t r (deliver script no_rules r from t k) (with_sender task new) out out
+    pub acked-does : (new : SendingEnd) → IsAcked end new base bits → (out : Outcome) → HasEffect script rules t r (deliver script rules r from t k) (with_sender task new) out out
     acked-does new g out =
-        subst (λ s. HasEffect script t r s (with_sender task new) out out) (sym (delivered entry))
+        subst (λ s. HasEffect script rules t r s (with_sender task new) out out) (sym (delivered entry))
         (noted-does (with_sender task new) out (stands-after task end new here.0 g here.1 at.stands))

@@ -1,5 +1,5 @@
 -- The forms that are performed: what their statements look like.
-use Rattle.std.proofs.Common.{◌≡◌, ◌⊎◌, ℕ, ◌<◌, ◌≤◌, true, false, IsTrue, [], length, Some, refl, sym, ap, ◌∙◌, subst, ⊎_elim, inl, inr}
+use Rattle.std.proofs.Common.{◌≡◌, ◌⊎◌, ℕ, ◌<◌, ◌≤◌, true, false, IsTrue, [], length, Option, Some, refl, sym, ap, ◌∙◌, subst, ⊎_elim, inl, inr}
 use Rattle.std.specs.Prelude.{slice_get}
 use Rattle.std.proofs.lemmas.Bool.{false≢true, cases_lt}
 use Rattle.std.proofs.lemmas.List.{get_or_past}
@@ -13,9 +13,20 @@ use Rattle.lapi_base.specs.Input.Built.{is_plain, is_built_statement, IsBuiltLis
 use Rattle.lapi_base.specs.Record.Operations.{statement, is_data, is_am, is_rmw, has_back, has_join}
 use Rattle.lapi_base.specs.Record.Operations as operations
 use Rattle.lapi_base.proofs.ListLaws.{all-get, all-or, get-some}
-use Rattle.lapi_task.specs.declared.put.Put.{Put}
 use Rattle.lapi_task.specs.Supported.{IsSupported}
-use Rattle.lapi_task.specs.Puts.{statement_of}
+
+-- a put to a plain address, and its statement
+pub record Put : Type 0 where
+  pub target : ℕ
+  pub to : ℕ
+  pub from : ℕ
+  pub len : ℕ
+  pub tgt : Option ℕ
+  pub org : Option ℕ
+  pub cmpl : Option ℕ
+
+abbrev pub statement_of : Put → Statement
+statement_of put = statements.Put put.target (Plain put.to) put.from put.len put.tgt put.org put.cmpl
 
 plain-is : (a : Addr) → is_plain a ≡ true → (x : ℕ) × (a ≡ Plain x)
 plain-is (Plain x) h = (x, refl)

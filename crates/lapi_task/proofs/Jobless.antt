@@ -1,8 +1,9 @@
--- Without handlers no message has a completion, so no job waits or runs.
+-- No message of the forms that are performed has a completion, so no job waits or runs.
 use Rattle.std.proofs.Common.{◌≡◌, ℕ, zero, suc, ◌==◌, Bool, false, cond, not, ◌&&◌, List, [], ◌∷◌, length, filter, Option, Some, None, refl, ap, ◌∙◌, arith}
 use Rattle.std.specs.Prelude.{is_some}
-use Rattle.std.proofs.lemmas.Bool.{cond-false, and_right, le-ltb}
+use Rattle.std.proofs.lemmas.Bool.{cond-false, and_left, and_right, le-ltb}
 use Rattle.lapi_base.specs.declared.script.Script.{Script}
+use Rattle.lapi_base.specs.declared.rule.Rules.{Rules}
 use Rattle.lapi_base.specs.declared.event.Event.{Event}
 use Rattle.lapi_base.specs.declared.event.Event.TheVariants.{Issue, Refuse, Enter, Pass, Copy, Head, Land, Begin, End}
 use Rattle.lapi_base.specs.declared.message.Leg.TheVariants.{Go}
@@ -12,25 +13,22 @@ use Rattle.lapi_base.specs.Record.Handlers.{has_completion, completion, kept_cho
 use Rattle.lapi_base.specs.Record.Jobs.{is_job, landed_jobs, queue, runs, busy}
 use Rattle.lapi_base.specs.Record.Names.{leg_eq, Begun, happened}
 use Rattle.lapi_base.specs.Record.Operations.{statement, is_am, receiver}
-use Rattle.lapi_base.specs.Record.WorldView.{no_rules}
+use Rattle.lapi_task.specs.Supported.{IsSupported}
+use Rattle.lapi_task.proofs.Forms.{no-back}
 
-no-choice : (o : Option ℕ) → is_some (kept_choice 0 o) ≡ false
-no-choice None = refl
-no-choice (Some n) = ap (λ b. is_some (cond b (Some n) None)) (le-ltb n 0 (omega arith))
+module _ (script : Script) (rules : Rules) (perf : IsSupported script) where
+  pub no-completion : (a i : ℕ) → has_completion script rules a i ≡ false
+  unfolding has_completion
+  no-completion a i = and_left (is_am (statement script a i)) _ (no-back script perf a i).1
 
-module _ (script : Script) where
-  pub no-completion : (a i : ℕ) → has_completion script no_rules a i ≡ false
-  unfolding has_completion completion
-  no-completion a i = and_right (is_am (statement script a i)) (is_some (kept_choice 0 (header_out script no_rules (record { origin = a; statement = i; leg = Go })).completion)) (no-choice (header_out script no_rules (record { origin = a; statement = i; leg = Go })).completion)
-
-  no-job : (t : ℕ) (m : MsgName) → is_job script no_rules t m ≡ false
+  no-job : (t : ℕ) (m : MsgName) → is_job script rules t m ≡ false
   unfolding is_job
-  no-job t m = and_right (leg_eq m.leg Go) (has_completion script no_rules m.origin m.statement && receiver script m == t) (ap (λ b. b && receiver script m == t) (no-completion m.origin m.statement))
+  no-job t m = and_right (leg_eq m.leg Go) (has_completion script rules m.origin m.statement && receiver script m == t) (ap (λ b. b && receiver script m == t) (no-completion m.origin m.statement))
 
-  pub no-jobs : (J : List Event) (t : ℕ) → landed_jobs script no_rules J t ≡ []
+  pub no-jobs : (J : List Event) (t : ℕ) → landed_jobs script rules J t ≡ []
   unfolding landed_jobs
   no-jobs [] t = refl
-  no-jobs (Land m ∷ J) t = cond-false (is_job script no_rules t m) _ _ (no-job t m) ∙ no-jobs J t
+  no-jobs (Land m ∷ J) t = cond-false (is_job script rules t m) _ _ (no-job t m) ∙ no-jobs J t
   no-jobs (Issue a i ∷ J) t = no-jobs J t
   no-jobs (Refuse a i why ∷ J) t = no-jobs J t
   no-jobs (Copy m ∷ J) t = no-jobs J t
@@ -40,11 +38,11 @@ module _ (script : Script) where
   no-jobs (Begin m a w ∷ J) t = no-jobs J t
   no-jobs (End m a w ∷ J) t = no-jobs J t
 
-  pub no-queue : (J : List Event) (t : ℕ) → queue script no_rules J t ≡ []
+  pub no-queue : (J : List Event) (t : ℕ) → queue script rules J t ≡ []
   unfolding queue
   no-queue J t = ap (filter (λ m. not (happened (Begun m) J))) (no-jobs J t)
 
-  pub nothing-queued : (J : List Event) (t : ℕ) → length (queue script no_rules J t) ≡ 0
+  pub nothing-queued : (J : List Event) (t : ℕ) → length (queue script rules J t) ≡ 0
   nothing-queued J t = ap length (no-queue J t)
 
   none-below : (n : ℕ) (p : ℕ → Bool) → ((k : ℕ) → p k ≡ false) → below n p ≡ []

@@ -7,11 +7,12 @@ pub mod CopyLaws
 pub mod CopyLists
 pub mod Forms
 pub mod Jobless
+pub mod MessageCopies
+pub mod MessagePackets
 pub mod NewStands
 pub mod Packets
 pub mod PollCopies
 pub mod PollSends
-pub mod PutPackets
 pub mod ReasonForms
 pub mod ReceiveCounts
 pub mod ReceiveEvents

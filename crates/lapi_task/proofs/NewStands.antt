@@ -5,55 +5,52 @@ use Rattle.std.specs.List.{AllByRecursion}
 use Rattle.std.proofs.lemmas.Bool.{and_right, le-ltb}
 use Rattle.std.proofs.lemmas.List.{length-replicate, get_or-replicate}
 use Rattle.lapi_base.specs.declared.script.Script.{Script}
+use Rattle.lapi_base.specs.declared.rule.Rules.{Rules}
 use Rattle.lapi_base.specs.Record.Counters.{count, reads}
 use Rattle.lapi_base.specs.Record.Jobs.{runs}
-use Rattle.lapi_base.specs.Packet.Layout.{window_of, unit_of}
+use Rattle.lapi_base.specs.Packet.Layout.{sizes_of, window_of, unit_of}
 use Rattle.lapi_base.specs.Record.Names.{happened}
 use Rattle.lapi_base.specs.Record.Operations.{statements, statement, is_data}
 use Rattle.lapi_base.specs.Record.Wires.{start, numbered, has_number, has_ack}
 use Rattle.lapi_base.specs.Record.Refusals.{next, refusals}
 use Rattle.lapi_link.specs.Sender.{SendingEnd, IsNewSender}
+use Rattle.lapi_task.specs.declared.state.State.{State}
 use Rattle.lapi_task.specs.declared.task.Task.{Task}
 use Rattle.lapi_task.specs.Sends.{packet_at, SendsFor}
-use Rattle.lapi_task.specs.StandsFor.{SenderAt, ReceiverAt, is_uncopied, HoldsFor, StandsFor}
+use Rattle.lapi_task.specs.StandsFor.{HasCalls, IsNewState, SenderAt, ReceiverAt, is_uncopied, HoldsFor, StandsFor}
 use Rattle.lapi_link.specs.Receiver.{IsNewReceiver}
 use Rattle.lapi_task.proofs.StepMemories.{memory-blank}
 use Rattle.lapi_base.proofs.BelowLaws.{below-none}
 use Rattle.lapi_base.proofs.ListLaws.{all-get, get-some}
 
 -- the task has happened nothing
-pub record IsNew (script : Script) (t : ℕ) (task : Task) : Type 0 where
-  pub number : task.number ≡ t
-  pub next : task.next ≡ 0
-  pub memory : task.memory ≡ replicate script.memory 0
-  pub counters : task.counters ≡ replicate script.counters 0
-  pub reads : task.reads.items ≡ []
-  pub refusals : task.refusals.items ≡ []
-  pub uncopied : task.uncopied.items ≡ []
+pub record IsNew (script : Script) (rules : Rules) (t : ℕ) (task : Task) : Type 0 where
+  pub calls : HasCalls script rules t task
+  pub state : IsNewState (sizes_of script) t task.state
   pub senders : (length task.senders.items ≡ script.tasks) × AllByRecursion (IsNewSender (window_of script)) task.senders.items
   pub receivers : (length task.receivers.items ≡ script.tasks) × AllByRecursion (IsNewReceiver (window_of script) (unit_of script)) task.receivers.items
 
-module _ (script : Script) where
+module _ (script : Script) (rules : Rules) where
   nothing-uncopied : (t k : ℕ) → is_uncopied script [] t k ≡ false
   unfolding happened
   nothing-uncopied t k = and_right (is_data (statement script t k)) false refl
 
-  new-holds : (t : ℕ) (task : Task) → IsNew script t task → HoldsFor script t task []
+  new-holds : (t : ℕ) (state : State) → IsNewState (sizes_of script) t state → HoldsFor script rules t state []
   unfolding next happened reads refusals count runs
-  new-holds t task h = record {
+  new-holds t state h = record {
     number = h.number;
     next = h.next;
     ahead = λ i l. refl;
     reads = h.reads;
     refusals = h.refusals;
-    memory = h.memory ∙ memory-blank script t;
+    memory = h.memory ∙ memory-blank script rules t;
     counter_count = ap length h.counters ∙ length-replicate script.counters 0;
     counters = λ c l. ap (λ xs. slice_index xs c) h.counters ∙ get_or-replicate script.counters c 0 0 l;
     uncopied = h.uncopied ∙ sym (below-none (length (statements script t)) (is_uncopied script [] t) (λ k _. nothing-uncopied t k));
     jobless = λ w. refl;
   }
 
-  fresh-sends : (a b : ℕ) (s : SendingEnd) → IsNewSender (window_of script) s → SendsFor script s start a b
+  fresh-sends : (a b : ℕ) (s : SendingEnd) → IsNewSender (window_of script) s → SendsFor script rules s start a b
   unfolding numbered has_number has_ack packet_at
   fresh-sends a b s h = record {
     numbers = record {
@@ -67,14 +64,15 @@ module _ (script : Script) where
     waiting = λ i. ap (λ xs. slice_get xs i) h.waiting;
   }
 
-  pub new-stands : (t : ℕ) (task : Task) → IsNew script t task → StandsFor script t task start
+  pub new-stands : (t : ℕ) (task : Task) → IsNew script rules t task → StandsFor script rules t task start
   new-stands t task h = record {
-    holds = new-holds t task h;
+    calls = h.calls;
+    holds = new-holds t task.state h.state;
     sender_count = h.senders.0;
     receiver_count = h.receivers.0;
     senders = λ b l.
         let x = get-some task.senders.items b (let n = h.senders.0 in omega (arith, l, n)) in
-        subst (SenderAt script start t b) (sym x.1) (fresh-sends t b x.0 (all-get (IsNewSender (window_of script)) task.senders.items b x.0 h.senders.1 x.1));
+        subst (SenderAt script rules start t b) (sym x.1) (fresh-sends t b x.0 (all-get (IsNewSender (window_of script)) task.senders.items b x.0 h.senders.1 x.1));
     receivers = λ a l.
         let x = get-some task.receivers.items a (let n = h.receivers.0 in omega (arith, l, n)) in
         subst (ReceiverAt script []) (sym x.1) (all-get (IsNewReceiver (window_of script) (unit_of script)) task.receivers.items a x.0 h.receivers.1 x.1 script refl refl);

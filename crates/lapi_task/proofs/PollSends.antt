@@ -7,6 +7,7 @@ use Rattle.std.proofs.lemmas.List.{length-append, length-take-le, length-drop, m
 use Rattle.std.proofs.lemmas.List.Folds.{list_any-append}
 use Rattle.std.proofs.Math.ListN.{length-set}
 use Rattle.lapi_base.specs.declared.script.Script.{Script}
+use Rattle.lapi_base.specs.declared.rule.Rules.{Rules}
 use Rattle.lapi_base.specs.declared.event.Event.{Event}
 use Rattle.lapi_base.specs.declared.message.MsgName.{MsgName}
 use Rattle.lapi_base.specs.declared.packet.Packet.{Packet}
@@ -18,13 +19,14 @@ use Rattle.lapi_base.specs.Record.Wires.{Run, numbered, base, to_send, packets, 
 use Rattle.lapi_base.specs.Record.Acts.{poll, copy_each, ready, followed}
 use Rattle.lapi_base.specs.Record.Wires as on_wires
 use Rattle.lapi_base.specs.Laws.Locality.{copied, polled}
-use Rattle.lapi_base.specs.Record.WorldView.{no_rules, IsRecord}
+use Rattle.lapi_base.specs.Record.WorldView.{IsRecord}
 use Rattle.lapi_base.specs.Packet.PacketBytes as written
 use Rattle.lapi_link.specs.Sender.{SendingEnd, sendable}
 use Rattle.lapi_parts.proofs.SentFront.{polls-next}
 use Rattle.lapi_window.specs.SendWindow.{sent_count, base_of, bytes_of}
 use Rattle.lapi_window.specs.SendWindow as window
 use Rattle.lapi_task.specs.declared.outcome.Outcome.{Outcome}
+use Rattle.lapi_task.specs.declared.state.State.{State}
 use Rattle.lapi_task.specs.declared.task.Task.{Task}
 use Rattle.lapi_task.specs.Copies.{AllCopied, AllSent, sent_now, packets_now}
 use Rattle.lapi_task.specs.HasEffect.{HasEffect}
@@ -82,36 +84,36 @@ or-three : (x y z : Bool) → (x || (y || z)) ≡ ((x || y) || z)
 or-three true y z = refl
 or-three false y z = refl
 
-module _ (script : Script) (J : List Event) (a b : ℕ) where
-  one-packet : (n : ℕ) (o : Option (MsgName × ℕ)) (x : List ℕ) → option_map (spelled script J n) o ≡ Some x → (p : Packet) × (on_wires.packet_of script no_rules J n o ≡ p ∷ []) × (written.packet p ≡ x) × ((k : ℕ) → is_number k p ≡ (n == k))
+module _ (script : Script) (rules : Rules) (J : List Event) (a b : ℕ) where
+  one-packet : (n : ℕ) (o : Option (MsgName × ℕ)) (x : List ℕ) → option_map (spelled script rules J n) o ≡ Some x → (p : Packet) × (on_wires.packet_of script rules J n o ≡ p ∷ []) × (written.packet p ≡ x) × ((k : ℕ) → is_number k p ≡ (n == k))
   unfolding data_packet
   one-packet n None x h = absurd (cc)
-  one-packet n (Some pair) x h = (_, refl, (let e : spelled script J n pair ≡ x = cc in e), λ k. refl)
+  one-packet n (Some pair) x h = (_, refl, (let e : spelled script rules J n pair ≡ x = cc in e), λ k. refl)
 
-  the-packet : (n : ℕ) (x : List ℕ) → packet_at script J a b n ≡ Some x → (p : Packet) × (on_wires.packet_of script no_rules J n (slice_get (numbered script J a b) n) ≡ p ∷ []) × (written.packet p ≡ x) × ((k : ℕ) → is_number k p ≡ (n == k))
+  the-packet : (n : ℕ) (x : List ℕ) → packet_at script rules J a b n ≡ Some x → (p : Packet) × (on_wires.packet_of script rules J n (slice_get (numbered script J a b) n) ≡ p ∷ []) × (written.packet p ≡ x) × ((k : ℕ) → is_number k p ≡ (n == k))
   unfolding packet_at
   the-packet n x h = one-packet n (slice_get (numbered script J a b) n) x h
 
   -- The packets of the numbers from one on whose bytes wait.
-  module _ (low : ℕ) (waits : List (List ℕ)) (at : (i : ℕ) → slice_get waits i ≡ packet_at script J a b (low + i)) where
-    packets-more : (k : ℕ) (p : Packet) → on_wires.packet_of script no_rules J (low + k) (slice_get (numbered script J a b) (low + k)) ≡ p ∷ [] → packets script no_rules J a b (next-numbers low (suc k)) ≡ packets script no_rules J a b (next-numbers low k) ++ p ∷ []
+  module _ (low : ℕ) (waits : List (List ℕ)) (at : (i : ℕ) → slice_get waits i ≡ packet_at script rules J a b (low + i)) where
+    packets-more : (k : ℕ) (p : Packet) → on_wires.packet_of script rules J (low + k) (slice_get (numbered script J a b) (low + k)) ≡ p ∷ [] → packets script rules J a b (next-numbers low (suc k)) ≡ packets script rules J a b (next-numbers low k) ++ p ∷ []
     unfolding packets
     packets-more k p is =
-        let f = λ (n : ℕ). on_wires.packet_of script no_rules J n (slice_get (numbered script J a b) n) in
+        let f = λ (n : ℕ). on_wires.packet_of script rules J n (slice_get (numbered script J a b) n) in
         ap (flat_map f) (next-more low k) ∙ flat_map-push f (next-numbers low k) (low + k) ∙ ap (λ ps. flat_map f (next-numbers low k) ++ ps) is
 
-    pub packets-waiting : (k : ℕ) → k ≤ length waits → map written.packet (packets script no_rules J a b (next-numbers low k)) ≡ take k waits
+    pub packets-waiting : (k : ℕ) → k ≤ length waits → map written.packet (packets script rules J a b (next-numbers low k)) ≡ take k waits
     unfolding packets numbers_below below
     packets-waiting zero l = refl
     packets-waiting (suc k) l =
         let some = get-some waits k (let q : k < length waits = omega arith in q) in
         let p = the-packet (low + k) some.0 (sym (at k) ∙ some.1) in
         ap (map written.packet) (packets-more k p.0 p.1)
-        ∙ map-append written.packet (packets script no_rules J a b (next-numbers low k)) (p.0 ∷ [])
+        ∙ map-append written.packet (packets script rules J a b (next-numbers low k)) (p.0 ∷ [])
         ∙ (λ i. packets-waiting k (let q : k ≤ length waits = omega arith in q) i ++ p.2 i ∷ [])
         ∙ sym (take-push waits k some.0 some.1)
 
-    pub numbers-waiting : (k n : ℕ) → k ≤ length waits → (nat_lt n low || has_number (packets script no_rules J a b (next-numbers low k)) n) ≡ nat_lt n (low + k)
+    pub numbers-waiting : (k n : ℕ) → k ≤ length waits → (nat_lt n low || has_number (packets script rules J a b (next-numbers low k)) n) ≡ nat_lt n (low + k)
     unfolding packets numbers_below below has_number
     numbers-waiting zero n l = or-off (nat_lt n low) ∙ ap (nat_lt n) (let e : low ≡ low + 0 = omega arith in e)
       where
@@ -121,7 +123,7 @@ module _ (script : Script) (J : List Event) (a b : ℕ) where
     numbers-waiting (suc k) n l =
         let some = get-some waits k (let q : k < length waits = omega arith in q) in
         let p = the-packet (low + k) some.0 (sym (at k) ∙ some.1) in
-        let before = packets script no_rules J a b (next-numbers low k) in
+        let before = packets script rules J a b (next-numbers low k) in
         ap (λ (ps : List Packet). nat_lt n low || list_any (is_number n) ps) (packets-more k p.0 p.1)
         ∙ ap (λ x. nat_lt n low || x) (list_any-append (is_number n) before (p.0 ∷ []) ∙ ap (λ x. list_any (is_number n) before || (x || false)) (p.3 n) ∙ ap (λ x. list_any (is_number n) before || x) (or-off ((low + k) == n)))
         ∙ or-three (nat_lt n low) (list_any (is_number n) before) ((low + k) == n)
@@ -134,18 +136,18 @@ module _ (script : Script) (J : List Event) (a b : ℕ) where
 
 -- ---- one link
 
-module _ (script : Script) (valid : ValidScript script) (t : ℕ) (r : Run) (recorded : IsRecord script no_rules r) where
+module _ (script : Script) (rules : Rules) (valid : ValidScript script) (t : ℕ) (r : Run) (recorded : IsRecord script rules r) where
   abbrev pub J : List Event
-  J = copied script no_rules r t
+  J = copied script rules r t
 
   abbrev pub then_ : Run
   then_ = record r { journal = J }
 
-  wire-after : (b : ℕ) → (poll script no_rules r t).wire t b ≡ r.wire t b ++ polled script no_rules r t b
+  wire-after : (b : ℕ) → (poll script rules r t).wire t b ≡ r.wire t b ++ polled script rules r t b
   unfolding poll
-  wire-after b = cond-true (t == t) (r.wire t b ++ polled script no_rules r t b) (r.wire t b) (eqb-refl t)
+  wire-after b = cond-true (t == t) (r.wire t b ++ polled script rules r t b) (r.wire t b) (eqb-refl t)
 
-  module _ (b : ℕ) (s : SendingEnd) (h : SendsFor script s then_ t b) where
+  module _ (b : ℕ) (s : SendingEnd) (h : SendsFor script rules s then_ t b) where
     base-is : base script then_ t b ≡ base_of s.window
     unfolding base
     base-is = λ i. least_missing (sym h.numbers.numbers i) (λ n. h.numbers.acked n i)
@@ -159,26 +161,26 @@ module _ (script : Script) (valid : ValidScript script) (t : ℕ) (r : Run) (rec
     count-fits : count ≤ length s.waiting
     count-fits = omega arith
 
-    fresh-is : to_send script no_rules r J t b ≡ next-numbers low count
+    fresh-is : to_send script rules r J t b ≡ next-numbers low count
     fresh-is =
-        polls-next script no_rules r recorded J t b low h.numbers.sent
+        polls-next script rules r recorded J t b low h.numbers.sent
         ∙ ap (λ n. map (λ i. low + i) (numbers_below n)) (room (length (numbered script J t b)) s.window.numbers (base script then_ t b) (base_of s.window) (window_of script) s.window.window low (length s.waiting) (sym h.numbers.numbers) base-is h.numbers.size h.whole)
 
-    pub polled-spelled : map written.packet (polled script no_rules r t b) ≡ packets_now s
-    polled-spelled = ap (map written.packet) (sends-data script no_rules valid r recorded J t b) ∙ ap (λ ns. map written.packet (packets script no_rules J t b ns)) fresh-is ∙ packets-waiting script J t b low s.waiting h.waiting count count-fits
+    pub polled-spelled : map written.packet (polled script rules r t b) ≡ packets_now s
+    polled-spelled = ap (map written.packet) (sends-data script rules valid r recorded J t b) ∙ ap (λ ns. map written.packet (packets script rules J t b ns)) fresh-is ∙ packets-waiting script rules J t b low s.waiting h.waiting count count-fits
 
-    sent-now : (n : ℕ) → has_number (r.wire t b ++ polled script no_rules r t b) n ≡ nat_lt n (low + count)
+    sent-now : (n : ℕ) → has_number (r.wire t b ++ polled script rules r t b) n ≡ nat_lt n (low + count)
     unfolding has_number
     sent-now n =
-        list_any-append (is_number n) (r.wire t b) (polled script no_rules r t b)
-        ∙ ap (λ ps. list_any (is_number n) (r.wire t b) || list_any (is_number n) ps) (sends-data script no_rules valid r recorded J t b)
-        ∙ (λ i. h.numbers.sent n i || list_any (is_number n) (packets script no_rules J t b (fresh-is i)))
-        ∙ numbers-waiting script J t b low s.waiting h.waiting count n count-fits
+        list_any-append (is_number n) (r.wire t b) (polled script rules r t b)
+        ∙ ap (λ ps. list_any (is_number n) (r.wire t b) || list_any (is_number n) ps) (sends-data script rules valid r recorded J t b)
+        ∙ (λ i. h.numbers.sent n i || list_any (is_number n) (packets script rules J t b (fresh-is i)))
+        ∙ numbers-waiting script rules J t b low s.waiting h.waiting count n count-fits
 
     count-now : sent_count (sent_now s).window ≡ low + count
     count-now = (let l = length-append s.window.packets (take count s.waiting) in let k = length-take-le count s.waiting count-fits in omega (arith, l, k))
 
-    bytes-now : (n : ℕ) → n < low + count → window.is_acked s.window n ≡ false → bytes_of (sent_now s).window n ≡ packet_at script J t b n
+    bytes-now : (n : ℕ) → n < low + count → window.is_acked s.window n ≡ false → bytes_of (sent_now s).window n ≡ packet_at script rules J t b n
     unfolding bytes_of
     bytes-now n l u =
         ⊎_elim
@@ -195,13 +197,13 @@ module _ (script : Script) (valid : ValidScript script) (t : ℕ) (r : Run) (rec
         ∙ get-after s.window.packets (take count s.waiting) d
         ∙ get-take s.waiting count d (omega arith)
         ∙ h.waiting d
-        ∙ ap (packet_at script J t b) (let e : low + d ≡ n = omega arith in e))
+        ∙ ap (packet_at script rules J t b) (let e : low + d ≡ n = omega arith in e))
         (cases_lt n low)
       where
-        under-none : (n : ℕ) → n < s.window.acked.base → cond (nat_lt n s.window.acked.base) None (slice_get s.window.packets (n - s.window.acked.base)) ≡ packet_at script J t b n → cond (nat_lt n s.window.acked.base) None (slice_get (s.window.packets ++ take count s.waiting) (n - s.window.acked.base)) ≡ packet_at script J t b n
+        under-none : (n : ℕ) → n < s.window.acked.base → cond (nat_lt n s.window.acked.base) None (slice_get s.window.packets (n - s.window.acked.base)) ≡ packet_at script rules J t b n → cond (nat_lt n s.window.acked.base) None (slice_get (s.window.packets ++ take count s.waiting) (n - s.window.acked.base)) ≡ packet_at script rules J t b n
         under-none n l e = cond-true (nat_lt n s.window.acked.base) None _ (lt-ltb n s.window.acked.base l) ∙ sym (cond-true (nat_lt n s.window.acked.base) None _ (lt-ltb n s.window.acked.base l)) ∙ e
 
-    pub sends-polled : SendsFor script (sent_now s) (poll script no_rules r t) t b
+    pub sends-polled : SendsFor script rules (sent_now s) (poll script rules r t) t b
     unfolding poll
     sends-polled = record {
       numbers = record {
@@ -212,7 +214,7 @@ module _ (script : Script) (valid : ValidScript script) (t : ℕ) (r : Run) (rec
       };
       whole = (let w = h.whole in let c = count-now in let d = length-drop count s.waiting in let f = count-fits in omega (arith, w, c, d, f));
       kept = λ n l u. bytes-now n (subst (λ m. n < m) count-now l) u;
-      waiting = λ i. get-drop s.waiting count i ∙ h.waiting (count + i) ∙ ap (packet_at script J t b) (let c = count-now in omega (arith, c));
+      waiting = λ i. get-drop s.waiting count i ∙ h.waiting (count + i) ∙ ap (packet_at script rules J t b) (let c = count-now in omega (arith, c));
     }
 
 -- ---- all links of a task
@@ -231,31 +233,35 @@ one-sent b first now s after h at same = record {
   size = length-set now b after ∙ h.size;
 }
 
-module _ (script : Script) (valid : ValidScript script) (t : ℕ) (r : Run) (recorded : IsRecord script no_rules r) where
-  sender-polled : (b : ℕ) (o : Option SendingEnd) → SenderAt script (then_ script valid t r recorded) t b o → SenderAt script (poll script no_rules r t) t b (option_map sent_now o)
+module _ (script : Script) (rules : Rules) (valid : ValidScript script) (t : ℕ) (r : Run) (recorded : IsRecord script rules r) where
+  sender-polled : (b : ℕ) (o : Option SendingEnd) → SenderAt script rules (then_ script rules valid t r recorded) t b o → SenderAt script rules (poll script rules r t) t b (option_map sent_now o)
   sender-polled b None h = absurd h
-  sender-polled b (Some s) h = sends-polled script valid t r recorded b s h
+  sender-polled b (Some s) h = sends-polled script rules valid t r recorded b s h
 
-  wire-polled : (b : ℕ) (o : Option SendingEnd) → SenderAt script (then_ script valid t r recorded) t b o → map written.packet ((poll script no_rules r t).wire t b) ≡ map written.packet (r.wire t b) ++ of_end packets_now o
+  wire-polled : (b : ℕ) (o : Option SendingEnd) → SenderAt script rules (then_ script rules valid t r recorded) t b o → map written.packet ((poll script rules r t).wire t b) ≡ map written.packet (r.wire t b) ++ of_end packets_now o
   wire-polled b None h = absurd h
-  wire-polled b (Some s) h = ap (map written.packet) (wire-after script valid t r recorded b) ∙ map-append written.packet (r.wire t b) (polled script no_rules r t b) ∙ ap (λ xs. map written.packet (r.wire t b) ++ xs) (polled-spelled script valid t r recorded b s h)
-
-  holds-with : (task after : Task) {K : List Event} → HoldsFor script t task K → HoldsFor script t (record task { senders = after.senders }) K
-  holds-with task after h = record { number = h.number; next = h.next; ahead = h.ahead; reads = h.reads; refusals = h.refusals; memory = h.memory; counter_count = h.counter_count; counters = h.counters; uncopied = h.uncopied; jobless = h.jobless }
+  wire-polled b (Some s) h = ap (map written.packet) (wire-after script rules valid t r recorded b) ∙ map-append written.packet (r.wire t b) (polled script rules r t b) ∙ ap (λ xs. map written.packet (r.wire t b) ++ xs) (polled-spelled script rules valid t r recorded b s h)
 
   -- what stands after a poll
-  pub poll-does : (task after : Task) (old new : Outcome) (es : List Event) → t < script.tasks → AllCopied script t r task old.events es → new.events ≡ es → AllSent script.tasks task.senders.items after.senders.items → after ≡ record task { senders = after.senders } → new.entries ≡ old.entries ++ entries_of packets_now task.senders.items script.tasks → HasEffect script t r (poll script no_rules r t) after old new
+  pub poll-does : (task after : Task) (old new : Outcome) (es : List Event) → t < script.tasks → AllCopied script rules t r task old.events es → new.events ≡ es → AllSent script.tasks task.senders.items after.senders.items → after ≡ record task { senders = after.senders } → new.entries ≡ old.entries ++ entries_of packets_now task.senders.items script.tasks → HasEffect script rules t r (poll script rules r t) after old new
   unfolding poll
   poll-does task after old new es lt h same sends rest put =
-      let stands : StandsFor script t task (then_ script valid t r recorded) = subst (λ (K : List Event). StandsFor script t task (record r { journal = K })) h.copied h.stands in
+      let stands : StandsFor script rules t task (then_ script rules valid t r recorded) = subst (λ (K : List Event). StandsFor script rules t task (record r { journal = K })) h.copied h.stands in
       record {
         events = h.events;
         entries = entries_of packets_now task.senders.items script.tasks;
         stands = record {
-          holds = subst (λ (x : Task). HoldsFor script t x (copy_each r.journal (ready script r.journal t))) (sym rest) (holds-with task after stands.holds);
+          calls = record {
+            supported = stands.calls.supported;
+            rules_valid = stands.calls.rules_valid;
+            sizes = ap (λ (x : Task). x.sizes) rest ∙ stands.calls.sizes;
+            statements = ap (λ (x : Task). x.statements) rest ∙ stands.calls.statements;
+            header_count = ap (λ (x : Task). x.header_count) rest ∙ stands.calls.header_count;
+          };
+          holds = subst (λ (x : State). HoldsFor script rules t x (copy_each r.journal (ready script r.journal t))) (sym (ap (λ (x : Task). x.state) rest)) stands.holds;
           sender_count = sends.size ∙ stands.sender_count;
           receiver_count = ap (λ (x : Task). length x.receivers.items) rest ∙ stands.receiver_count;
-          senders = λ b l. subst (SenderAt script (poll script no_rules r t) t b) (sym (sends.done b l)) (sender-polled b (slice_get task.senders.items b) (stands.senders b l));
+          senders = λ b l. subst (SenderAt script rules (poll script rules r t) t b) (sym (sends.done b l)) (sender-polled b (slice_get task.senders.items b) (stands.senders b l));
           receivers = λ a l. subst (λ (x : Task). ReceiverAt script (r.handed a t) (slice_get x.receivers.items a)) (sym rest) (stands.receivers a l);
         };
         journal = sym h.copied;

@@ -7,14 +7,14 @@ use Rattle.lapi_base.specs.declared.address.Addr.TheVariants.{Plain}
 use Rattle.lapi_base.specs.declared.statement.Statement.{Statement}
 use Rattle.lapi_base.specs.declared.statement.Statement.TheVariants as statements
 use Rattle.lapi_base.specs.declared.script.Script.{Script}
+use Rattle.lapi_base.specs.declared.rule.Rules.{Rules}
 use Rattle.lapi_base.specs.declared.refusal.Refusal.TheVariants.{BadTask, BadTargetRange, BadOriginRange, BadCounter, TooLong}
 use Rattle.lapi_base.specs.declared.event.Event.{Event}
-use Rattle.lapi_base.specs.Packet.Layout.{longest_of}
+use Rattle.lapi_base.specs.Packet.Layout.{longest_of, layout_of, longest, sizes_of}
 use Rattle.lapi_base.specs.Input.Built.{is_built_statement}
 use Rattle.lapi_base.specs.Record.Operations.{statement, address}
 use Rattle.lapi_base.specs.Record.Operations as operations
 use Rattle.lapi_base.specs.Record.Refusals.{first_reason, refusal_by, refusal_of}
-use Rattle.lapi_base.specs.Record.WorldView.{no_rules}
 use Rattle.lapi_base.specs.Record.Valid.{ValidStatement}
 use Rattle.lapi_base.proofs.ListLaws.{all-or}
 use Rattle.lapi_task.specs.Supported.{IsSupported, names_no_counter, reason_of}
@@ -26,8 +26,8 @@ lt-is-not-le a b =
     (λ (ge : b ≤ a). le-ltb a b ge ∙ sym (ap not (le-leb b a ge)))
     (cases_lt a b)
 
-module _ (script : Script) (J : List Event) (a i : ℕ) where
-  why-store : (at : ℕ) (bytes : List ℕ) → statement script a i ≡ statements.Store at bytes → refusal_of script no_rules J a i ≡ reason_of script (statements.Store at bytes)
+module _ (script : Script) (rules : Rules) (J : List Event) (a i : ℕ) where
+  why-store : (at : ℕ) (bytes : List ℕ) → statement script a i ≡ statements.Store at bytes → refusal_of script rules J a i ≡ reason_of (sizes_of script) (statements.Store at bytes)
   unfolding refusal_of refusal_by first_reason address
   why-store at bytes e = rw e (tests (nat_le (at + length bytes) script.memory))
     where
@@ -35,10 +35,10 @@ module _ (script : Script) (J : List Event) (a i : ℕ) where
       tests true = refl
       tests false = refl
 
-  why-put : (target to from len : ℕ) (tgt org cmpl : Option ℕ) → statement script a i ≡ statements.Put target (Plain to) from len tgt org cmpl → refusal_of script no_rules J a i ≡ reason_of script (statements.Put target (Plain to) from len tgt org cmpl)
-  unfolding refusal_of refusal_by first_reason address
+  why-put : (target to from len : ℕ) (tgt org cmpl : Option ℕ) → statement script a i ≡ statements.Put target (Plain to) from len tgt org cmpl → refusal_of script rules J a i ≡ reason_of (sizes_of script) (statements.Put target (Plain to) from len tgt org cmpl)
+  unfolding refusal_of refusal_by first_reason address longest_of
   why-put target to from len tgt org cmpl e =
-      rw e (tests (nat_lt target script.tasks) (nat_le (to + len) script.memory) (nat_le (from + len) script.memory) (names_no_counter script (statements.Put target (Plain to) from len tgt org cmpl)) (nat_lt (longest_of script) len) (nat_le len (longest_of script)) (lt-is-not-le (longest_of script) len))
+      rw e (tests (nat_lt target script.tasks) (nat_le (to + len) script.memory) (nat_le (from + len) script.memory) (names_no_counter (sizes_of script) (statements.Put target (Plain to) from len tgt org cmpl)) (nat_lt (longest (layout_of script.layout)) len) (nat_le len (longest (layout_of script.layout))) (lt-is-not-le (longest (layout_of script.layout)) len))
     where
       tests : (b c d m long short : Bool) → long ≡ not short → cond (not b) (Some BadTask) (cond (not c || false) (Some BadTargetRange) (cond (not d || false) (Some BadOriginRange) (cond m (Some BadCounter) (cond long (Some TooLong) None)))) ≡ cond b (cond c (cond d (cond m (Some BadCounter) (cond short None (Some TooLong))) (Some BadOriginRange)) (Some BadTargetRange)) (Some BadTask)
       tests true true true true long short h = refl
@@ -52,20 +52,20 @@ module _ (script : Script) (J : List Event) (a i : ℕ) where
   counter-test true = refl
   counter-test false = refl
 
-  why-wait : (counter value : ℕ) → statement script a i ≡ statements.Wait counter value → refusal_of script no_rules J a i ≡ reason_of script (statements.Wait counter value)
+  why-wait : (counter value : ℕ) → statement script a i ≡ statements.Wait counter value → refusal_of script rules J a i ≡ reason_of (sizes_of script) (statements.Wait counter value)
   unfolding refusal_of refusal_by first_reason
   why-wait counter value e = rw e (counter-test (nat_lt counter script.counters))
 
-  why-set : (counter value : ℕ) → statement script a i ≡ statements.Set counter value → refusal_of script no_rules J a i ≡ reason_of script (statements.Set counter value)
+  why-set : (counter value : ℕ) → statement script a i ≡ statements.Set counter value → refusal_of script rules J a i ≡ reason_of (sizes_of script) (statements.Set counter value)
   unfolding refusal_of refusal_by first_reason
   why-set counter value e = rw e (counter-test (nat_lt counter script.counters))
 
-  why-read : (counter : ℕ) → statement script a i ≡ statements.Read counter → refusal_of script no_rules J a i ≡ reason_of script (statements.Read counter)
+  why-read : (counter : ℕ) → statement script a i ≡ statements.Read counter → refusal_of script rules J a i ≡ reason_of (sizes_of script) (statements.Read counter)
   unfolding refusal_of refusal_by first_reason
   why-read counter e = rw e (counter-test (nat_lt counter script.counters))
 
   -- the reason does not depend on the journal
-  pub why-is : (s : Statement) → statement script a i ≡ s → is_built_statement s ≡ true → refusal_of script no_rules J a i ≡ reason_of script s
+  pub why-is : (s : Statement) → statement script a i ≡ s → is_built_statement s ≡ true → refusal_of script rules J a i ≡ reason_of (sizes_of script) s
   unfolding is_built_statement
   why-is (statements.Store at bytes) e h = why-store at bytes e
   why-is (statements.Put target (Plain to) from len tgt org cmpl) e h = why-put target to from len tgt org cmpl e

@@ -3,6 +3,7 @@ use Rattle.std.proofs.Common.{◌≡◌, ℕ, ◌==◌, Bool, true, false, cond,
 use Rattle.std.specs.List.{AllByRecursion}
 use Rattle.std.proofs.lemmas.Bool.{and_right}
 use Rattle.lapi_base.specs.declared.script.Script.{Script}
+use Rattle.lapi_base.specs.declared.rule.Rules.{Rules}
 use Rattle.lapi_base.specs.declared.event.Event.{Event}
 use Rattle.lapi_base.specs.declared.event.Event.TheVariants.{Copy, Land}
 use Rattle.lapi_base.specs.declared.head.Head.{Head}
@@ -22,7 +23,6 @@ use Rattle.lapi_base.specs.Record.Operations.{is_data, statement}
 use Rattle.lapi_base.specs.Record.Wires.{has_number}
 use Rattle.lapi_base.specs.Record.Acts.{followed}
 use Rattle.lapi_base.specs.Record.Refusals.{next, refusals}
-use Rattle.lapi_base.specs.Record.WorldView.{no_rules}
 use Rattle.lapi_base.proofs.NameLaws.{happened-other}
 use Rattle.lapi_link.specs.declared.arrival.Arrival.{Arrival}
 use Rattle.lapi_link.specs.declared.arrival.Arrival.TheVariants.{Repeat, Part, Whole}
@@ -52,10 +52,10 @@ brings (heads.Note op cmpl) k some whole completion m = refl
 brings _ k some whole completion m = absurd k
 
 -- its events
-pub come-events : (script : Script) (ps : List Packet) (p : DataPacket) → IsKind p.head → (known : Bool) → cond known [] (comes script no_rules ps p) ≡ events_of (come known (is_all script ps p) p.name p.head (came_bytes script ps p))
+pub come-events : (script : Script) (rules : Rules) (ps : List Packet) (p : DataPacket) → IsKind p.head → (known : Bool) → cond known [] (comes script rules ps p) ≡ events_of (come known (is_all script ps p) p.name p.head (came_bytes script ps p))
 unfolding comes
-come-events script ps p k true = refl
-come-events script ps p k false = brings p.head k (not (has_some ps p.name)) (is_all script ps p) (has_completion script no_rules p.name.origin p.name.statement) p.name ∙ one (is_all script ps p)
+come-events script rules ps p k true = refl
+come-events script rules ps p k false = brings p.head k (not (has_some ps p.name)) (is_all script ps p) (has_completion script rules p.name.origin p.name.statement) p.name ∙ one (is_all script ps p)
   where
     one : (whole : Bool) → cond whole (head_events p.name p.head) [] ≡ events_of (come false whole p.name p.head (came_bytes script ps p))
     one true = refl
@@ -81,13 +81,13 @@ come-mild true whole m h bytes k = tt
 come-mild false true m h bytes k = mild-head m h k
 come-mild false false m h bytes k = tt
 
-module _ (script : Script) (t : ℕ) where
+module _ (script : Script) (rules : Rules) (t : ℕ) where
   -- what the task did is as it was
   pub record DidSame (J K : List Event) : Type 0 where
     pub next : next K t ≡ next J t
     pub issued : (i : ℕ) → happened (Issued t i) K ≡ happened (Issued t i) J
     pub copied : (i : ℕ) → happened (Copied (message t i Go)) K ≡ happened (Copied (message t i Go)) J
-    pub reads : reads script no_rules K t ≡ reads script no_rules J t
+    pub reads : reads script rules K t ≡ reads script rules J t
     pub refusals : refusals K t ≡ refusals J t
     pub running : (w : ℕ) → runs K t w ≡ runs J t w
 

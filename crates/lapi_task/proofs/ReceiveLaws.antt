@@ -1,5 +1,5 @@
 -- What the delivery of a data packet makes of its task.
-use Rattle.std.proofs.Common.{◌≡◌, ◌⊎◌, ℕ, ◌<◌, ◌^◌, ◌==◌, Bool, true, false, cond, ◌&&◌, ◌||◌, List, [], ◌∷◌, ◌++◌, map, length, slice_set, Option, Some, None, refl, sym, ap, ◌∙◌, subst, ⊎_elim, arith}
+use Rattle.std.proofs.Common.{◌≡◌, ◌≤◌, ◌⊎◌, ℕ, ◌<◌, ◌^◌, ◌==◌, Bool, true, false, cond, ◌&&◌, ◌||◌, List, [], ◌∷◌, ◌++◌, map, length, slice_set, Option, Some, None, refl, sym, ap, ◌∙◌, subst, ⊎_elim, arith}
 use Rattle.std.specs.Prelude.{slice_get, slice_index}
 use Rattle.std.specs.List.{list_any}
 use Rattle.std.proofs.lemmas.Bool.{cond-true, cond-false, cond_both, cases_eq, and_from, and_left, and_right, ne_eqb}
@@ -8,6 +8,7 @@ use Rattle.std.specs.declared.vec.Vec.{Vec}
 use Rattle.std.proofs.lemmas.List.{append-nil, length-set, map-append, with_items_is}
 use Rattle.std.proofs.lemmas.List.Folds.{list_any-append}
 use Rattle.lapi_base.specs.declared.script.Script.{Script}
+use Rattle.lapi_base.specs.declared.rule.Rules.{Rules}
 use Rattle.lapi_base.specs.declared.event.Event.{Event}
 use Rattle.lapi_base.specs.declared.event.Event.TheVariants.{Copy, Land}
 use Rattle.lapi_base.specs.declared.head.Head.{Head}
@@ -22,11 +23,10 @@ use Rattle.lapi_base.specs.Record.Arrived.{ack_of}
 use Rattle.lapi_base.specs.Record.Atomic.{Atomic}
 use Rattle.lapi_base.specs.Laws.Entries.{carried}
 use Rattle.lapi_base.specs.Record.Names.{message}
-use Rattle.lapi_base.specs.Record.Operations.{statement, sender, receiver}
+use Rattle.lapi_base.specs.Record.Operations.{statement, sender, receiver, fragment_count, message_length}
 use Rattle.lapi_base.specs.Record.Wires.{Run, is_number, has_number, has_ack, is_delivered}
 use Rattle.lapi_base.specs.Record.Acts.{followed, first_delivery, hand_over, deliver_entry, deliver}
 use Rattle.lapi_base.specs.Laws.Receiving.{HeadFits, NamesCounter}
-use Rattle.lapi_base.specs.Record.WorldView.{no_rules}
 use Rattle.lapi_base.specs.Packet.Spelling.{HasSpelling}
 use Rattle.lapi_base.specs.Packet.PacketBytes as written
 use Rattle.lapi_base.proofs.ListLaws.{get-set, get-set-other}
@@ -40,32 +40,38 @@ use Rattle.lapi_parts.proofs.ArrivingPackets.{arrivals-told, next-acks-told}
 use Rattle.lapi_parts.proofs.Records.{record-sound}
 use Rattle.lapi_parts.proofs.SpelledPackets.{message-spelled}
 use Rattle.lapi_task.specs.declared.outcome.Outcome.{Outcome}
-use Rattle.lapi_task.specs.declared.put.Put.{Put}
 use Rattle.lapi_task.specs.declared.task.Task.{Task}
 use Rattle.lapi_task.specs.Acknowledging.{HasTaken, answer}
 use Rattle.lapi_task.specs.HasEffect.{IsAt, HasEffect, bytes_to}
-use Rattle.lapi_task.specs.Landed.{note_packet, ends_after, events_of, ArrivalMayLand, HeadMayLand, HasArrived, MayTake, HasCome}
+use Rattle.lapi_task.specs.Landed.{note_name, note_of, ends_after, events_of, ArrivalMayLand, HeadMayLand, HasArrived, MayTake, HasCome}
 use Rattle.lapi_task.specs.Supported.{IsSupported}
-use Rattle.lapi_task.specs.Puts.{statement_of}
+use Rattle.lapi_task.proofs.Forms.{Put, statement_of}
+use Rattle.lapi_task.specs.Outgoing.{packet_of, AreSpelled}
+use Rattle.lapi_task.specs.declared.state.State.{State}
+use Rattle.lapi_task.specs.StandsFor.{task_unit}
+use Rattle.lapi_task.proofs.CopyLaws.{unit-is}
+use Rattle.lapi_task.proofs.MessageCopies.{packet-is}
+use Rattle.lapi_task.proofs.ReceiveHolds.{Lands}
+use Rattle.lapi_base.specs.Packet.Layout.{layout_of, unit, unit_of}
+use Rattle.lapi_base.specs.Record.Fragments.{fragments_in}
+use Rattle.lapi_parts.proofs.FirstLayout.{first-unit}
+use Rattle.lapi_base.specs.Record.Valid.{ValidRules}
 use Rattle.lapi_task.specs.StandsFor.{SenderAt, ReceiverAt, HoldsFor}
 use Rattle.lapi_task.proofs.ArrivingFits.{arriving-fits}
 use Rattle.lapi_task.proofs.ReceiveEvents.{come, come-is, come-events, came_bytes, is_all, come-mild, mild-all}
 use Rattle.lapi_task.proofs.ReceiveHolds.{came-length, holds-arrived}
-use Rattle.lapi_task.proofs.ReceiveKinds.{IsKind, IsPut, IsNote, Comes, comes as what-comes, is-kind, none-valid}
-use Rattle.lapi_task.proofs.ReceiveLinks.{told, Settled, notice-data, notice-carries, notice-count, notice-ends, ends-come, ends-length}
+use Rattle.lapi_task.proofs.ReceiveKinds.{IsKind, IsPut, IsNote, Comes, comes as what-comes, is-kind}
+use Rattle.lapi_task.proofs.ReceiveLinks.{told, Settled, notice-is, notice-carries, notice-ends, ends-come, ends-length}
 use Rattle.lapi_task.proofs.SenderLaws.{bytes-here, bytes-there}
 use Rattle.lapi_task.proofs.StepMemories.{memory-length}
 use Rattle.lapi_parts.proofs.FirstLayout.{holds-nothing, told-at-once}
 
 -- What has changed only in its receiving ends.
 pub record KeepsRest (before after : Task) : Type 0 where
-  pub number : after.number ≡ before.number
-  pub next : after.next ≡ before.next
-  pub reads : after.reads.items ≡ before.reads.items
-  pub refusals : after.refusals.items ≡ before.refusals.items
-  pub uncopied : after.uncopied.items ≡ before.uncopied.items
-  pub memory : after.memory ≡ before.memory
-  pub counters : after.counters ≡ before.counters
+  pub sizes : after.sizes ≡ before.sizes
+  pub statements : after.statements ≡ before.statements
+  pub header_count : after.header_count ≡ before.header_count
+  pub state : after.state ≡ before.state
   pub senders : after.senders.items ≡ before.senders.items
 
 -- what the end of the link from task a did with the packet, and what came of it
@@ -89,23 +95,7 @@ receiver-there : (script : Script) (ps : List Packet) (o : Option ReceivingEnd) 
 receiver-there script ps None h = absurd h
 receiver-there script ps (Some end) h = (end, refl, h)
 
-module _ (script : Script) where
-  holds-kept : (t : ℕ) (before after : Task) (J : List Event) → KeepsRest before after → HoldsFor script t before J → HoldsFor script t after J
-  holds-kept t before after J g h =
-      let next = g.next in
-      record {
-        number = g.number ∙ h.number;
-        next = g.next ∙ h.next;
-        ahead = λ i l. h.ahead i (omega (arith, l, next));
-        reads = g.reads ∙ h.reads;
-        refusals = g.refusals ∙ h.refusals;
-        memory = g.memory ∙ h.memory;
-        counter_count = ap length g.counters ∙ h.counter_count;
-        counters = λ c l. ap (λ xs. slice_index xs c) g.counters ∙ h.counters c l;
-        uncopied = g.uncopied ∙ h.uncopied;
-        jobless = h.jobless;
-      }
-
+module _ (script : Script) (rules : Rules) where
   -- The record after a packet was handed over, but for its journal.
   abbrev pub handed_on : Run → (a t : ℕ) → DataPacket → Packet → Run
   handed_on r a t p q = record {
@@ -128,7 +118,7 @@ module _ (script : Script) where
   unfolding has_ack
   ack-more p xs n = refl
 
-  settled : (r : Run) (a t : ℕ) (p : DataPacket) (ps : List Packet) (b : ℕ) → Settled script r (handed_on r a t p (ack_of script ps a t)) t b
+  settled : (r : Run) (a t : ℕ) (p : DataPacket) (ps : List Packet) (b : ℕ) → Settled script rules r (handed_on r a t p (ack_of script ps a t)) t b
   settled r a t p ps b =
       let q = ack_of script ps a t in
       record {
@@ -166,75 +156,76 @@ module _ (script : Script) where
 
   -- ---- what a message finds at its task
 
-  notice-spelled : (performed : IsSupported script) (J : List Event) (m : MsgName) (a t : ℕ) (put : Put) → statement script m.origin m.statement ≡ statement_of put → IsPut script m (heads.Put put.to put.tgt put.cmpl) → sender script m ≡ a → receiver script m ≡ t → (c n : ℕ) → put.cmpl ≡ Some c → n < 2 ^ 32 → Atomic script no_rules (Copy (message m.origin m.statement Note) ∷ J) → HasSpelling (Data (note_packet t a n m c))
-  notice-spelled performed J m a t put is kind from to c n named few atomic =
-      let note = message m.origin m.statement Note in
+  notice-spelled : (performed : IsSupported script) (ok : ValidRules rules) (J : List Event) (m : MsgName) (a t : ℕ) (put : Put) → statement script m.origin m.statement ≡ statement_of put → IsPut script rules m (heads.Put put.to put.tgt put.cmpl) → sender script m ≡ a → receiver script m ≡ t → (c : ℕ) → put.cmpl ≡ Some c → Atomic script rules (Copy (note_name m) ∷ J) → AreSpelled (unit_of script) (note_of t a m c) []
+  unfolding fragment_count message_length
+  notice-spelled performed ok J m a t put is kind from to c named atomic = λ n j few lj.
+      let note = note_name m in
       let K = Copy note ∷ J in
-      let own = notice-ends script m a t kind.leg from to in
-      let bytes = carried script no_rules K note in
-      let spells = message-spelled script no_rules performed.valid none-valid K note n 0 atomic (happened-head (Copy note) J) few (let e = notice-count script m put is c named in omega (arith, e)) in
-      subst HasSpelling (notice-data script m put is c named n bytes (notice-carries script m put is c named J) ∙ (λ i. Data (note_packet (own.0 i) (own.1 i) n m c))) (_, spells)
+      let leaves = notice-is script rules m put is c named a t kind.leg from to in
+      let bytes = notice-carries script rules m put is c named J in
+      let spells = message-spelled script rules performed.valid ok K note n j atomic (happened-head (Copy note) J) few (subst (λ (o : _). j < fragments_in (unit_of script) o.length) (sym leaves) lj) in
+      subst HasSpelling (packet-is script rules note n j (carried script rules K note) ∙ (λ i. packet_of (leaves i) (unit_of script) n j (bytes i))) (_, spells)
 
   counter-there : (o : Option ℕ) (counters : List ℕ) → NamesCounter script o → length counters ≡ script.counters → (c : ℕ) → o ≡ Some c → c < length counters
   counter-there None counters h e c x = absurd (cc)
   counter-there (Some d) counters h e c x = let same : d ≡ c = cc in omega (arith, h, e, same)
 
-  module _ (performed : IsSupported script) (r : Run) (a t : ℕ) (m : MsgName) (from : sender script m ≡ a) (to : receiver script m ≡ t) (n : ℕ) (bytes memory counters : List ℕ) (places : length memory ≡ script.memory) (count : length counters ≡ script.counters) where
-    suits-put : (put : Put) (cmpl : Option ℕ) → put.cmpl ≡ cmpl → IsPut script m (heads.Put put.to put.tgt put.cmpl) → statement script m.origin m.statement ≡ statement_of put → HeadFits script no_rules n (heads.Put put.to put.tgt cmpl) → length bytes ≡ n → Atomic script no_rules (followed r.journal (events_of (come false true m (heads.Put put.to put.tgt cmpl) bytes))) → HeadMayLand t a m (heads.Put put.to put.tgt cmpl) bytes memory counters
+  module _ (performed : IsSupported script) (ok : ValidRules rules) (r : Run) (a t : ℕ) (m : MsgName) (from : sender script m ≡ a) (to : receiver script m ≡ t) (n : ℕ) (bytes memory counters : List ℕ) (places : length memory ≡ script.memory) (count : length counters ≡ script.counters) where
+    suits-put : (put : Put) (cmpl : Option ℕ) → put.cmpl ≡ cmpl → IsPut script rules m (heads.Put put.to put.tgt put.cmpl) → statement script m.origin m.statement ≡ statement_of put → HeadFits script rules n (heads.Put put.to put.tgt cmpl) → length bytes ≡ n → Atomic script rules (followed r.journal (events_of (come false true m (heads.Put put.to put.tgt cmpl) bytes))) → HeadMayLand (unit_of script) t a m (heads.Put put.to put.tgt cmpl) bytes memory counters
     unfolding followed
-    suits-put put None named kind is f size atomic = ((let l = f.0 in omega (arith, l, size, places)), counter-there put.tgt counters f.1 count, λ c k x few. absurd (cc))
+    suits-put put None named kind is f size atomic = ((let l = f.0 in omega (arith, l, size, places)), counter-there put.tgt counters f.1 count, λ c x. absurd (cc))
     suits-put put (Some d) named kind is f size atomic =
-        ((let l = f.0 in omega (arith, l, size, places)), counter-there put.tgt counters f.1 count, λ c k x few. let same : d ≡ c = cc in notice-spelled performed (Land m ∷ r.journal) m a t put is kind from to c k (named ∙ ap Some same) few atomic)
+        ((let l = f.0 in omega (arith, l, size, places)), counter-there put.tgt counters f.1 count, λ c x. let same : d ≡ c = cc in notice-spelled performed ok (Land m ∷ r.journal) m a t put is kind from to c (named ∙ ap Some same) atomic)
 
-    suits-note : (h : Head) → IsNote script m h → HeadFits script no_rules n h → HeadMayLand t a m h bytes memory counters
+    suits-note : (h : Head) → IsNote script rules m h → HeadFits script rules n h → HeadMayLand (unit_of script) t a m h bytes memory counters
     suits-note (heads.Note op cmpl) note f = omega (arith, f, count)
     suits-note (heads.Put at tgt cmpl) note f = absurd (note.counter at tgt cmpl refl)
     suits-note _ note f = absurd note.head
 
-    suits-come : (known whole : Bool) (h : Head) → IsPut script m h ⊎ IsNote script m h → HeadFits script no_rules n h → (whole ≡ true → length bytes ≡ n) → Atomic script no_rules (followed r.journal (events_of (come known whole m h bytes))) → ArrivalMayLand t a (come known whole m h bytes) memory counters
+    suits-come : (known whole : Bool) (h : Head) → IsPut script rules m h ⊎ IsNote script rules m h → HeadFits script rules n h → (whole ≡ true → length bytes ≡ n) → Atomic script rules (followed r.journal (events_of (come known whole m h bytes))) → ArrivalMayLand (unit_of script) t a (come known whole m h bytes) memory counters
     suits-come true whole h kind f size atomic = tt
     suits-come false false h kind f size atomic = tt
     suits-come false true h kind f size atomic =
         ⊎_elim
-        (λ (x : IsPut script m h).
+        (λ (x : IsPut script rules m h).
         let head = x.head in
-        let good = λ (g : Head). Atomic script no_rules (followed r.journal (events_of (come false true m g bytes))) in
-        subst (λ (g : Head). HeadMayLand t a m g bytes memory counters) (sym head) (suits-put x.put x.put.cmpl refl (subst (IsPut script m) head x) x.is (subst (HeadFits script no_rules n) head f) (size refl) (subst good head atomic)))
-        (λ (x : IsNote script m h). suits-note h x f)
+        let good = λ (g : Head). Atomic script rules (followed r.journal (events_of (come false true m g bytes))) in
+        subst (λ (g : Head). HeadMayLand (unit_of script) t a m g bytes memory counters) (sym head) (suits-put x.put x.put.cmpl refl (subst (IsPut script rules m) head x) x.is (subst (HeadFits script rules n) head f) (size refl) (subst good head atomic)))
+        (λ (x : IsNote script rules m h). suits-note h x f)
         kind
 
   -- ---- a delivery
 
-  module _ (performed : IsSupported script) (t : ℕ) (r : Run) (task : Task) (at : IsAt script t task r) (a k : ℕ) (known_task : a < script.tasks) (p : DataPacket) (entry : slice_get (r.wire a t) k ≡ Some (Data p)) where
+  module _ (t : ℕ) (r : Run) (task : Task) (at : IsAt script rules t task r) (a k : ℕ) (known_task : a < script.tasks) (p : DataPacket) (entry : slice_get (r.wire a t) k ≡ Some (Data p)) where
     abbrev arrives : Arrival
     arrives = come (is_delivered r a t p.seq) (is_all script (r.handed a t) p) p.name p.head (came_bytes script (r.handed a t) p)
 
     abbrev then : List Event
     then = followed r.journal (events_of arrives)
 
-    packet-comes : Comes script r a t p
-    packet-comes = what-comes script performed r a t k p at.recorded entry
+    packet-comes : Comes script rules r a t p
+    packet-comes = what-comes script rules at.stands.calls.supported at.stands.calls.rules_valid r a t k p at.recorded entry
 
     kind : IsKind p.head
-    kind = is-kind script performed p.name p.head packet-comes.kind
+    kind = is-kind script rules at.stands.calls.supported at.stands.calls.rules_valid p.name p.head packet-comes.kind
 
     end-there : (end : ReceivingEnd) × (slice_get task.receivers.items a ≡ Some end) × ReceivesFor script end (r.handed a t)
     end-there = receiver-there script (r.handed a t) (slice_get task.receivers.items a) (at.stands.receivers a known_task)
 
     pub may-take : MayTake task.receivers.items a p
-    may-take = record { end = end-there.0; there = end-there.1; script = script; packets = r.handed a t; stands = end-there.2; fits = arriving-fits script performed r a t k p at.recorded entry }
+    may-take = record { end = end-there.0; there = end-there.1; script = script; packets = r.handed a t; stands = end-there.2; fits = arriving-fits script rules at.stands.calls.supported at.stands.calls.rules_valid r a t k p at.recorded entry }
 
     abbrev next_run : Run
-    next_run = told script (handed_on r a t p (ack_of script (Data p ∷ r.handed a t) a t)) then
+    next_run = told script rules (handed_on r a t p (ack_of script (Data p ∷ r.handed a t) a t)) then
 
-    delivered : deliver script no_rules r a t k ≡ next_run
+    delivered : deliver script rules r a t k ≡ next_run
     unfolding deliver hand_over
     delivered =
-        let q = next-acks-told script no_rules r at.recorded a t k p entry in
-        let es = ap (λ es. cond (is_delivered r a t p.seq) [] es) (arrivals-told script no_rules r at.recorded a t k p entry) ∙ come-events script (r.handed a t) p kind (is_delivered r a t p.seq) in
-        let held = holds-nothing script performed.valid in
-        let once = λ (told : Packet). told-at-once script no_rules performed.valid told in
-        ap (deliver_entry script no_rules r a t) entry
+        let q = next-acks-told script rules r at.recorded a t k p entry in
+        let es = ap (λ es. cond (is_delivered r a t p.seq) [] es) (arrivals-told script rules r at.recorded a t k p entry) ∙ come-events script rules (r.handed a t) p kind (is_delivered r a t p.seq) in
+        let held = holds-nothing script at.stands.calls.supported.valid in
+        let once = λ (told : Packet). told-at-once script rules at.stands.calls.supported.valid told in
+        ap (deliver_entry script rules r a t) entry
         ∙ (λ i. record {
           replies = r.replies ++ Did ∷ [];
           wire = λ x y. cond (x == t && y == a) (r.wire x y ++ once (q i) i) (r.wire x y);
@@ -243,22 +234,30 @@ module _ (script : Script) where
           journal = followed r.journal (es i);
         })
 
-    atomic : Atomic script no_rules then
-    atomic = subst (λ (x : Run). Atomic script no_rules x.journal) delivered (deliver-sound script no_rules r a t k (record-sound script no_rules r at.recorded)).atomic
+    atomic : Atomic script rules then
+    atomic = subst (λ (x : Run). Atomic script rules x.journal) delivered (deliver-sound script rules r a t k (record-sound script rules r at.recorded)).atomic
 
     pub arrival-is : (first_delivery : Arrival) → Tells a p first_delivery task.receivers.items → first_delivery ≡ arrives
-    arrival-is first_delivery h = h end-there.0 script (r.handed a t) end-there.1 end-there.2 (arriving-fits script performed r a t k p at.recorded entry) ∙ come-is script (r.handed a t) p
+    arrival-is first_delivery h = h end-there.0 script (r.handed a t) end-there.1 end-there.2 (arriving-fits script rules at.stands.calls.supported at.stands.calls.rules_valid r a t k p at.recorded entry) ∙ come-is script (r.handed a t) p
 
-    pub suits-arrival : (mid : Task) (first_delivery : Arrival) → KeepsRest task mid → first_delivery ≡ arrives → ArrivalMayLand mid.number a first_delivery mid.memory mid.counters
+    unit-then : (mid : Task) → KeepsRest task mid → task_unit mid ≡ unit_of script
+    unit-then mid g = ap (λ (z : _). unit (layout_of z.layout)) g.sizes ∙ unit-is script rules t task at.stands.calls
+
+    pub suits-arrival : (mid : Task) (first_delivery : Arrival) → KeepsRest task mid → first_delivery ≡ arrives → ArrivalMayLand (task_unit mid) mid.state.number a first_delivery mid.state.memory mid.state.counters
     suits-arrival mid first_delivery g e =
         let h = at.stands.holds in
         let c = packet-comes in
-        subst (λ x. ArrivalMayLand mid.number a x mid.memory mid.counters) (sym e)
-        (subst (λ n. ArrivalMayLand n a arrives mid.memory mid.counters) (sym (g.number ∙ h.number))
-        (suits-come performed r a t p.name c.from c.to p.length (came_bytes script (r.handed a t) p) mid.memory mid.counters
-        (ap length (g.memory ∙ h.memory) ∙ memory-length script r.journal t)
-        (ap length g.counters ∙ h.counter_count)
-        (is_delivered r a t p.seq) (is_all script (r.handed a t) p) p.head c.kind c.fits.head (λ all. came-length script t r a p c all) atomic))
+        subst (λ x. ArrivalMayLand (task_unit mid) mid.state.number a x mid.state.memory mid.state.counters) (sym e)
+        (subst (λ (x : State). ArrivalMayLand (task_unit mid) x.number a arrives x.memory x.counters) (sym g.state)
+        (subst (λ n. ArrivalMayLand (task_unit mid) n a arrives task.state.memory task.state.counters) (sym h.number)
+        (subst (λ u. ArrivalMayLand u t a arrives task.state.memory task.state.counters) (sym (unit-then mid g))
+        (suits-come at.stands.calls.supported at.stands.calls.rules_valid r a t p.name c.from c.to p.length (came_bytes script (r.handed a t) p) task.state.memory task.state.counters
+        (ap length h.memory ∙ memory-length script rules r.journal t)
+        h.counter_count
+        (is_delivered r a t p.seq) (is_all script (r.handed a t) p) p.head c.kind c.fits.head (λ all. came-length script rules t r a p c all) atomic))))
+
+    pub room-there : (mid : Task) → KeepsRest task mid → task_unit mid ≤ 256
+    room-there mid g = let e = unit-then mid g in let u = first-unit script at.stands.calls.supported.valid in omega (arith, e, u)
 
     pub link-there : (mid : Task) → KeepsRest task mid → a < length mid.senders.items
     link-there mid g = let n = ap length g.senders ∙ at.stands.sender_count in let l = known_task in omega (arith, n, l)
@@ -266,20 +265,20 @@ module _ (script : Script) where
     receives : (mid after : Task) → Takes a p task.receivers.items mid.receivers.items → after.receivers.items ≡ mid.receivers.items → (end : ReceivingEnd) × (after.receivers.items ≡ slice_set task.receivers.items a end) × ReceivesFor script end (Data p ∷ r.handed a t)
     receives mid after took same =
         let x = took end-there.0 end-there.1 in
-        (x.end, same ∙ x.ends, x.stands script (r.handed a t) end-there.2 (arriving-fits script performed r a t k p at.recorded entry))
+        (x.end, same ∙ x.ends, x.stands script (r.handed a t) end-there.2 (arriving-fits script rules at.stands.calls.supported at.stands.calls.rules_valid r a t k p at.recorded entry))
 
     pub has-taken : (mid after : Task) (first_delivery : Arrival) (old new : List Event) → KeepsRest task mid → Takes a p task.receivers.items mid.receivers.items → HasArrived a first_delivery mid after old new → HasTaken script t after a (Data p ∷ r.handed a t)
     has-taken mid after first_delivery old new g took h =
-        let x = receives mid after took h.receivers in
+        let x = receives mid after took (ap (λ (x : Task). x.receivers.items) h.rest) in
         record {
-          performed = performed;
-          number = h.number ∙ g.number ∙ at.stands.holds.number;
+          performed = at.stands.calls.supported;
+          number = ap (λ (x : Task). x.state.number) h.rest ∙ ap (λ (x : State). x.number) g.state ∙ at.stands.holds.number;
           known = at.known;
           from_known = known_task;
           receiver = subst (ReceiverAt script (Data p ∷ r.handed a t)) (sym (ap (λ xs. slice_get xs a) x.1 ∙ get-set task.receivers.items a end-there.0 x.0 end-there.1)) x.2;
         }
 
-    pub arrived-does : (mid after : Task) (first_delivery : Arrival) (old new : Outcome) → KeepsRest task mid → first_delivery ≡ arrives → Takes a p task.receivers.items mid.receivers.items → HasArrived a first_delivery mid after old.events new.events → new.entries ≡ old.entries ++ answer script (Data p ∷ r.handed a t) a t ∷ [] → HasEffect script t r (deliver script no_rules r a t k) after old new
+    pub arrived-does : (mid after : Task) (first_delivery : Arrival) (old new : Outcome) → KeepsRest task mid → first_delivery ≡ arrives → Takes a p task.receivers.items mid.receivers.items → HasArrived a first_delivery mid after old.events new.events → new.entries ≡ old.entries ++ answer script (Data p ∷ r.handed a t) a t ∷ [] → HasEffect script rules t r (deliver script rules r a t k) after old new
     arrived-does mid after first_delivery old new g e took h added =
         let ps = Data p ∷ r.handed a t in
         let q = ack_of script ps a t in
@@ -289,18 +288,26 @@ module _ (script : Script) where
         let c = packet-comes in
         let s = at.stands in
         let own : HasArrived a arrives mid after old.events new.events = subst (λ x. HasArrived a x mid after old.events new.events) e h in
-        let same = mild-all script t (events_of arrives) r.journal (come-mild known whole p.name p.head bytes kind) in
-        let ends : after.senders.items ≡ ends_after t a arrives task.senders.items = own.senders ∙ ap (λ n. ends_after n a arrives mid.senders.items) (g.number ∙ s.holds.number) ∙ ap (ends_after t a arrives) g.senders in
-        let x = receives mid after took h.receivers in
-        subst (λ y. HasEffect script t r y after old new) (sym delivered)
+        let same = mild-all script rules t (events_of arrives) r.journal (come-mild known whole p.name p.head bytes kind) in
+        let ends : after.senders.items ≡ ends_after (unit_of script) t a arrives task.senders.items = own.senders ∙ (λ i. ends_after (unit-then mid g i) ((ap (λ (x : State). x.number) g.state ∙ s.holds.number) i) a arrives (g.senders i)) in
+        let lands : Lands arrives task.state after.state = subst (λ (x : State). Lands arrives x after.state) g.state (record { memory = own.memory; counters = own.counters; rest = ap (λ (x : Task). x.state) own.rest }) in
+        let x = receives mid after took (ap (λ (x : Task). x.receivers.items) h.rest) in
+        subst (λ y. HasEffect script rules t r y after old new) (sym delivered)
         (record {
           events = events_of arrives;
           entries = answer script ps a t ∷ [];
           stands = record {
-            holds = holds-arrived script t r a k p at.recorded entry c kind then (ap (λ (y : Run). y.journal) delivered) same mid after old.events new.events (holds-kept t task mid r.journal g s.holds) own;
-            sender_count = ap length ends ∙ ends-length script t a known whole p.name p.head bytes task.senders.items ∙ s.sender_count;
+            calls = record {
+              supported = s.calls.supported;
+              rules_valid = s.calls.rules_valid;
+              sizes = ap (λ (y : Task). y.sizes) own.rest ∙ g.sizes ∙ s.calls.sizes;
+              statements = ap (λ (y : Task). y.statements) own.rest ∙ g.statements ∙ s.calls.statements;
+              header_count = ap (λ (y : Task). y.header_count) own.rest ∙ g.header_count ∙ s.calls.header_count;
+            };
+            holds = holds-arrived script rules t r a k p at.recorded entry c kind then (ap (λ (y : Run). y.journal) delivered) same task.state after.state s.holds lands;
+            sender_count = ap length ends ∙ ends-length script rules (unit_of script) t a known whole p.name p.head bytes task.senders.items ∙ s.sender_count;
             receiver_count = ap length x.1 ∙ length-set task.receivers.items a x.0 ∙ s.receiver_count;
-            senders = λ b l. subst (λ xs. SenderAt script next_run t b (slice_get xs b)) (sym ends) (ends-come script r (handed_on r a t p q) a t task.senders.items (λ y. settled r a t p ps y) known_task s.senders known whole p.name p.head bytes c.from c.to c.kind atomic b l);
+            senders = λ b l. subst (λ xs. SenderAt script rules next_run t b (slice_get xs b)) (sym ends) (ends-come script rules r (handed_on r a t p q) a t task.senders.items (λ y. settled r a t p ps y) known_task s.senders known whole p.name p.head bytes c.from c.to c.kind atomic b l);
             receivers = handed-ends r a t p q task.receivers.items after.receivers.items end-there.0 x.0 end-there.1 x.1 x.2 s.receivers;
           };
           journal = refl;

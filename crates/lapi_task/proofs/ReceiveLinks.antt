@@ -4,6 +4,7 @@ use Rattle.std.specs.Prelude.{slice_get, option_map, unwrap_or}
 use Rattle.std.proofs.lemmas.Bool.{cond-false, cond-true, cases_lt, cases_eq, and_right, ne_eqb}
 use Rattle.std.proofs.lemmas.List.{length-append, length-set}
 use Rattle.lapi_base.specs.declared.script.Script.{Script}
+use Rattle.lapi_base.specs.declared.rule.Rules.{Rules}
 use Rattle.lapi_base.specs.declared.event.Event.{Event}
 use Rattle.lapi_base.specs.declared.event.Event.TheVariants.{Copy, Land}
 use Rattle.lapi_base.specs.declared.head.Head.{Head}
@@ -22,7 +23,6 @@ use Rattle.lapi_base.specs.Record.Operations.{numbers_below, statement, target, 
 use Rattle.lapi_base.specs.Record.Packets.{data_packet, head_by}
 use Rattle.lapi_base.specs.Record.Wires.{Run, numbered, is_sent, is_acked}
 use Rattle.lapi_base.specs.Record.Acts.{followed}
-use Rattle.lapi_base.specs.Record.WorldView.{no_rules}
 use Rattle.lapi_base.specs.Record.Values.{values}
 use Rattle.lapi_base.specs.Packet.PacketBytes as written
 use Rattle.lapi_base.proofs.ListLaws.{get-after, get-before, get-past, get-set, get-set-other}
@@ -30,9 +30,11 @@ use Rattle.lapi_base.proofs.NameLaws.{name_eq-refl}
 use Rattle.lapi_laws.proofs.Backward.{Atomic-tail}
 use Rattle.lapi_link.specs.Sender.{SendingEnd, appended}
 use Rattle.lapi_window.specs.SendWindow.{sent_count, bytes_of}
-use Rattle.lapi_task.specs.declared.put.Put.{Put}
-use Rattle.lapi_task.specs.Landed.{note_packet, noted_at, ends_after, events_of}
-use Rattle.lapi_task.specs.Puts.{statement_of}
+use Rattle.lapi_task.specs.Landed.{note_name, note_of, with_empty_at, ends_after, events_of}
+use Rattle.lapi_task.specs.Outgoing.{outgoing, with_message}
+use Rattle.lapi_task.proofs.Forms.{Put, statement_of}
+use Rattle.lapi_task.proofs.MessageCopies.{copied-ends}
+use Rattle.std.proofs.lemmas.Option.{slice_get_within}
 use Rattle.lapi_task.specs.Sends.{packet_at, SendsFor}
 use Rattle.lapi_task.specs.StandsFor.{SenderAt}
 use Rattle.lapi_laws.proofs.Places.{fragments-length}
@@ -40,16 +42,11 @@ use Rattle.lapi_task.proofs.Packets.{packet-none, packet-same, packet-stays, num
 use Rattle.lapi_task.proofs.ReceiveEvents.{come}
 use Rattle.lapi_task.proofs.ReceiveKinds.{IsPut, IsNote}
 
-module _ (script : Script) where
+module _ (script : Script) (rules : Rules) where
   -- A link has the same numbers, or one more.
   pub record Stays (J K : List Event) (x y : ℕ) : Type 0 where
     pub numbers : length (numbered script K x y) ≡ length (numbered script J x y)
-    pub packets : (n : ℕ) → packet_at script K x y n ≡ packet_at script J x y n
-
-  pub record Grows (J K : List Event) (x y : ℕ) (bytes : List ℕ) : Type 0 where
-    pub numbers : length (numbered script K x y) ≡ length (numbered script J x y) + 1
-    pub old : (n : ℕ) → n < length (numbered script J x y) → packet_at script K x y n ≡ packet_at script J x y n
-    pub new : packet_at script K x y (length (numbered script J x y)) ≡ Some bytes
+    pub packets : (n : ℕ) → packet_at script rules K x y n ≡ packet_at script rules J x y n
 
   -- what was sent and acknowledged is as before
   pub record Settled (r w : Run) (x y : ℕ) : Type 0 where
@@ -59,7 +56,7 @@ module _ (script : Script) where
   abbrev pub told : Run → List Event → Run
   told w K = record w { journal = K }
 
-  sends-stay : (r w : Run) (K : List Event) (x y : ℕ) (s : SendingEnd) → Settled r w x y → Stays r.journal K x y → SendsFor script s r x y → SendsFor script s (told w K) x y
+  sends-stay : (r w : Run) (K : List Event) (x y : ℕ) (s : SendingEnd) → Settled r w x y → Stays r.journal K x y → SendsFor script rules s r x y → SendsFor script rules s (told w K) x y
   sends-stay r w K x y s m g h = record {
     numbers = record {
       size = h.numbers.size;
@@ -72,91 +69,28 @@ module _ (script : Script) where
     waiting = λ i. h.waiting i ∙ sym (g.packets _);
   }
 
-  sends-grow : (r w : Run) (K : List Event) (x y : ℕ) (s : SendingEnd) (bytes : List ℕ) → Settled r w x y → Grows r.journal K x y bytes → SendsFor script s r x y → SendsFor script (appended s bytes) (told w K) x y
-  unfolding bytes_of
-  sends-grow r w K x y s bytes m g h =
-      let count = length (numbered script r.journal x y) in
-      let numbers = h.numbers.numbers in
-      let whole = h.whole in
-      let more = g.numbers in
-      record {
-        numbers = record {
-          size = h.numbers.size;
-          numbers = ap (λ n. n + 1) h.numbers.numbers ∙ sym g.numbers;
-          sent = λ n. m.sent n ∙ h.numbers.sent n;
-          acked = λ n. m.acked n ∙ h.numbers.acked n;
-        };
-        whole = let l = length-append s.waiting (bytes ∷ []) in omega (arith, l, whole);
-        kept = λ n l u. h.kept n l u ∙ sym (g.old n (omega (arith, l, numbers, whole)));
-        waiting = λ i.
-            ⊎_elim
-            (λ (lt : i < length s.waiting). get-before s.waiting (bytes ∷ []) i lt ∙ h.waiting i ∙ sym (g.old (sent_count s.window + i) (omega (arith, lt, numbers, whole))))
-            (λ (ge : length s.waiting ≤ i).
-            ⊎_elim
-            (λ (same : i ≡ length s.waiting).
-            ap (slice_get (s.waiting ++ bytes ∷ [])) (let e : i ≡ length s.waiting + 0 = omega (arith, same) in e)
-            ∙ get-after s.waiting (bytes ∷ []) 0
-            ∙ sym g.new
-            ∙ ap (packet_at script K x y) (let e : count ≡ sent_count s.window + i = omega (arith, same, numbers, whole) in e))
-            (λ (apart : i ≡ length s.waiting → ⊥).
-            let past : length s.waiting + 1 ≤ i = past-of i (length s.waiting) ge apart in
-            get-past (s.waiting ++ bytes ∷ []) i (let l = length-append s.waiting (bytes ∷ []) in omega (arith, l, past))
-            ∙ sym (packet-none script K x y (sent_count s.window + i) (omega (arith, past, numbers, whole, more))))
-            (cases_eq i (length s.waiting)))
-            (cases_lt i (length s.waiting));
-      }
-    where
-      past-of : (i n : ℕ) → n ≤ i → (i ≡ n → ⊥) → n + 1 ≤ i
-      past-of i n l apart = ⊎_elim (λ (lt : n < i). omega (arith, lt)) (λ (ge : i ≤ n). absurd (apart (omega (arith, ge, l)))) (cases_lt n i)
-
   -- ---- events
 
   stays-none : (J : List Event) (x y : ℕ) → Stays J J x y
   stays-none J x y = record { numbers = refl; packets = λ n. refl }
 
-  stays-then : (J K L : List Event) (x y : ℕ) → Stays J K x y → Stays K L x y → Stays J L x y
-  stays-then J K L x y one two = record { numbers = two.numbers ∙ one.numbers; packets = λ n. two.packets n ∙ one.packets n }
-
-  grows-over : (J I K : List Event) (x y : ℕ) (bytes : List ℕ) → Stays I J x y → Grows J K x y bytes → Grows I K x y bytes
-  grows-over J I K x y bytes s g =
-      let same = s.numbers in
-      record {
-        numbers = g.numbers ∙ ap (λ k. k + 1) s.numbers;
-        old = λ k l. g.old k (omega (arith, l, same)) ∙ s.packets k;
-        new = ap (packet_at script K x y) (sym s.numbers) ∙ g.new;
-      }
+  settled-same : (r : Run) (x y : ℕ) → Settled r r x y
+  settled-same r x y = record { sent = λ n. refl; acked = λ n. refl }
 
   numbered-land : (m : MsgName) (J : List Event) (x y : ℕ) → numbered script (Land m ∷ J) x y ≡ numbered script J x y
   unfolding numbered
   numbered-land m J x y = refl
 
-  stays-land : (m : MsgName) (J : List Event) (x y : ℕ) → Atomic script no_rules (Land m ∷ J) → Stays J (Land m ∷ J) x y
-  stays-land m J x y atomic = record { numbers = ap (λ (ps : List (MsgName × ℕ)). length ps) (numbered-land m J x y); packets = packet-same script (Land m) J x y atomic (numbered-land m J x y) }
+  stays-land : (m : MsgName) (J : List Event) (x y : ℕ) → Atomic script rules (Land m ∷ J) → Stays J (Land m ∷ J) x y
+  stays-land m J x y atomic = record { numbers = ap (λ (ps : List (MsgName × ℕ)). length ps) (numbered-land m J x y); packets = packet-same script rules (Land m) J x y atomic (numbered-land m J x y) }
 
-  numbered-other : (n : MsgName) (J : List Event) (x y : ℕ) → (sender script n == x && receiver script n == y) ≡ false → numbered script (Copy n ∷ J) x y ≡ numbered script J x y
-  unfolding numbered
-  numbered-other n J x y e = cond-false (sender script n == x && receiver script n == y) (numbered script J x y ++ fragments script n) (numbered script J x y) e
+  -- It goes back where the put came from.
+  pub notice-ends : (m : MsgName) (a t : ℕ) → m.leg ≡ Go → sender script m ≡ a → receiver script m ≡ t → (sender script (message m.origin m.statement Note) ≡ t) × (receiver script (message m.origin m.statement Note) ≡ a)
+  notice-ends m a t leg from to =
+      let d = target script m.origin m.statement in
+      (sym (ap (to_by m.origin d) leg) ∙ to, sym (ap (from_by m.origin d) leg) ∙ from)
 
-  stays-copy : (n : MsgName) (J : List Event) (x y : ℕ) → Atomic script no_rules (Copy n ∷ J) → (sender script n == x && receiver script n == y) ≡ false → Stays J (Copy n ∷ J) x y
-  stays-copy n J x y atomic e = record { numbers = ap (λ (ps : List (MsgName × ℕ)). length ps) (numbered-other n J x y e); packets = packet-same script (Copy n) J x y atomic (numbered-other n J x y e) }
-
-  -- ---- the notice of a put: one fragment without bytes, in each layout
-
-  no-bytes : fragment_bytes (unit_of script) 0 [] ≡ []
-  unfolding unit_of
-  no-bytes = by-layout (layout_of script.layout)
-    where
-      by-layout : (layout : Layout) → fragment_bytes (unit layout) 0 [] ≡ []
-      by-layout First = refl
-      by-layout Second = refl
-
-  one-fragment : fragments_in (unit_of script) 0 ≡ 1
-  unfolding unit_of
-  one-fragment = by-layout (layout_of script.layout)
-    where
-      by-layout : (layout : Layout) → fragments_in (unit layout) 0 ≡ 1
-      by-layout First = refl
-      by-layout Second = refl
+  -- ---- the notice of a put, which has no bytes
 
   module _ (m : MsgName) (put : Put) (is : statement script m.origin m.statement ≡ statement_of put) (c : ℕ) (named : put.cmpl ≡ Some c) where
     abbrev pub notice : MsgName
@@ -165,108 +99,67 @@ module _ (script : Script) where
     notice-head : head_by script notice Note (statement script m.origin m.statement) ≡ heads.Note NoteOp.Put c
     notice-head = ap (head_by script notice Note) is ∙ ap (λ o. heads.Note NoteOp.Put (unwrap_or o 0)) named
 
-    pub notice-data : (n : ℕ) (bytes : List ℕ) → bytes ≡ [] → data_packet script notice n 0 bytes ≡ Data (note_packet (sender script notice) (receiver script notice) n m c)
-    unfolding data_packet message_length
-    notice-data n bytes empty =
-        let payload : fragment_bytes (unit_of script) 0 bytes ≡ [] = ap (fragment_bytes (unit_of script) 0) empty ∙ no-bytes in
-        λ i. Data (record { from = sender script notice; to = receiver script notice; seq = n; name = notice; head = notice-head i; length = 0; fragment = 0; payload = payload i })
-
-    pub notice-carries : (J : List Event) → carried script no_rules (Copy notice ∷ J) notice ≡ []
+    pub notice-carries : (J : List Event) → carried script rules (Copy notice ∷ J) notice ≡ []
     unfolding values
-    notice-carries J = cond-true (name_eq notice notice) [] (carried script no_rules J notice) (name_eq-refl notice)
+    notice-carries J = cond-true (name_eq notice notice) [] (carried script rules J notice) (name_eq-refl notice)
 
-    pub notice-count : fragment_count script notice ≡ 1
-    unfolding fragment_count message_length
-    notice-count = one-fragment
-
-    first : slice_get (numbers_below 1) 0 ≡ Some 0
-    unfolding numbers_below below
-    first = refl
-
-    abbrev notice_bytes : List Event → (x y : ℕ) → List ℕ
-    notice_bytes J x y = written.packet (Data (note_packet x y (length (numbered script J x y)) m c))
-
-    grows-own : (J : List Event) → Atomic script no_rules (Copy notice ∷ J) → Grows J (Copy notice ∷ J) (sender script notice) (receiver script notice) (notice_bytes J (sender script notice) (receiver script notice))
-    grows-own J atomic =
-        let x = sender script notice in
-        let y = receiver script notice in
-        let n = length (numbered script J x y) in
-        let at : n + 0 ≡ n = omega arith in
-        record {
-          numbers = ap (λ (ps : List (MsgName × ℕ)). length ps) (numbered-own script notice J) ∙ length-append (numbered script J x y) (fragments script notice) ∙ ap (λ k. n + k) (fragments-length script notice ∙ notice-count);
-          old = λ k l. packet-stays script (Copy notice) J x y k atomic l;
-          new =
-              ap (packet_at script (Copy notice ∷ J) x y) (sym at)
-              ∙ packet-new script notice J 0
-              ∙ ap (λ k. option_map (λ j. copied_packet script notice J (n + 0) j) (slice_get (numbers_below k) 0)) notice-count
-              ∙ ap (option_map (λ j. copied_packet script notice J (n + 0) j)) first
-              ∙ ap (λ k. Some (copied_packet script notice J k 0)) at
-              ∙ ap (λ d. Some (written.packet d)) (notice-data n (carried script no_rules (Copy notice ∷ J) notice) (notice-carries J));
-        }
-
-    pub grows-copy : (J : List Event) (x y : ℕ) → Atomic script no_rules (Copy notice ∷ J) → sender script notice ≡ x → receiver script notice ≡ y → Grows J (Copy notice ∷ J) x y (notice_bytes J x y)
-    grows-copy J x y atomic from to =
-        subst (λ v. Grows J (Copy notice ∷ J) v y (notice_bytes J v y)) from
-        (subst (λ v. Grows J (Copy notice ∷ J) (sender script notice) v (notice_bytes J (sender script notice) v)) to (grows-own J atomic))
-
-  -- It goes back where the put came from.
-  pub notice-ends : (m : MsgName) (a t : ℕ) → m.leg ≡ Go → sender script m ≡ a → receiver script m ≡ t → (sender script (message m.origin m.statement Note) ≡ t) × (receiver script (message m.origin m.statement Note) ≡ a)
-  notice-ends m a t leg from to =
-      let d = target script m.origin m.statement in
-      (sym (ap (to_by m.origin d) leg) ∙ to, sym (ap (from_by m.origin d) leg) ∙ from)
+    pub notice-is : (a t : ℕ) → m.leg ≡ Go → sender script m ≡ a → receiver script m ≡ t → outgoing script notice ≡ note_of t a m c
+    unfolding message_length
+    notice-is a t leg from to =
+        let own = notice-ends m a t leg from to in
+        λ i. record { from = own.0 i; to = own.1 i; seq = 0; name = notice; head = notice-head i; length = 0; fragment = 0; payload = [] }
 
   -- ---- the sending ends
 
-  sender-there : (r : Run) (x y : ℕ) (o : Option SendingEnd) → SenderAt script r x y o → (s : SendingEnd) × (o ≡ Some s) × SendsFor script s r x y
+  sender-there : (r : Run) (x y : ℕ) (o : Option SendingEnd) → SenderAt script rules r x y o → (s : SendingEnd) × (o ≡ Some s) × SendsFor script rules s r x y
   sender-there r x y None h = absurd h
   sender-there r x y (Some s) h = (s, refl, h)
 
-  sender-stay : (r w : Run) (K : List Event) (x y : ℕ) (o : Option SendingEnd) → Settled r w x y → Stays r.journal K x y → SenderAt script r x y o → SenderAt script (told w K) x y o
+  sender-stay : (r w : Run) (K : List Event) (x y : ℕ) (o : Option SendingEnd) → Settled r w x y → Stays r.journal K x y → SenderAt script rules r x y o → SenderAt script rules (told w K) x y o
   sender-stay r w K x y None m g h = absurd h
   sender-stay r w K x y (Some s) m g h = sends-stay r w K x y s m g h
 
-  module _ (r w : Run) (a t : ℕ) (ends : List SendingEnd) (moves : (b : ℕ) → Settled r w t b) (there : a < script.tasks) (all : (b : ℕ) → b < script.tasks → SenderAt script r t b (slice_get ends b)) where
+  module _ (r w : Run) (a t : ℕ) (ends : List SendingEnd) (moves : (b : ℕ) → Settled r w t b) (there : a < script.tasks) (all : (b : ℕ) → b < script.tasks → SenderAt script rules r t b (slice_get ends b)) where
     Ends : List Event → List SendingEnd → Type 0
-    Ends K xs = (b : ℕ) → b < script.tasks → SenderAt script (told w K) t b (slice_get xs b)
+    Ends K xs = (b : ℕ) → b < script.tasks → SenderAt script rules (told w K) t b (slice_get xs b)
 
     ends-same : (K : List Event) → ((b : ℕ) → Stays r.journal K t b) → Ends K ends
     unfolding Ends
     ends-same K g = λ b l. sender-stay r w K t b (slice_get ends b) (moves b) (g b) (all b l)
 
     module _ (m : MsgName) (put : Put) (is : statement script m.origin m.statement ≡ statement_of put) (leg : m.leg ≡ Go) (from : sender script m ≡ a) (to : receiver script m ≡ t) where
-      ends-noted : (c : ℕ) → put.cmpl ≡ Some c → let J = Land m ∷ r.journal in let K = Copy (message m.origin m.statement Note) ∷ J in Atomic script no_rules K → Ends K (noted_at t a m c (slice_get ends a) ends)
+      ends-noted : (c : ℕ) → put.cmpl ≡ Some c → let J = Land m ∷ r.journal in let K = Copy (note_name m) ∷ J in Atomic script rules K → Ends K (with_empty_at (unit_of script) (note_of t a m c) (slice_get ends a) ends)
       unfolding Ends
       ends-noted c named atomic = λ b l.
-          let n = message m.origin m.statement Note in
+          let n = note_name m in
           let J = Land m ∷ r.journal in
           let K = Copy n ∷ J in
           let own = notice-ends m a t leg from to in
-          let landed = Atomic-tail script no_rules (Copy n) J atomic in
+          let landed = Atomic-tail script rules (Copy n) J atomic in
           let found = sender-there r t a (slice_get ends a) (all a there) in
           let s = found.0 in
-          let here : slice_get ends a ≡ Some s = found.1 in
-          let bytes = λ (k : ℕ). written.packet (Data (note_packet t a k m c)) in
-          let count : length (numbered script J t a) ≡ s.window.numbers = ap (λ (ps : List (MsgName × ℕ)). length ps) (numbered-land m r.journal t a) ∙ sym found.2.numbers.numbers in
-          let ends2 = slice_set ends a (appended s (bytes s.window.numbers)) in
-          let is2 : noted_at t a m c (slice_get ends a) ends ≡ ends2 = ap (λ o. noted_at t a m c o ends) here in
-          let grown = grows-copy m put is c named J t a atomic own.0 own.1 in
-          let whole : Grows r.journal K t a (bytes s.window.numbers) = subst (λ k. Grows r.journal K t a (bytes k)) count (grows-over J r.journal K t a (bytes (length (numbered script J t a))) (stays-land m r.journal t a landed) grown) in
-          subst (λ xs. SenderAt script (told w K) t b (slice_get xs b)) (sym is2)
-          (⊎_elim
-          (λ (same : b ≡ a). subst (λ y. SenderAt script (told w K) t y (slice_get ends2 y)) (sym same) (subst (SenderAt script (told w K) t a) (sym (get-set ends a s (appended s (bytes s.window.numbers)) here)) (sends-grow r w K t a s (bytes s.window.numbers) (moves a) whole found.2)))
-          (λ (apart : b ≡ a → ⊥).
-          let other : (sender script n == t && receiver script n == b) ≡ false = and_right (sender script n == t) (receiver script n == b) (ne_eqb (receiver script n) b (λ e. apart (sym e ∙ own.1))) in
-          subst (SenderAt script (told w K) t b) (sym (get-set-other ends a b (appended s (bytes s.window.numbers)) apart)) (sender-stay r w K t b (slice_get ends b) (moves b) (stays-then r.journal J K t b (stays-land m r.journal t b landed) (stays-copy n J t b atomic other)) (all b l)))
-          (cases_eq b a))
+          let note = with_message (unit_of script) (note_of t a m c) [] s in
+          let one = λ (x : ℕ) (lx : x < script.tasks). sender-stay r r J t x (slice_get ends x) (settled-same r t x) (stays-land m r.journal t x landed) (all x lx) in
+          let two = copied-ends script rules n (told r J) t ends (slice_set ends a note) note [] own.0
+          (subst (λ (x : ℕ). x < length ends) (sym own.1) (slice_get_within ends a s found.1))
+          (ap (λ (x : ℕ). slice_set ends x note) (sym own.1))
+          atomic
+          (sym (notice-carries m put is c named J))
+          (λ e at.
+          let same : Some s ≡ Some e = sym found.1 ∙ ap (slice_get ends) (sym own.1) ∙ at in
+          (λ i. with_message (unit_of script) (sym (notice-is m put is c named a t leg from to) i) [] (let q : s ≡ e = cc in q i)))
+          one in
+          subst (λ (xs : List SendingEnd). SenderAt script rules (told w K) t b (slice_get xs b)) (sym (ap (λ o. with_empty_at (unit_of script) (note_of t a m c) o ends) found.1))
+          (sender-stay (told r K) w K t b (slice_get (slice_set ends a note) b) (record { sent = (moves b).sent; acked = (moves b).acked }) (stays-none K t b) (two b l))
 
-      ends-put : (known whole : Bool) (cmpl : Option ℕ) (bytes : List ℕ) → put.cmpl ≡ cmpl → let arrival = come known whole m (heads.Put put.to put.tgt cmpl) bytes in let K = followed r.journal (events_of arrival) in Atomic script no_rules K → Ends K (ends_after t a arrival ends)
+      ends-put : (known whole : Bool) (cmpl : Option ℕ) (bytes : List ℕ) → put.cmpl ≡ cmpl → let arrival = come known whole m (heads.Put put.to put.tgt cmpl) bytes in let K = followed r.journal (events_of arrival) in Atomic script rules K → Ends K (ends_after (unit_of script) t a arrival ends)
       unfolding followed
       ends-put true whole cmpl bytes named atomic = ends-same r.journal (λ b. stays-none r.journal t b)
       ends-put false false cmpl bytes named atomic = ends-same r.journal (λ b. stays-none r.journal t b)
       ends-put false true None bytes named atomic = ends-same (Land m ∷ r.journal) (λ b. stays-land m r.journal t b atomic)
       ends-put false true (Some c) bytes named atomic = ends-noted c named atomic
 
-    ends-note : (known whole : Bool) (m : MsgName) (h : Head) (bytes : List ℕ) → IsNote script m h → let arrival = come known whole m h bytes in let K = followed r.journal (events_of arrival) in Atomic script no_rules K → Ends K (ends_after t a arrival ends)
+    ends-note : (known whole : Bool) (m : MsgName) (h : Head) (bytes : List ℕ) → IsNote script rules m h → let arrival = come known whole m h bytes in let K = followed r.journal (events_of arrival) in Atomic script rules K → Ends K (ends_after (unit_of script) t a arrival ends)
     unfolding followed
     ends-note true whole m h bytes note atomic = ends-same r.journal (λ b. stays-none r.journal t b)
     ends-note false false m h bytes note atomic = ends-same r.journal (λ b. stays-none r.journal t b)
@@ -274,27 +167,27 @@ module _ (script : Script) where
     ends-note false true m (heads.Put at tgt cmpl) bytes note atomic = absurd (note.counter at tgt cmpl refl)
     ends-note false true m _ bytes note atomic = absurd note.head
 
-    pub ends-come : (known whole : Bool) (m : MsgName) (h : Head) (bytes : List ℕ) → sender script m ≡ a → receiver script m ≡ t → IsPut script m h ⊎ IsNote script m h → let arrival = come known whole m h bytes in let K = followed r.journal (events_of arrival) in Atomic script no_rules K → (b : ℕ) → b < script.tasks → SenderAt script (told w K) t b (slice_get (ends_after t a arrival ends) b)
+    pub ends-come : (known whole : Bool) (m : MsgName) (h : Head) (bytes : List ℕ) → sender script m ≡ a → receiver script m ≡ t → IsPut script rules m h ⊎ IsNote script rules m h → let arrival = come known whole m h bytes in let K = followed r.journal (events_of arrival) in Atomic script rules K → (b : ℕ) → b < script.tasks → SenderAt script rules (told w K) t b (slice_get (ends_after (unit_of script) t a arrival ends) b)
     unfolding Ends
     ends-come known whole m h bytes from to kind atomic =
         ⊎_elim
-        (λ (x : IsPut script m h).
-        let good = λ (g : Head). Atomic script no_rules (followed r.journal (events_of (come known whole m g bytes))) in
-        let goal = λ (g : Head). (b : ℕ) → b < script.tasks → SenderAt script (told w (followed r.journal (events_of (come known whole m g bytes)))) t b (slice_get (ends_after t a (come known whole m g bytes) ends) b) in
+        (λ (x : IsPut script rules m h).
+        let good = λ (g : Head). Atomic script rules (followed r.journal (events_of (come known whole m g bytes))) in
+        let goal = λ (g : Head). (b : ℕ) → b < script.tasks → SenderAt script rules (told w (followed r.journal (events_of (come known whole m g bytes)))) t b (slice_get (ends_after (unit_of script) t a (come known whole m g bytes) ends) b) in
         subst goal (sym x.head) (ends-put m x.put x.is x.leg from to known whole x.put.cmpl bytes refl (subst good x.head atomic)))
-        (λ (x : IsNote script m h). ends-note known whole m h bytes x atomic)
+        (λ (x : IsNote script rules m h). ends-note known whole m h bytes x atomic)
         kind
 
-  with-note-length : (t a : ℕ) (m : MsgName) (c : ℕ) (o : Option SendingEnd) (ends : List SendingEnd) → length (noted_at t a m c o ends) ≡ length ends
-  with-note-length t a m c None ends = refl
-  with-note-length t a m c (Some s) ends = length-set ends a _
+  with-note-length : (unit t a : ℕ) (m : MsgName) (c : ℕ) (o : Option SendingEnd) (ends : List SendingEnd) → length (with_empty_at unit (note_of t a m c) o ends) ≡ length ends
+  with-note-length unit t a m c None ends = refl
+  with-note-length unit t a m c (Some s) ends = length-set ends a _
 
-  head-length : (t a : ℕ) (m : MsgName) (at : ℕ) (tgt cmpl : Option ℕ) (bytes : List ℕ) (ends : List SendingEnd) → length (ends_after t a (come false true m (heads.Put at tgt cmpl) bytes) ends) ≡ length ends
-  head-length t a m at tgt None bytes ends = refl
-  head-length t a m at tgt (Some c) bytes ends = with-note-length t a m c (slice_get ends a) ends
+  head-length : (unit t a : ℕ) (m : MsgName) (at : ℕ) (tgt cmpl : Option ℕ) (bytes : List ℕ) (ends : List SendingEnd) → length (ends_after unit t a (come false true m (heads.Put at tgt cmpl) bytes) ends) ≡ length ends
+  head-length unit t a m at tgt None bytes ends = refl
+  head-length unit t a m at tgt (Some c) bytes ends = with-note-length unit t a m c (slice_get ends a) ends
 
-  pub ends-length : (t a : ℕ) (known whole : Bool) (m : MsgName) (h : Head) (bytes : List ℕ) (ends : List SendingEnd) → length (ends_after t a (come known whole m h bytes) ends) ≡ length ends
-  ends-length t a true whole m h bytes ends = refl
-  ends-length t a false false m h bytes ends = refl
-  ends-length t a false true m (heads.Put at tgt cmpl) bytes ends = head-length t a m at tgt cmpl bytes ends
-  ends-length t a false true m _ bytes ends = refl
+  pub ends-length : (unit t a : ℕ) (known whole : Bool) (m : MsgName) (h : Head) (bytes : List ℕ) (ends : List SendingEnd) → length (ends_after unit t a (come known whole m h bytes) ends) ≡ length ends
+  ends-length unit t a true whole m h bytes ends = refl
+  ends-length unit t a false false m h bytes ends = refl
+  ends-length unit t a false true m (heads.Put at tgt cmpl) bytes ends = head-length unit t a m at tgt cmpl bytes ends
+  ends-length unit t a false true m _ bytes ends = refl

@@ -4,6 +4,7 @@ use Rattle.std.specs.Prelude.{nat_le, nat_lt, slice_index}
 use Rattle.std.proofs.lemmas.Bool.{false≢true, cond-true, cond-false, and_left, and_right, and_from, cases_eq, ne_eqb, leb-true, ltb-true}
 use Rattle.std.proofs.lemmas.List.{append-nil, length-set, get_or-set_same, get_or-set_other}
 use Rattle.lapi_base.specs.declared.script.Script.{Script}
+use Rattle.lapi_base.specs.declared.rule.Rules.{Rules}
 use Rattle.lapi_base.specs.declared.statement.Statement.{Statement}
 use Rattle.lapi_base.specs.declared.statement.Statement.TheVariants as statements
 use Rattle.lapi_base.specs.declared.event.Event.{Event}
@@ -19,13 +20,12 @@ use Rattle.lapi_base.specs.Record.Names.{message, happened, key_of, key_eq, Issu
 use Rattle.lapi_base.specs.Record.Operations.{statement, is_data}
 use Rattle.lapi_base.specs.Record.Operations as operations
 use Rattle.lapi_base.specs.Record.Refusals.{next, refusals}
-use Rattle.lapi_base.specs.Record.WorldView.{no_rules}
 use Rattle.lapi_base.specs.Record.Values.{memory_bytes, store_writes}
 use Rattle.lapi_base.proofs.BelowLaws.{below-cut, below-same}
 use Rattle.lapi_base.proofs.NameLaws.{happened-head, happened-other}
 use Rattle.lapi_base.proofs.TestLaws.{eqb-refl}
-use Rattle.lapi_task.specs.declared.outcome.Outcome.{Outcome}
-use Rattle.lapi_task.specs.declared.task.Task.{Task}
+use Rattle.lapi_task.specs.declared.state.State.{State}
+use Rattle.lapi_base.specs.Packet.Layout.{sizes_of}
 use Rattle.lapi_task.specs.Supported.{reason_of}
 use Rattle.lapi_task.specs.StandsFor.{HoldsFor, is_uncopied}
 use Rattle.lapi_task.specs.Steps.{MayStep, stored, counters_set, with_read, with_uncopied, IsRefused, IsIssued, PassesWait}
@@ -38,7 +38,7 @@ below-more n i p q l same none here past =
     ap (λ xs. xs ++ i ∷ []) (below-cut i n p (omega arith) none ∙ below-same i p q same)
     ∙ sym (below-cut (suc i) n q (omega arith) past ∙ cond-true (q i) (below i q ++ i ∷ []) (below i q) here)
 
-module _ (script : Script) where
+module _ (script : Script) (rules : Rules) where
   store-fits : (size : ℕ) → cond (nat_le size script.memory) None (Some BadOriginRange) ≡ None → size ≤ script.memory
   store-fits size h = elim (nat_le size script.memory) as (λ b. nat_le size script.memory ≡ b → cond b None (Some BadOriginRange) ≡ None → size ≤ script.memory) [
     | true ↦ λ e _. leb-true size script.memory e
@@ -52,7 +52,7 @@ module _ (script : Script) where
   ] refl h
 
   -- a statement that isn't refused finds its places and its counter
-  pub suits : (s : Statement) (memory counters : List ℕ) → length memory ≡ script.memory → length counters ≡ script.counters → is_built_statement s ≡ true → reason_of script s ≡ None → MayStep s memory counters
+  pub suits : (s : Statement) (memory counters : List ℕ) → length memory ≡ script.memory → length counters ≡ script.counters → is_built_statement s ≡ true → reason_of (sizes_of script) s ≡ None → MayStep s memory counters
   unfolding is_built_statement
   suits (statements.Store at bytes) memory counters m c b h = let l = store-fits (at + length bytes) h in omega (arith, l, m)
   suits (statements.Put target to from len tgt org cmpl) memory counters m c b h = tt
@@ -73,19 +73,19 @@ module _ (script : Script) where
     unfolding next refusals
     after-refuse i why = (cond-true (t == t) _ _ (eqb-refl t), ap (λ xs. refusals J t ++ xs) (cond-true (t == t) _ _ (eqb-refl t)))
 
-    reads-refuse : (i : ℕ) (why : Refusal) → reads script no_rules (Refuse t i why ∷ J) t ≡ reads script no_rules J t
+    reads-refuse : (i : ℕ) (why : Refusal) → reads script rules (Refuse t i why ∷ J) t ≡ reads script rules J t
     unfolding reads
     reads-refuse i why = refl
 
-    count-refuse : (i c : ℕ) (why : Refusal) → count script no_rules (Refuse t i why ∷ J) t c ≡ count script no_rules J t c
+    count-refuse : (i c : ℕ) (why : Refusal) → count script rules (Refuse t i why ∷ J) t c ≡ count script rules J t c
     unfolding count tells
-    count-refuse i c why = add-zero (count script no_rules J t c)
+    count-refuse i c why = add-zero (count script rules J t c)
 
     runs-refuse : (i w : ℕ) (why : Refusal) → runs (Refuse t i why ∷ J) t w ≡ runs J t w
     unfolding runs
     runs-refuse i w why = refl
 
-    pub refused-holds : (before after : Task) (old new : Outcome) (why : Refusal) → HoldsFor script t before J → IsRefused why before after old new → HoldsFor script t after (Refuse t before.next why ∷ J)
+    pub refused-holds : (before after : State) (old new : List Event) (why : Refusal) → HoldsFor script rules t before J → IsRefused why before after old new → HoldsFor script rules t after (Refuse t before.next why ∷ J)
     refused-holds before after old new why h g =
         let i = before.next in
         let e = Refuse t i why in
@@ -98,7 +98,7 @@ module _ (script : Script) where
           ahead = λ k l. happened-other (Issued t k) e J refl ∙ h.ahead k (omega (arith, l, step));
           reads = g.reads ∙ h.reads ∙ sym (reads-refuse i why);
           refusals = g.refusals ∙ ap (λ xs. xs ++ (i, why) ∷ []) h.refusals ∙ sym r.1;
-          memory = g.memory ∙ h.memory ∙ sym (memory-none script e J t refl);
+          memory = g.memory ∙ h.memory ∙ sym (memory-none script rules e J t refl);
           counter_count = ap length g.counters ∙ h.counter_count;
           counters = λ c l. ap (λ xs. slice_index xs c) g.counters ∙ h.counters c l ∙ sym (count-refuse i c why);
           uncopied = g.uncopied ∙ h.uncopied ∙ below-same _ (is_uncopied script J t) (is_uncopied script (e ∷ J) t) (λ k _. uncopied-same e k refl refl);
@@ -124,13 +124,13 @@ module _ (script : Script) where
     unfolding next refusals
     after-pass i = (cond-true (t == t) _ _ (eqb-refl t), refl)
 
-    reads-pass : (i : ℕ) → reads script no_rules (Pass t i ∷ J) t ≡ reads script no_rules J t
+    reads-pass : (i : ℕ) → reads script rules (Pass t i ∷ J) t ≡ reads script rules J t
     unfolding reads
     reads-pass i = refl
 
-    count-pass : (i d value c : ℕ) → statement script t i ≡ statements.Wait d value → count script no_rules (Pass t i ∷ J) t c ≡ cond (t == t && d == c) (count script no_rules J t c - value) (count script no_rules J t c)
+    count-pass : (i d value c : ℕ) → statement script t i ≡ statements.Wait d value → count script rules (Pass t i ∷ J) t c ≡ cond (t == t && d == c) (count script rules J t c - value) (count script rules J t c)
     unfolding count
-    count-pass i d value c e = ap (λ (s : Statement). passed_count script no_rules s t t c (count script no_rules J t c)) e
+    count-pass i d value c e = ap (λ (s : Statement). passed_count script rules s t t c (count script rules J t c)) e
 
     runs-pass : (i w : ℕ) → runs (Pass t i ∷ J) t w ≡ runs J t w
     unfolding runs
@@ -144,7 +144,7 @@ module _ (script : Script) where
         (λ (apart : c ≡ d → ⊥). let no = and_right (t == t) (d == c) (ne_eqb d c (λ x. apart (sym x))) in cond-false (t == t && d == c) _ (n c) no ∙ sym (cond-false (t == t && d == c) _ (n c) no))
         (cases_eq c d)
 
-    pub passed-holds : (before after : Task) (old new : Outcome) (d value : ℕ) → statement script t before.next ≡ statements.Wait d value → d < length before.counters → HoldsFor script t before J → PassesWait d value before after old new → HoldsFor script t after (Pass t before.next ∷ J)
+    pub passed-holds : (before after : State) (old new : List Event) (d value : ℕ) → statement script t before.next ≡ statements.Wait d value → d < length before.counters → HoldsFor script rules t before J → PassesWait d value before after old new → HoldsFor script rules t after (Pass t before.next ∷ J)
     passed-holds before after old new d value is there h g =
         let i = before.next in
         let e = Pass t i in
@@ -158,13 +158,13 @@ module _ (script : Script) where
           ahead = λ k l. happened-other (Issued t k) e J refl ∙ h.ahead k (omega (arith, l, step));
           reads = g.reads ∙ h.reads ∙ sym (reads-pass i);
           refusals = g.refusals ∙ h.refusals ∙ sym r.1;
-          memory = g.memory ∙ h.memory ∙ sym (memory-none script e J t refl);
+          memory = g.memory ∙ h.memory ∙ sym (memory-none script rules e J t refl);
           counter_count = ap length g.counters ∙ length-set before.counters d (slice_index before.counters d - value) ∙ h.counter_count;
           counters = λ c l.
               ap (λ xs. slice_index xs c) g.counters
-              ∙ set-at before.counters d (slice_index before.counters d - value) c (count script no_rules J t c) there (h.counters c l)
-              ∙ ap (λ x. cond (t == t && d == c) (x - value) (count script no_rules J t c)) (h.counters d known)
-              ∙ taken-at (count script no_rules J t) d value c
+              ∙ set-at before.counters d (slice_index before.counters d - value) c (count script rules J t c) there (h.counters c l)
+              ∙ ap (λ x. cond (t == t && d == c) (x - value) (count script rules J t c)) (h.counters d known)
+              ∙ taken-at (count script rules J t) d value c
               ∙ sym (count-pass i d value c is);
           uncopied = g.uncopied ∙ h.uncopied ∙ below-same _ (is_uncopied script J t) (is_uncopied script (e ∷ J) t) (λ k _. uncopied-same e k refl refl);
           jobless = λ w. runs-pass i w ∙ h.jobless w;
@@ -179,39 +179,39 @@ module _ (script : Script) where
     unfolding runs
     runs-issue i w = refl
 
-    reads-issue : (i : ℕ) (s : Statement) → statement script t i ≡ s → reads script no_rules (Issue t i ∷ J) t ≡ reads script no_rules J t ++ read_by script no_rules J t i s
+    reads-issue : (i : ℕ) (s : Statement) → statement script t i ≡ s → reads script rules (Issue t i ∷ J) t ≡ reads script rules J t ++ read_by script rules J t i s
     unfolding reads
-    reads-issue i s e = ap (λ xs. reads script no_rules J t ++ xs) (cond-true (t == t) _ _ (eqb-refl t)) ∙ ap (λ (x : Statement). reads script no_rules J t ++ read_by script no_rules J t i x) e
+    reads-issue i s e = ap (λ xs. reads script rules J t ++ xs) (cond-true (t == t) _ _ (eqb-refl t)) ∙ ap (λ (x : Statement). reads script rules J t ++ read_by script rules J t i x) e
 
-    count-issue : (i c : ℕ) (s : Statement) → statement script t i ≡ s → count script no_rules (Issue t i ∷ J) t c ≡ issued_count script no_rules s t t c (count script no_rules J t c)
+    count-issue : (i c : ℕ) (s : Statement) → statement script t i ≡ s → count script rules (Issue t i ∷ J) t c ≡ issued_count script rules s t t c (count script rules J t c)
     unfolding count
-    count-issue i c s e = ap (λ (x : Statement). issued_count script no_rules x t t c (count script no_rules J t c)) e
+    count-issue i c s e = ap (λ (x : Statement). issued_count script rules x t t c (count script rules J t c)) e
 
     issued-later : (i k : ℕ) → suc i ≤ k → happened (Issued t k) J ≡ false → happened (Issued t k) (Issue t i ∷ J) ≡ false
     issued-later i k l h = happened-other (Issued t k) (Issue t i) J (and_right (t == t) (k == i) (ne_eqb k i (λ e. let x = e in omega (arith, l, x)))) ∙ h
 
-    module _ (before : Task) (h : HoldsFor script t before J) where
-      reads-issued : (s : Statement) → is_built_statement s ≡ true → MayStep s before.memory before.counters → with_read s before.counters before.next before.reads.items ≡ reads script no_rules J t ++ read_by script no_rules J t before.next s
+    module _ (before : State) (h : HoldsFor script rules t before J) where
+      reads-issued : (s : Statement) → is_built_statement s ≡ true → MayStep s before.memory before.counters → with_read s before.counters before.next before.reads.items ≡ reads script rules J t ++ read_by script rules J t before.next s
       unfolding is_built_statement
-      reads-issued (statements.Store at bytes) b u = h.reads ∙ sym (append-nil (reads script no_rules J t))
-      reads-issued (statements.Put target to from len tgt org cmpl) b u = h.reads ∙ sym (append-nil (reads script no_rules J t))
-      reads-issued (statements.Wait counter value) b u = h.reads ∙ sym (append-nil (reads script no_rules J t))
-      reads-issued (statements.Set counter value) b u = h.reads ∙ sym (append-nil (reads script no_rules J t))
+      reads-issued (statements.Store at bytes) b u = h.reads ∙ sym (append-nil (reads script rules J t))
+      reads-issued (statements.Put target to from len tgt org cmpl) b u = h.reads ∙ sym (append-nil (reads script rules J t))
+      reads-issued (statements.Wait counter value) b u = h.reads ∙ sym (append-nil (reads script rules J t))
+      reads-issued (statements.Set counter value) b u = h.reads ∙ sym (append-nil (reads script rules J t))
       reads-issued (statements.Read counter) b u =
           ap (λ xs. xs ++ (before.next, slice_index before.counters counter) ∷ []) h.reads
-          ∙ ap (λ n. reads script no_rules J t ++ (before.next, n) ∷ []) (h.counters counter (let n = h.counter_count in omega (arith, u, n)))
+          ∙ ap (λ n. reads script rules J t ++ (before.next, n) ∷ []) (h.counters counter (let n = h.counter_count in omega (arith, u, n)))
       reads-issued _ b u = absurd (false≢true b)
 
-      memory-issued : (s : Statement) → statement script t before.next ≡ s → is_built_statement s ≡ true → MayStep s before.memory before.counters → stored s before.memory ≡ memory_bytes script no_rules (Issue t before.next ∷ J) t
+      memory-issued : (s : Statement) → statement script t before.next ≡ s → is_built_statement s ≡ true → MayStep s before.memory before.counters → stored s before.memory ≡ memory_bytes script rules (Issue t before.next ∷ J) t
       unfolding is_built_statement
       memory-issued (statements.Store at bytes) e b u =
           ap (stored (statements.Store at bytes)) h.memory
-          ∙ memory-written script (Issue t before.next) J at bytes (ap (λ (x : Statement). store_writes script no_rules x) e)
-          (let n = ap length h.memory ∙ memory-length script J t in omega (arith, u, n))
-      memory-issued (statements.Put target to from len tgt org cmpl) e b u = h.memory ∙ sym (memory-none script (Issue t before.next) J t (ap (λ (x : Statement). store_writes script no_rules x) e))
-      memory-issued (statements.Wait counter value) e b u = h.memory ∙ sym (memory-none script (Issue t before.next) J t (ap (λ (x : Statement). store_writes script no_rules x) e))
-      memory-issued (statements.Set counter value) e b u = h.memory ∙ sym (memory-none script (Issue t before.next) J t (ap (λ (x : Statement). store_writes script no_rules x) e))
-      memory-issued (statements.Read counter) e b u = h.memory ∙ sym (memory-none script (Issue t before.next) J t (ap (λ (x : Statement). store_writes script no_rules x) e))
+          ∙ memory-written script rules (Issue t before.next) J at bytes (ap (λ (x : Statement). store_writes script rules x) e)
+          (let n = ap length h.memory ∙ memory-length script rules J t in omega (arith, u, n))
+      memory-issued (statements.Put target to from len tgt org cmpl) e b u = h.memory ∙ sym (memory-none script rules (Issue t before.next) J t (ap (λ (x : Statement). store_writes script rules x) e))
+      memory-issued (statements.Wait counter value) e b u = h.memory ∙ sym (memory-none script rules (Issue t before.next) J t (ap (λ (x : Statement). store_writes script rules x) e))
+      memory-issued (statements.Set counter value) e b u = h.memory ∙ sym (memory-none script rules (Issue t before.next) J t (ap (λ (x : Statement). store_writes script rules x) e))
+      memory-issued (statements.Read counter) e b u = h.memory ∙ sym (memory-none script rules (Issue t before.next) J t (ap (λ (x : Statement). store_writes script rules x) e))
       memory-issued _ e b u = absurd (false≢true b)
 
       count-issued : (s : Statement) → is_built_statement s ≡ true → length (counters_set s before.counters) ≡ length before.counters
@@ -223,12 +223,12 @@ module _ (script : Script) where
       count-issued (statements.Read counter) b = refl
       count-issued _ b = absurd (false≢true b)
 
-      counters-issued : (s : Statement) → is_built_statement s ≡ true → MayStep s before.memory before.counters → (c : ℕ) → c < script.counters → slice_index (counters_set s before.counters) c ≡ issued_count script no_rules s t t c (count script no_rules J t c)
+      counters-issued : (s : Statement) → is_built_statement s ≡ true → MayStep s before.memory before.counters → (c : ℕ) → c < script.counters → slice_index (counters_set s before.counters) c ≡ issued_count script rules s t t c (count script rules J t c)
       unfolding is_built_statement
       counters-issued (statements.Store at bytes) b u c l = h.counters c l
       counters-issued (statements.Put target to from len tgt org cmpl) b u c l = h.counters c l
       counters-issued (statements.Wait counter value) b u c l = h.counters c l
-      counters-issued (statements.Set counter value) b u c l = set-at before.counters counter value c (count script no_rules J t c) u (h.counters c l)
+      counters-issued (statements.Set counter value) b u c l = set-at before.counters counter value c (count script rules J t c) u (h.counters c l)
       counters-issued (statements.Read counter) b u c l = h.counters c l
       counters-issued _ b u c l = absurd (false≢true b)
 
@@ -267,7 +267,7 @@ module _ (script : Script) where
       uncopied-issued (statements.Read counter) e b l fresh = no-data (statements.Read counter) e refl
       uncopied-issued _ e b l fresh = absurd (false≢true b)
 
-      pub issued-holds : (after : Task) (old new : Outcome) (s : Statement) → statement script t before.next ≡ s → is_built_statement s ≡ true → MayStep s before.memory before.counters → before.next < length (operations.statements script t) → happened (Copied (message t before.next Go)) J ≡ false → IsIssued s before after old new → HoldsFor script t after (Issue t before.next ∷ J)
+      pub issued-holds : (after : State) (old new : List Event) (s : Statement) → statement script t before.next ≡ s → is_built_statement s ≡ true → MayStep s before.memory before.counters → before.next < length (operations.statements script t) → happened (Copied (message t before.next Go)) J ≡ false → IsIssued s before after old new → HoldsFor script rules t after (Issue t before.next ∷ J)
       issued-holds after old new s e b u within fresh g =
           let i = before.next in
           let step = g.past.next in

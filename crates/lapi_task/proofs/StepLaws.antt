@@ -5,6 +5,7 @@ use Rattle.std.proofs.lemmas.Bool.{false≢true, cond-true, cond-false, lt-ltb, 
 use Rattle.std.proofs.lemmas.List.{append-nil}
 use Rattle.std.proofs.lemmas.Option.{slice_get_within}
 use Rattle.lapi_base.specs.declared.script.Script.{Script}
+use Rattle.lapi_base.specs.declared.rule.Rules.{Rules}
 use Rattle.lapi_base.specs.declared.statement.Statement.{Statement}
 use Rattle.lapi_base.specs.declared.statement.Statement.TheVariants as statements
 use Rattle.lapi_base.specs.declared.refusal.Refusal.{Refusal}
@@ -22,14 +23,16 @@ use Rattle.lapi_base.specs.Record.Operations as operations
 use Rattle.lapi_base.specs.Record.Wires.{Run, numbered}
 use Rattle.lapi_base.specs.Record.Acts.{step, event_if, add_event, unless_refused, reply_with, with_events, followed, proposed}
 use Rattle.lapi_base.specs.Record.Refusals.{next, refusal_of}
-use Rattle.lapi_base.specs.Record.WorldView.{no_rules}
 use Rattle.lapi_base.specs.Record.Values.{values}
 use Rattle.lapi_base.proofs.ListLaws.{get-none}
 use Rattle.lapi_laws.proofs.Backward.{closed}
 use Rattle.lapi_link.specs.Sender.{SendingEnd}
 use Rattle.lapi_parts.proofs.Records.{record-sound}
 use Rattle.lapi_task.specs.declared.outcome.Outcome.{Outcome}
+use Rattle.lapi_task.specs.declared.state.State.{State}
 use Rattle.lapi_task.specs.declared.task.Task.{Task}
+use Rattle.lapi_base.specs.Packet.Layout.{sizes_of}
+use Rattle.lapi_base.specs.declared.sizes.Sizes.{Sizes}
 use Rattle.lapi_task.specs.Supported.{IsSupported, reason_of}
 use Rattle.lapi_task.specs.Sends.{packet_at, SendsFor}
 use Rattle.lapi_task.specs.StandsFor.{SenderAt, ReceiverAt, HoldsFor, StandsFor}
@@ -40,15 +43,15 @@ use Rattle.lapi_task.proofs.ReasonForms.{why-is, few-statements}
 use Rattle.lapi_task.proofs.StepMemories.{memory-length}
 use Rattle.lapi_task.proofs.StepFields.{suits, refused-holds, passed-holds, issued-holds}
 
-module _ (script : Script) where
+module _ (script : Script) (rules : Rules) where
   -- the record with an event and a reply more
   abbrev pub stepped : Run → Event → Run
-  stepped r e = reply_with script no_rules (with_events script no_rules r (e ∷ [])) Did
+  stepped r e = reply_with script rules (with_events script rules r (e ∷ [])) Did
 
   -- the event puts no packet onto a link, and leaves those that are there as they were
   pub record IsQuiet (e : Event) (J : List Event) : Type 0 where
     pub numbers : (a b : ℕ) → numbered script (e ∷ J) a b ≡ numbered script J a b
-    pub packets : (a b n : ℕ) → packet_at script (e ∷ J) a b n ≡ packet_at script J a b n
+    pub packets : (a b n : ℕ) → packet_at script rules (e ∷ J) a b n ≡ packet_at script rules J a b n
 
   refuse-quiet : (t i : ℕ) (reason : Refusal) (J : List Event) → IsQuiet (Refuse t i reason) J
   unfolding numbered packet_at values
@@ -62,7 +65,7 @@ module _ (script : Script) where
   unfolding numbered packet_at values
   pass-quiet t i J = record { numbers = λ a b. refl; packets = λ a b n. refl }
 
-  sends-on : (r : Run) (e : Event) (a b : ℕ) (s : SendingEnd) → IsQuiet e r.journal → SendsFor script s r a b → SendsFor script s (stepped r e) a b
+  sends-on : (r : Run) (e : Event) (a b : ℕ) (s : SendingEnd) → IsQuiet e r.journal → SendsFor script rules s r a b → SendsFor script rules s (stepped r e) a b
   unfolding followed
   sends-on r e a b s q h = record {
     numbers = record { size = h.numbers.size; numbers = h.numbers.numbers ∙ sym (ap length (q.numbers a b)); sent = h.numbers.sent; acked = h.numbers.acked };
@@ -71,31 +74,33 @@ module _ (script : Script) where
     waiting = λ i. h.waiting i ∙ sym (q.packets a b _);
   }
 
-  sender-on : (r : Run) (e : Event) (a b : ℕ) (o : Option SendingEnd) → IsQuiet e r.journal → SenderAt script r a b o → SenderAt script (stepped r e) a b o
+  sender-on : (r : Run) (e : Event) (a b : ℕ) (o : Option SendingEnd) → IsQuiet e r.journal → SenderAt script rules r a b o → SenderAt script rules (stepped r e) a b o
   sender-on r e a b None q h = absurd h
   sender-on r e a b (Some s) q h = sends-on r e a b s q h
 
-  does-event : (t : ℕ) (r : Run) (e : Event) (before after : Task) (old new : Outcome) → IsQuiet e r.journal → StandsFor script t before r → Advances e before after old new → HoldsFor script t after (e ∷ r.journal) → HasEffect script t r (stepped r e) after old new
+  does-event : (t : ℕ) (r : Run) (e : Event) (before : Task) (after : State) (old new : Outcome) → IsQuiet e r.journal → StandsFor script rules t before r → Advances e before.state after old.events new.events → new.entries ≡ old.entries → HoldsFor script rules t after (e ∷ r.journal) → HasEffect script rules t r (stepped r e) (record before { state = after }) old new
   unfolding followed
-  does-event t r e before after old new q h g holds = record {
+  does-event t r e before after old new q h g same holds = record {
     events = e ∷ [];
     entries = [];
     stands = record {
+      calls = record { supported = h.calls.supported; rules_valid = h.calls.rules_valid; sizes = h.calls.sizes; statements = h.calls.statements; header_count = h.calls.header_count };
       holds = holds;
-      sender_count = ap length g.senders ∙ h.sender_count;
-      receiver_count = ap length g.receivers ∙ h.receiver_count;
-      senders = λ b l. subst (λ xs. SenderAt script (stepped r e) t b (slice_get xs b)) (sym g.senders) (sender-on r e t b (slice_get before.senders.items b) q (h.senders b l));
-      receivers = λ a l. subst (λ xs. ReceiverAt script (r.handed a t) (slice_get xs a)) (sym g.receivers) (h.receivers a l);
+      sender_count = h.sender_count;
+      receiver_count = h.receiver_count;
+      senders = λ b l. sender-on r e t b (slice_get before.senders.items b) q (h.senders b l);
+      receivers = h.receivers;
     };
     journal = refl;
     events_added = g.events;
     put = λ b l. sym (append-nil _);
-    entries_added = g.entries ∙ sym (append-nil old.entries);
+    entries_added = same ∙ sym (append-nil old.entries);
     ends = tt;
   }
 
-  stands-on : (t : ℕ) (r : Run) (reply : Reply) (task : Task) → StandsFor script t task r → StandsFor script t task (reply_with script no_rules r reply)
+  stands-on : (t : ℕ) (r : Run) (reply : Reply) (task : Task) → StandsFor script rules t task r → StandsFor script rules t task (reply_with script rules r reply)
   stands-on t r reply task h = record {
+    calls = h.calls;
     holds = h.holds;
     sender_count = h.sender_count;
     receiver_count = h.receiver_count;
@@ -103,7 +108,7 @@ module _ (script : Script) where
     receivers = h.receivers;
   }
     where
-      sender-reply : (b : ℕ) (o : Option SendingEnd) → SenderAt script r t b o → SenderAt script (reply_with script no_rules r reply) t b o
+      sender-reply : (b : ℕ) (o : Option SendingEnd) → SenderAt script rules r t b o → SenderAt script rules (reply_with script rules r reply) t b o
       sender-reply b None x = absurd x
       sender-reply b (Some s) x = record {
         numbers = record { size = x.numbers.size; numbers = x.numbers.numbers; sent = x.numbers.sent; acked = x.numbers.acked };
@@ -112,7 +117,7 @@ module _ (script : Script) where
         waiting = x.waiting;
       }
 
-  does-nothing : (t : ℕ) (r : Run) (reply : Reply) (task : Task) (o : Outcome) → StandsFor script t task r → HasEffect script t r (reply_with script no_rules r reply) task o o
+  does-nothing : (t : ℕ) (r : Run) (reply : Reply) (task : Task) (o : Outcome) → StandsFor script rules t task r → HasEffect script rules t r (reply_with script rules r reply) task o o
   unfolding followed
   does-nothing t r reply task o h = record {
     events = [];
@@ -127,28 +132,28 @@ module _ (script : Script) where
 
   module _ (p : IsSupported script) where
     -- what a step adds, by its statement
-    step-some : (r : Run) (t i : ℕ) (s : Statement) → i ≡ next r.journal t → slice_get (operations.statements script t) i ≡ Some s → step script no_rules r t ≡ add_event script no_rules r (unless_refused script no_rules r t i (reason_of script s))
+    step-some : (r : Run) (t i : ℕ) (s : Statement) → i ≡ next r.journal t → slice_get (operations.statements script t) i ≡ Some s → step script rules r t ≡ add_event script rules r (unless_refused script rules r t i (reason_of (sizes_of script) s))
     unfolding step
     step-some r t i s e found =
         let within = slice_get_within (operations.statements script t) i s found in
-        ap (λ j. cond (nat_lt j (length (operations.statements script t))) (add_event script no_rules r (unless_refused script no_rules r t j (refusal_of script no_rules r.journal t j))) (reply_with script no_rules r Idle)) (sym e)
+        ap (λ j. cond (nat_lt j (length (operations.statements script t))) (add_event script rules r (unless_refused script rules r t j (refusal_of script rules r.journal t j))) (reply_with script rules r Idle)) (sym e)
         ∙ cond-true (nat_lt i (length (operations.statements script t))) _ _ (lt-ltb i (length (operations.statements script t)) within)
-        ∙ ap (λ o. add_event script no_rules r (unless_refused script no_rules r t i o)) (why-is script r.journal t i s (statement-is script t i s found) (statement-built script p t i s found))
+        ∙ ap (λ o. add_event script rules r (unless_refused script rules r t i o)) (why-is script rules r.journal t i s (statement-is script t i s found) (statement-built script p t i s found))
 
-    step-none : (r : Run) (t i : ℕ) → i ≡ next r.journal t → slice_get (operations.statements script t) i ≡ None → step script no_rules r t ≡ reply_with script no_rules r Idle
+    step-none : (r : Run) (t i : ℕ) → i ≡ next r.journal t → slice_get (operations.statements script t) i ≡ None → step script rules r t ≡ reply_with script rules r Idle
     unfolding step
     step-none r t i e found =
-        ap (λ j. cond (nat_lt j (length (operations.statements script t))) (add_event script no_rules r (unless_refused script no_rules r t j (refusal_of script no_rules r.journal t j))) (reply_with script no_rules r Idle)) (sym e)
+        ap (λ j. cond (nat_lt j (length (operations.statements script t))) (add_event script rules r (unless_refused script rules r t j (refusal_of script rules r.journal t j))) (reply_with script rules r Idle)) (sym e)
         ∙ cond-false (nat_lt i (length (operations.statements script t))) _ _ (le-ltb i (length (operations.statements script t)) (get-none (operations.statements script t) i found))
 
-    step-by : (r : Run) (t i : ℕ) (s : Statement) → i ≡ next r.journal t → slice_get (operations.statements script t) i ≡ Some s → reason_of script s ≡ None → step script no_rules r t ≡ add_event script no_rules r (proposed script no_rules r t i s)
+    step-by : (r : Run) (t i : ℕ) (s : Statement) → i ≡ next r.journal t → slice_get (operations.statements script t) i ≡ Some s → reason_of (sizes_of script) s ≡ None → step script rules r t ≡ add_event script rules r (proposed script rules r t i s)
     step-by r t i s e found h =
         step-some r t i s e found
-        ∙ ap (λ o. add_event script no_rules r (unless_refused script no_rules r t i o)) h
-        ∙ ap (λ x. add_event script no_rules r (proposed script no_rules r t i x)) (statement-is script t i s found)
+        ∙ ap (λ o. add_event script rules r (unless_refused script rules r t i o)) h
+        ∙ ap (λ x. add_event script rules r (proposed script rules r t i x)) (statement-is script t i s found)
 
     -- a statement that is no wait is issued
-    issues : (r : Run) (t i : ℕ) (s : Statement) → is_built_statement s ≡ true → ((counter value : ℕ) → s ≡ statements.Wait counter value → ⊥) → proposed script no_rules r t i s ≡ Some (Issue t i)
+    issues : (r : Run) (t i : ℕ) (s : Statement) → is_built_statement s ≡ true → ((counter value : ℕ) → s ≡ statements.Wait counter value → ⊥) → proposed script rules r t i s ≡ Some (Issue t i)
     unfolding is_built_statement
     issues r t i (statements.Store at bytes) b no-wait = refl
     issues r t i (statements.Put target to from len tgt org cmpl) b no-wait = refl
@@ -158,112 +163,119 @@ module _ (script : Script) where
     issues r t i _ b no-wait = absurd (false≢true b)
 
     -- A task before one of its statements, or past them all.
-    module _ (before : Task) (t : ℕ) (r : Run) (at : IsAt script t before r) where
-      own : (o : Option Statement) → slice_get (operations.statements script before.number) before.next ≡ o → slice_get (operations.statements script t) before.next ≡ o
-      own o h = ap (λ n. slice_get (operations.statements script n) before.next) (sym at.stands.holds.number) ∙ h
+    module _ (before : Task) (t : ℕ) (r : Run) (at : IsAt script rules t before r) where
+      abbrev place : ℕ
+      place = before.state.next
 
-      named : (f : ℕ → ℕ → Event) (after : Task) (old new : Outcome) → Advances (f before.number before.next) before after old new → Advances (f t before.next) before after old new
-      named f after old new = subst (λ n. Advances (f n before.next) before after old new) at.stands.holds.number
+      own : (o : Option Statement) → slice_get before.statements place ≡ o → slice_get (operations.statements script t) place ≡ o
+      own o h = ap (λ (list : List Statement). slice_get list place) (sym at.stands.calls.statements) ∙ h
 
-      idle-step : slice_get (operations.statements script before.number) before.next ≡ None → step script no_rules r t ≡ reply_with script no_rules r Idle
-      idle-step found = step-none r t before.next at.stands.holds.next (own None found)
+      sized : (s : Statement) (o : Option Refusal) → reason_of before.sizes s ≡ o → reason_of (sizes_of script) s ≡ o
+      sized s o h = ap (λ (z : Sizes). reason_of z s) (sym at.stands.calls.sizes) ∙ h
 
-      pub idle-does : (o : Outcome) → slice_get (operations.statements script before.number) before.next ≡ None → HasEffect script t r (step script no_rules r t) before o o
-      idle-does o found = subst (λ x. HasEffect script t r x before o o) (sym (idle-step found)) (does-nothing t r Idle before o at.stands)
+      named : (f : ℕ → ℕ → Event) (after : State) (old new : List Event) → Advances (f before.state.number place) before.state after old new → Advances (f t place) before.state after old new
+      named f after old new = subst (λ n. Advances (f n place) before.state after old new) at.stands.holds.number
 
-      pub idle-replies : slice_get (operations.statements script before.number) before.next ≡ None → (step script no_rules r t).replies ≡ r.replies ++ Idle ∷ []
+      idle-step : slice_get before.statements place ≡ None → step script rules r t ≡ reply_with script rules r Idle
+      idle-step found = step-none r t place at.stands.holds.next (own None found)
+
+      pub idle-does : (o : Outcome) → slice_get before.statements place ≡ None → HasEffect script rules t r (step script rules r t) before o o
+      idle-does o found = subst (λ x. HasEffect script rules t r x before o o) (sym (idle-step found)) (does-nothing t r Idle before o at.stands)
+
+      pub idle-replies : slice_get before.statements place ≡ None → (step script rules r t).replies ≡ r.replies ++ Idle ∷ []
       idle-replies found = ap (λ (x : Run). x.replies) (idle-step found)
 
-      module _ (s : Statement) (found : slice_get (operations.statements script before.number) before.next ≡ Some s) where
-        here : slice_get (operations.statements script t) before.next ≡ Some s
+      module _ (s : Statement) (found : slice_get before.statements place ≡ Some s) where
+        here : slice_get (operations.statements script t) place ≡ Some s
         here = own (Some s) found
 
-        is : statement script t before.next ≡ s
-        is = statement-is script t before.next s here
+        is : statement script t place ≡ s
+        is = statement-is script t place s here
 
         built : is_built_statement s ≡ true
-        built = statement-built script p t before.next s here
+        built = statement-built script p t place s here
 
-        within : before.next < length (operations.statements script t)
-        within = slice_get_within (operations.statements script t) before.next s here
+        within : place < length (operations.statements script t)
+        within = slice_get_within (operations.statements script t) place s here
 
-        pub next-fits : before.next + 1 < 2 ^ 32
+        pub next-fits : place + 1 < 2 ^ 32
         next-fits = let few = few-statements script p t in let l = within in omega (arith, few, l)
 
-        pub is-suited : reason_of script s ≡ None → MayStep s before.memory before.counters
-        is-suited h = suits script s before.memory before.counters (ap length at.stands.holds.memory ∙ memory-length script r.journal t) at.stands.holds.counter_count built h
+        pub is-suited : reason_of before.sizes s ≡ None → MayStep s before.state.memory before.state.counters
+        is-suited h = suits script rules s before.state.memory before.state.counters (ap length at.stands.holds.memory ∙ memory-length script rules r.journal t) at.stands.holds.counter_count built (sized s None h)
 
         -- It is refused;
-        refused-step : (reason : Refusal) → reason_of script s ≡ Some reason → step script no_rules r t ≡ stepped r (Refuse t before.next reason)
-        refused-step reason h = step-some r t before.next s at.stands.holds.next here ∙ ap (λ o. add_event script no_rules r (unless_refused script no_rules r t before.next o)) h
+        refused-step : (reason : Refusal) → reason_of before.sizes s ≡ Some reason → step script rules r t ≡ stepped r (Refuse t place reason)
+        refused-step reason h = step-some r t place s at.stands.holds.next here ∙ ap (λ o. add_event script rules r (unless_refused script rules r t place o)) (sized s (Some reason) h)
 
-        pub refused-does : (reason : Refusal) (after : Task) (old new : Outcome) → reason_of script s ≡ Some reason → IsRefused reason before after old new → HasEffect script t r (step script no_rules r t) after old new
-        refused-does reason after old new h g =
-            subst (λ x. HasEffect script t r x after old new) (sym (refused-step reason h))
-            (does-event t r (Refuse t before.next reason) before after old new (refuse-quiet t before.next reason r.journal) at.stands
-            (named (λ n i. Refuse n i reason) after old new g.past)
-            (refused-holds script t r.journal before after old new reason at.stands.holds g))
+        pub refused-does : (reason : Refusal) (after : State) (old new : Outcome) → reason_of before.sizes s ≡ Some reason → new.entries ≡ old.entries → IsRefused reason before.state after old.events new.events → HasEffect script rules t r (step script rules r t) (record before { state = after }) old new
+        refused-does reason after old new h same g =
+            subst (λ x. HasEffect script rules t r x (record before { state = after }) old new) (sym (refused-step reason h))
+            (does-event t r (Refuse t place reason) before after old new (refuse-quiet t place reason r.journal) at.stands
+            (named (λ n i. Refuse n i reason) after old.events new.events g.past) same
+            (refused-holds script rules t r.journal before.state after old.events new.events reason at.stands.holds g))
 
-        pub refused-replies : (reason : Refusal) → reason_of script s ≡ Some reason → (step script no_rules r t).replies ≡ r.replies ++ Did ∷ []
+        pub refused-replies : (reason : Refusal) → reason_of before.sizes s ≡ Some reason → (step script rules r t).replies ≡ r.replies ++ Did ∷ []
         refused-replies reason h = ap (λ (x : Run). x.replies) (refused-step reason h)
 
         -- it is issued;
-        fresh : happened (Copied (message t before.next Go)) r.journal ≡ false
+        fresh : happened (Copied (message t place Go)) r.journal ≡ false
         unfolding needs
         fresh =
-            let sound = record-sound script no_rules r at.recorded in
-            false_from_ne_true _ (λ d. both_ways _ (at.stands.holds.ahead before.next (omega arith)) (closed script no_rules (Copied (message t before.next Go)) r.journal sound.atomic d).0)
+            let sound = record-sound script rules r at.recorded in
+            false_from_ne_true _ (λ d. both_ways _ (at.stands.holds.ahead place (omega arith)) (closed script rules (Copied (message t place Go)) r.journal sound.atomic d).0)
 
-        issued-step : ((counter value : ℕ) → s ≡ statements.Wait counter value → ⊥) → reason_of script s ≡ None → step script no_rules r t ≡ stepped r (Issue t before.next)
-        issued-step no-wait h = step-by r t before.next s at.stands.holds.next here h ∙ ap (add_event script no_rules r) (issues r t before.next s built no-wait)
+        issued-step : ((counter value : ℕ) → s ≡ statements.Wait counter value → ⊥) → reason_of before.sizes s ≡ None → step script rules r t ≡ stepped r (Issue t place)
+        issued-step no-wait h = step-by r t place s at.stands.holds.next here (sized s None h) ∙ ap (add_event script rules r) (issues r t place s built no-wait)
 
-        pub issued-does : (after : Task) (old new : Outcome) → ((counter value : ℕ) → s ≡ statements.Wait counter value → ⊥) → reason_of script s ≡ None → IsIssued s before after old new → HasEffect script t r (step script no_rules r t) after old new
-        issued-does after old new no-wait h g =
-            subst (λ x. HasEffect script t r x after old new) (sym (issued-step no-wait h))
-            (does-event t r (Issue t before.next) before after old new (issue-quiet t before.next r.journal) at.stands
-            (named Issue after old new g.past)
-            (issued-holds script t r.journal before at.stands.holds after old new s is built (is-suited h) within fresh g))
+        pub issued-does : (after : State) (old new : Outcome) → ((counter value : ℕ) → s ≡ statements.Wait counter value → ⊥) → reason_of before.sizes s ≡ None → new.entries ≡ old.entries → IsIssued s before.state after old.events new.events → HasEffect script rules t r (step script rules r t) (record before { state = after }) old new
+        issued-does after old new no-wait h same g =
+            subst (λ x. HasEffect script rules t r x (record before { state = after }) old new) (sym (issued-step no-wait h))
+            (does-event t r (Issue t place) before after old new (issue-quiet t place r.journal) at.stands
+            (named Issue after old.events new.events g.past) same
+            (issued-holds script rules t r.journal before.state at.stands.holds after old.events new.events s is built (is-suited h) within fresh g))
 
-        pub issued-replies : ((counter value : ℕ) → s ≡ statements.Wait counter value → ⊥) → reason_of script s ≡ None → (step script no_rules r t).replies ≡ r.replies ++ Did ∷ []
+        pub issued-replies : ((counter value : ℕ) → s ≡ statements.Wait counter value → ⊥) → reason_of before.sizes s ≡ None → (step script rules r t).replies ≡ r.replies ++ Did ∷ []
         issued-replies no-wait h = ap (λ (x : Run). x.replies) (issued-step no-wait h)
 
       -- or it is a wait, which passes or not.
-      module _ (counter value : ℕ) (found : slice_get (operations.statements script before.number) before.next ≡ Some (statements.Wait counter value)) (accepted : reason_of script (statements.Wait counter value) ≡ None) where
+      module _ (counter value : ℕ) (found : slice_get before.statements place ≡ Some (statements.Wait counter value)) (accepted : reason_of before.sizes (statements.Wait counter value) ≡ None) where
         wait : Statement
         wait = statements.Wait counter value
 
-        there : counter < length before.counters
+        there : counter < length before.state.counters
         there = is-suited (statements.Wait counter value) found accepted
 
-        has : slice_index before.counters counter ≡ count script no_rules r.journal t counter
+        has : slice_index before.state.counters counter ≡ count script rules r.journal t counter
         has = at.stands.holds.counters counter (let l = there in let n = at.stands.holds.counter_count in omega (arith, l, n))
 
-        waited : (b : Bool) → nat_le value (count script no_rules r.journal t counter) ≡ b → step script no_rules r t ≡ add_event script no_rules r (event_if script no_rules b (Pass t before.next))
+        waited : (b : Bool) → nat_le value (count script rules r.journal t counter) ≡ b → step script rules r t ≡ add_event script rules r (event_if script rules b (Pass t place))
         waited b h =
-            step-by r t before.next (statements.Wait counter value) at.stands.holds.next (here (statements.Wait counter value) found) accepted
-            ∙ ap (λ x. add_event script no_rules r (event_if script no_rules x (Pass t before.next))) h
+            step-by r t place (statements.Wait counter value) at.stands.holds.next (here (statements.Wait counter value) found) (sized (statements.Wait counter value) None accepted)
+            ∙ ap (λ x. add_event script rules r (event_if script rules x (Pass t place))) h
 
-        passed-step : value ≤ slice_index before.counters counter → step script no_rules r t ≡ stepped r (Pass t before.next)
+        passed-step : value ≤ slice_index before.state.counters counter → step script rules r t ≡ stepped r (Pass t place)
         passed-step l = waited true (le-leb value _ (let e = has in omega (arith, l, e)))
 
-        blocked-step : slice_index before.counters counter < value → step script no_rules r t ≡ reply_with script no_rules r Blocked
+        blocked-step : slice_index before.state.counters counter < value → step script rules r t ≡ reply_with script rules r Blocked
         blocked-step l = waited false (lt-leb value _ (let e = has in omega (arith, l, e)))
 
-        pub passed-does : (after : Task) (old new : Outcome) → PassesWait counter value before after old new → HasEffect script t r (step script no_rules r t) after old new
-        passed-does after old new g =
-            subst (λ x. HasEffect script t r x after old new) (sym (passed-step g.enough))
-            (does-event t r (Pass t before.next) before after old new (pass-quiet t before.next r.journal) at.stands
-            (named Pass after old new g.past)
-            (passed-holds script t r.journal before after old new counter value (is (statements.Wait counter value) found) there at.stands.holds g))
+        pub passed-does : (after : State) (old new : Outcome) → new.entries ≡ old.entries → PassesWait counter value before.state after old.events new.events → HasEffect script rules t r (step script rules r t) (record before { state = after }) old new
+        passed-does after old new same g =
+            subst (λ x. HasEffect script rules t r x (record before { state = after }) old new) (sym (passed-step g.enough))
+            (does-event t r (Pass t place) before after old new (pass-quiet t place r.journal) at.stands
+            (named Pass after old.events new.events g.past) same
+            (passed-holds script rules t r.journal before.state after old.events new.events counter value (is (statements.Wait counter value) found) there at.stands.holds g))
 
-        pub passed-replies : value ≤ slice_index before.counters counter → (step script no_rules r t).replies ≡ r.replies ++ Did ∷ []
+        pub passed-replies : value ≤ slice_index before.state.counters counter → (step script rules r t).replies ≡ r.replies ++ Did ∷ []
         passed-replies l = ap (λ (x : Run). x.replies) (passed-step l)
 
-        pub blocked-does : (after : Task) (old new : Outcome) → IsBlocked counter value before after old new → HasEffect script t r (step script no_rules r t) after old new
-        blocked-does after old new g =
-            subst (λ x. HasEffect script t r x after old new) (sym (blocked-step g.less))
-            (subst (λ x. HasEffect script t r (reply_with script no_rules r Blocked) x old new) (sym g.task)
-            (subst (λ x. HasEffect script t r (reply_with script no_rules r Blocked) before old x) (sym g.outcome) (does-nothing t r Blocked before old at.stands)))
+        pub blocked-does : (after : State) (old new : Outcome) → new.entries ≡ old.entries → IsBlocked counter value before.state after old.events new.events → HasEffect script rules t r (step script rules r t) (record before { state = after }) old new
+        blocked-does after old new same g =
+            subst (λ x. HasEffect script rules t r x (record before { state = after }) old new) (sym (blocked-step g.less))
+            (subst (λ (x : State). HasEffect script rules t r (reply_with script rules r Blocked) (record before { state = x }) old new) (sym g.state)
+            (subst (λ (o : Outcome). HasEffect script rules t r (reply_with script rules r Blocked) before old o) (λ i. record { events = sym g.events i; entries = sym same i })
+            (does-nothing t r Blocked before old at.stands)))
 
-        pub blocked-replies : slice_index before.counters counter < value → (step script no_rules r t).replies ≡ r.replies ++ Blocked ∷ []
+        pub blocked-replies : slice_index before.state.counters counter < value → (step script rules r t).replies ≡ r.replies ++ Blocked ∷ []
         blocked-replies l = ap (λ (x : Run). x.replies) (blocked-step l)

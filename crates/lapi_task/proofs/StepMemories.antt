@@ -3,9 +3,9 @@ use Rattle.std.proofs.Common.{◌≡◌, ℕ, ◌+◌, ◌≤◌, ◌==◌, Bool
 use Rattle.std.proofs.lemmas.Bool.{cond-true}
 use Rattle.std.proofs.lemmas.List.{get_or_default, get_or-take, get_or-drop, length-take-le, length-drop, length-replicate, get_or-replicate, places}
 use Rattle.lapi_base.specs.declared.script.Script.{Script}
+use Rattle.lapi_base.specs.declared.rule.Rules.{Rules}
 use Rattle.lapi_base.specs.declared.event.Event.{Event}
 use Rattle.lapi_base.specs.Record.Operations.{numbers_below}
-use Rattle.lapi_base.specs.Record.WorldView.{no_rules}
 use Rattle.lapi_base.specs.Record.Values.{Write, values, memory_bytes, byte_after, writes, writer}
 use Rattle.lapi_base.proofs.TestLaws.{eqb-refl}
 use Rattle.lapi_base.proofs.UptoLaws.{is-over, length-over, over-at, over-same}
@@ -36,32 +36,32 @@ written-over f size at bytes l =
     ∙ byte_written (written memory at bytes) memory at bytes refl fits k
     ∙ ap (byte_after ((at, bytes) ∷ []) k) (over-at f size k 0 lt))
 
-module _ (script : Script) where
+module _ (script : Script) (rules : Rules) where
   -- the memory of a task after an event that writes nothing
-  pub memory-none : (e : Event) (J : List Event) (t : ℕ) → writes script no_rules (values script no_rules J) e ≡ [] → memory_bytes script no_rules (e ∷ J) t ≡ memory_bytes script no_rules J t
+  pub memory-none : (e : Event) (J : List Event) (t : ℕ) → writes script rules (values script rules J) e ≡ [] → memory_bytes script rules (e ∷ J) t ≡ memory_bytes script rules J t
   unfolding memory_bytes values byte_after
   memory-none e J t h =
-      over-same (λ x. cond (t == writer script no_rules e) (byte_after (writes script no_rules (values script no_rules J) e) x ((values script no_rules J).memory t x)) ((values script no_rules J).memory t x)) ((values script no_rules J).memory t) script.memory
-      (λ x. ap (λ (ws : List Write). cond (t == writer script no_rules e) (byte_after ws x ((values script no_rules J).memory t x)) ((values script no_rules J).memory t x)) h ∙ same (t == writer script no_rules e) ((values script no_rules J).memory t x))
+      over-same (λ x. cond (t == writer script rules e) (byte_after (writes script rules (values script rules J) e) x ((values script rules J).memory t x)) ((values script rules J).memory t x)) ((values script rules J).memory t) script.memory
+      (λ x. ap (λ (ws : List Write). cond (t == writer script rules e) (byte_after ws x ((values script rules J).memory t x)) ((values script rules J).memory t x)) h ∙ same (t == writer script rules e) ((values script rules J).memory t x))
     where
       same : (b : Bool) (n : ℕ) → cond b n n ≡ n
       same true n = refl
       same false n = refl
 
   -- and of the task whose memory it writes
-  pub memory-written : (e : Event) (J : List Event) (at : ℕ) (bytes : List ℕ) → writes script no_rules (values script no_rules J) e ≡ (at, bytes) ∷ [] → at + length bytes ≤ script.memory → written (memory_bytes script no_rules J (writer script no_rules e)) at bytes ≡ memory_bytes script no_rules (e ∷ J) (writer script no_rules e)
+  pub memory-written : (e : Event) (J : List Event) (at : ℕ) (bytes : List ℕ) → writes script rules (values script rules J) e ≡ (at, bytes) ∷ [] → at + length bytes ≤ script.memory → written (memory_bytes script rules J (writer script rules e)) at bytes ≡ memory_bytes script rules (e ∷ J) (writer script rules e)
   unfolding memory_bytes values
   memory-written e J at bytes h l =
-      let f = (values script no_rules J).memory (writer script no_rules e) in
+      let f = (values script rules J).memory (writer script rules e) in
       written-over f script.memory at bytes l
-      ∙ over-same (λ x. byte_after ((at, bytes) ∷ []) x (f x)) (λ x. cond (writer script no_rules e == writer script no_rules e) (byte_after (writes script no_rules (values script no_rules J) e) x (f x)) (f x)) script.memory
-      (λ x. sym (cond-true (writer script no_rules e == writer script no_rules e) _ (f x) (eqb-refl (writer script no_rules e)) ∙ ap (λ (ws : List Write). byte_after ws x (f x)) h))
+      ∙ over-same (λ x. byte_after ((at, bytes) ∷ []) x (f x)) (λ x. cond (writer script rules e == writer script rules e) (byte_after (writes script rules (values script rules J) e) x (f x)) (f x)) script.memory
+      (λ x. sym (cond-true (writer script rules e == writer script rules e) _ (f x) (eqb-refl (writer script rules e)) ∙ ap (λ (ws : List Write). byte_after ws x (f x)) h))
 
-  pub memory-length : (J : List Event) (t : ℕ) → length (memory_bytes script no_rules J t) ≡ script.memory
+  pub memory-length : (J : List Event) (t : ℕ) → length (memory_bytes script rules J t) ≡ script.memory
   unfolding memory_bytes
-  memory-length J t = length-over ((values script no_rules J).memory t) script.memory
+  memory-length J t = length-over ((values script rules J).memory t) script.memory
 
   -- the memory before any event
-  pub memory-blank : (t : ℕ) → replicate script.memory 0 ≡ memory_bytes script no_rules [] t
+  pub memory-blank : (t : ℕ) → replicate script.memory 0 ≡ memory_bytes script rules [] t
   unfolding memory_bytes values
   memory-blank t = is-over (replicate script.memory 0) (λ x. 0) script.memory (length-replicate script.memory 0) (λ k d l. get_or-replicate script.memory k 0 d l)

@@ -6,6 +6,7 @@ use Rattle.std.proofs.lemmas.Bool.{false≢true, and_left, and_right, and_cases,
 use Rattle.std.proofs.lemmas.List.Folds.{list_all-append}
 use Rattle.std.proofs.lemmas.Option.{slice_get_within}
 use Rattle.lapi_base.specs.declared.script.Script.{Script}
+use Rattle.lapi_base.specs.declared.rule.Rules.{Rules}
 use Rattle.lapi_base.specs.declared.event.Event.{Event}
 use Rattle.lapi_base.specs.declared.message.Leg.TheVariants.{Go}
 use Rattle.lapi_base.specs.declared.message.MsgName.{MsgName}
@@ -20,12 +21,13 @@ use Rattle.lapi_base.specs.Record.Operations.{numbers_below, statement, is_data,
 use Rattle.lapi_base.specs.Record.Operations as operations
 use Rattle.lapi_base.specs.Record.Wires.{Run, numbered, base, to_send, has_number, is_number, is_acked}
 use Rattle.lapi_base.specs.Record.Acts.{ready, to_copy_of, joins}
-use Rattle.lapi_base.specs.Record.WorldView.{no_rules, IsRecord}
+use Rattle.lapi_base.specs.Record.WorldView.{IsRecord}
 use Rattle.lapi_link.specs.Sender.{SendingEnd, sendable}
 use Rattle.lapi_parts.proofs.LocalQuestions.{by_points}
 use Rattle.lapi_parts.proofs.SentFront.{polls-next}
 use Rattle.lapi_window.specs.SendWindow.{sent_count, base_of, unacked}
 use Rattle.lapi_window.specs.SendWindow as window
+use Rattle.lapi_task.specs.declared.state.State.{State}
 use Rattle.lapi_task.specs.declared.task.Task.{Task}
 use Rattle.lapi_task.specs.HasEffect.{IsAt}
 use Rattle.lapi_task.specs.Supported.{IsSupported}
@@ -90,25 +92,25 @@ room n m low low' size size' sent waits a b c d = omega arith
 abbrev pub settled : SendingEnd → Bool
 settled s = length (unacked s.window) == 0 && sendable s == 0
 
-module _ (script : Script) (r : Run) (a b : ℕ) (s : SendingEnd) (h : SendsFor script s r a b) where
+module _ (script : Script) (rules : Rules) (r : Run) (a b : ℕ) (s : SendingEnd) (h : SendsFor script rules s r a b) where
   left : ℕ → Bool
   left n = window.is_sent s.window n && not (window.is_acked s.window n)
 
-  told-number : (n : ℕ) (p : Packet) → is_number n p ≡ true → is_told script no_rules r a b p ≡ true → is_acked r a b n ≡ true
+  told-number : (n : ℕ) (p : Packet) → is_number n p ≡ true → is_told script rules r a b p ≡ true → is_acked r a b n ≡ true
   told-number n (Data p) e t = subst (λ k. is_acked r a b k ≡ true) (eqb-true p.seq n e) t
   told-number n (Ack from to least bits) e t = absurd (false≢true e)
 
-  none-left : list_all (is_told script no_rules r a b) (r.wire a b) ≡ true → (n : ℕ) → not (left n) ≡ true
+  none-left : list_all (is_told script rules r a b) (r.wire a b) ≡ true → (n : ℕ) → not (left n) ≡ true
   unfolding has_number left
   none-left all n = elim (cases_Bool (window.is_sent s.window n)) [
     | inl sent ↦
-        let found = any-all (is_number n) (λ p. is_told script no_rules r a b p ≡ true) (r.wire a b) (list_all-each (is_told script no_rules r a b) (r.wire a b) all) (h.numbers.sent n ∙ sent) in
+        let found = any-all (is_number n) (λ p. is_told script rules r a b p ≡ true) (r.wire a b) (list_all-each (is_told script rules r a b) (r.wire a b) all) (h.numbers.sent n ∙ sent) in
         let acked = sym (h.numbers.acked n) ∙ told-number n found.0 found.2 found.1 in
         ap not (and_right (window.is_sent s.window n) (not (window.is_acked s.window n)) (ap not acked))
     | inr waits ↦ ap not (and_left (window.is_sent s.window n) (not (window.is_acked s.window n)) waits)
   ]
 
-  told-each : ((n : ℕ) → n < s.window.numbers → not (left n) ≡ true) → (k : ℕ) (p : Packet) → slice_get (r.wire a b) k ≡ Some p → is_told script no_rules r a b p ≡ true
+  told-each : ((n : ℕ) → n < s.window.numbers → not (left n) ≡ true) → (k : ℕ) (p : Packet) → slice_get (r.wire a b) k ≡ Some p → is_told script rules r a b p ≡ true
   unfolding has_number left
   told-each none k (Ack from to least bits) at = refl
   told-each none k (Data p) at =
@@ -122,38 +124,38 @@ module _ (script : Script) (r : Run) (a b : ℕ) (s : SendingEnd) (h : SendsFor 
       (λ (no : not (window.is_acked s.window p.seq) ≡ false). not-false (window.is_acked s.window p.seq) no)
       (and_cases (window.is_sent s.window p.seq) (not (window.is_acked s.window p.seq)) (not-true (left p.seq) (none p.seq within)))
 
-  told-is : list_all (is_told script no_rules r a b) (r.wire a b) ≡ (length (unacked s.window) == 0)
+  told-is : list_all (is_told script rules r a b) (r.wire a b) ≡ (length (unacked s.window) == 0)
   unfolding left
   told-is =
-      same_tests (list_all (is_told script no_rules r a b) (r.wire a b)) (every_below s.window.numbers (λ n. not (left n)))
+      same_tests (list_all (is_told script rules r a b) (r.wire a b)) (every_below s.window.numbers (λ n. not (left n)))
       (λ all. every_below-from s.window.numbers (λ n. not (left n)) (λ n lt. none-left all n))
-      (λ none. list_all-at (is_told script no_rules r a b) (r.wire a b) (all-from (λ p. is_told script no_rules r a b p ≡ true) (r.wire a b) (told-each (λ n lt. every_below-at s.window.numbers (λ k. not (left k)) n none lt))))
+      (λ none. list_all-at (is_told script rules r a b) (r.wire a b) (all-from (λ p. is_told script rules r a b p ≡ true) (r.wire a b) (told-each (λ n lt. every_below-at s.window.numbers (λ k. not (left k)) n none lt))))
       ∙ none-below s.window.numbers left
 
   base-is : base script r a b ≡ base_of s.window
   unfolding base
   base-is = λ i. least_missing (sym h.numbers.numbers i) (λ n. h.numbers.acked n i)
 
-  fresh-is : IsRecord script no_rules r → is_empty (to_send script no_rules r r.journal a b) ≡ (sendable s == 0)
+  fresh-is : IsRecord script rules r → is_empty (to_send script rules r r.journal a b) ≡ (sendable s == 0)
   fresh-is is =
       let sent = sent_count s.window in
-      ap is_empty (polls-next script no_rules r is r.journal a b sent h.numbers.sent)
+      ap is_empty (polls-next script rules r is r.journal a b sent h.numbers.sent)
       ∙ blank-upto (λ i. sent + i) (min (length (numbered script r.journal a b)) (base script r a b + window_of script) - sent)
       ∙ ap (λ n. n == 0) (room (length (numbered script r.journal a b)) s.window.numbers (base script r a b) (base_of s.window) (window_of script) s.window.window sent (length s.waiting) (sym h.numbers.numbers) base-is h.numbers.size h.whole)
 
-  pub settled-is : ValidScript script → IsRecord script no_rules r → settled s ≡ is_settled script no_rules r a b
+  pub settled-is : ValidScript script → IsRecord script rules r → settled s ≡ is_settled script rules r a b
   unfolding is_settled
   settled-is valid is =
       ap (λ x. x && sendable s == 0) (sym told-is)
-      ∙ ap (λ x. list_all (is_told script no_rules r a b) (r.wire a b) && x) (sym (fresh-is is))
-      ∙ sym (and-yes (list_all (is_told script no_rules r a b) (r.wire a b) && is_empty (to_send script no_rules r r.journal a b)))
-      ∙ ap (λ o. list_all (is_told script no_rules r a b) (r.wire a b) && is_empty (to_send script no_rules r r.journal a b) && not o) (sym (none-owed script no_rules valid r is a b))
+      ∙ ap (λ x. list_all (is_told script rules r a b) (r.wire a b) && x) (sym (fresh-is is))
+      ∙ sym (and-yes (list_all (is_told script rules r a b) (r.wire a b) && is_empty (to_send script rules r r.journal a b)))
+      ∙ ap (λ o. list_all (is_told script rules r a b) (r.wire a b) && is_empty (to_send script rules r r.journal a b) && not o) (sym (none-owed script rules valid r is a b))
     where
       and-yes : (x : Bool) → (x && true) ≡ x
       and-yes true = refl
       and-yes false = refl
 
-module _ (script : Script) (p : IsSupported script) where
+module _ (script : Script) (rules : Rules) (p : IsSupported script) where
   -- A statement's messages are copied where it isn't one that waits for its copy.
   copied-cases : (d i : Bool) (f : MsgName → Bool) (m : MsgName) → list_all f (cond (d && i) (m ∷ []) []) ≡ not (d && (i && not (f m)))
   copied-cases true true f m = twice (f m)
@@ -171,31 +173,31 @@ module _ (script : Script) (p : IsSupported script) where
       ap (λ x. list_all (λ m. happened (Copied m) J) (cond (is && issued) (message t i Go ∷ []) (cond (x && happened (Entered t i) J) (joins script t i) []))) (no-join script p t i)
       ∙ copied-cases is issued (λ m. happened (Copied m) J) (message t i Go)
 
-  pub idle-is : (t : ℕ) (task : Task) (r : Run) → HoldsFor script t task r.journal → is_idle script no_rules r t ≡ (length task.uncopied.items == 0)
+  pub idle-is : (t : ℕ) (state : State) (r : Run) → HoldsFor script rules t state r.journal → is_idle script rules r t ≡ (length state.uncopied.items == 0)
   unfolding is_idle ready
-  idle-is t task r h =
+  idle-is t state r h =
       let count = length (operations.statements script t) in
       let free : every_below script.workers (λ w. not (is_some (runs r.journal t w))) ≡ true = every_below-from script.workers (λ w. not (is_some (runs r.journal t w))) (λ w l. ap (λ o. not (is_some o)) (h.jobless w)) in
-      ap (λ ms. (is_empty ms && every_below script.workers (λ w. not (is_some (runs r.journal t w)))) && list_all (λ m. happened (Copied m) r.journal) (ready script r.journal t)) (no-queue script r.journal t)
+      ap (λ ms. (is_empty ms && every_below script.workers (λ w. not (is_some (runs r.journal t w)))) && list_all (λ m. happened (Copied m) r.journal) (ready script r.journal t)) (no-queue script rules p r.journal t)
       ∙ ap (λ b. b && list_all (λ m. happened (Copied m) r.journal) (ready script r.journal t)) free
       ∙ all-over (λ m. happened (Copied m) r.journal) (to_copy_of script r.journal t) count
       ∙ ap (every_below count) (by_points _ _ (copied-is r.journal t))
       ∙ none-below count (is_uncopied script r.journal t)
       ∙ ap (λ (xs : List ℕ). length xs == 0) (sym h.uncopied)
 
-  sender-there : (r : Run) (t b : ℕ) (o : Option SendingEnd) (s : SendingEnd) → SenderAt script r t b o → o ≡ Some s → SendsFor script s r t b
-  sender-there r t b o s h e = subst (SenderAt script r t b) e h
+  sender-there : (r : Run) (t b : ℕ) (o : Option SendingEnd) (s : SendingEnd) → SenderAt script rules r t b o → o ≡ Some s → SendsFor script rules s r t b
+  sender-there r t b o s h e = subst (SenderAt script rules r t b) e h
 
-  pub links-settled : (t : ℕ) (task : Task) (r : Run) → IsAt script t task r → list_all settled task.senders.items ≡ every_below script.tasks (is_settled script no_rules r t)
+  pub links-settled : (t : ℕ) (task : Task) (r : Run) → IsAt script rules t task r → list_all settled task.senders.items ≡ every_below script.tasks (is_settled script rules r t)
   links-settled t task r at =
       let ends = task.senders.items in
       let stands = at.stands in
-      all-at settled (is_settled script no_rules r t) ends (λ b s there.
+      all-at settled (is_settled script rules r t) ends (λ b s there.
       let known : b < script.tasks = subst (λ n. b < n) stands.sender_count (slice_get_within ends b s there) in
-      settled-is script r t b s (sender-there r t b (slice_get ends b) s (stands.senders b known) there) p.valid at.recorded)
-      ∙ ap (λ n. every_below n (is_settled script no_rules r t)) stands.sender_count
+      settled-is script rules r t b s (sender-there r t b (slice_get ends b) s (stands.senders b known) there) p.valid at.recorded)
+      ∙ ap (λ n. every_below n (is_settled script rules r t)) stands.sender_count
 
-  pub still-is : (t : ℕ) (task : Task) (r : Run) → IsAt script t task r → (length task.uncopied.items == 0 && list_all settled task.senders.items) ≡ (is_idle script no_rules r t && every_below script.tasks (is_settled script no_rules r t))
+  pub still-is : (t : ℕ) (task : Task) (r : Run) → IsAt script rules t task r → (length task.state.uncopied.items == 0 && list_all settled task.senders.items) ≡ (is_idle script rules r t && every_below script.tasks (is_settled script rules r t))
   still-is t task r at =
-      ap (λ x. x && list_all settled task.senders.items) (sym (idle-is t task r at.stands.holds))
-      ∙ ap (λ x. is_idle script no_rules r t && x) (links-settled t task r at)
+      ap (λ x. x && list_all settled task.senders.items) (sym (idle-is t task.state r at.stands.holds))
+      ∙ ap (λ x. is_idle script rules r t && x) (links-settled t task r at)

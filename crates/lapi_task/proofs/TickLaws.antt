@@ -7,6 +7,7 @@ use Rattle.std.proofs.lemmas.List.{append-nil, map-append}
 use Rattle.std.proofs.lemmas.List.Concat.{flat_map-cons}
 use Rattle.std.proofs.lemmas.List.Folds.{list_any-append}
 use Rattle.lapi_base.specs.declared.script.Script.{Script}
+use Rattle.lapi_base.specs.declared.rule.Rules.{Rules}
 use Rattle.lapi_base.specs.declared.message.MsgName.{MsgName}
 use Rattle.lapi_base.specs.declared.event.Event.{Event}
 use Rattle.lapi_base.specs.declared.wire.WireEntry.{WireEntry}
@@ -15,7 +16,6 @@ use Rattle.lapi_base.specs.Laws.Locality.{ticked}
 use Rattle.lapi_base.specs.Record.Wires.{Run, numbered, has_number, is_number, is_sent, is_acked, packets, to_resend}
 use Rattle.lapi_base.specs.Record.Acts.{tick, followed}
 use Rattle.lapi_base.specs.Record.Wires as on_wires
-use Rattle.lapi_base.specs.Record.WorldView.{no_rules}
 use Rattle.lapi_base.specs.Packet.PacketBytes as written
 use Rattle.lapi_base.proofs.BelowLaws.{below-all}
 use Rattle.lapi_base.proofs.TestLaws.{eqb-refl, same_tests}
@@ -30,18 +30,18 @@ use Rattle.lapi_task.specs.Sends.{SendsFor, packet_at, spelled, of_end, entries_
 use Rattle.lapi_task.specs.StandsFor.{SenderAt, StandsFor}
 use Rattle.lapi_task.proofs.SenderLaws.{bytes-of-end, entries-within, entries-none, entries-more}
 
-module _ (script : Script) where
+module _ (script : Script) (rules : Rules) where
   -- The packets of numbers whose bytes are kept are spelled by these.
   module _ (J : List Event) (a b : ℕ) (w : Sending) where
-    one : (n : ℕ) (o : Option (MsgName × ℕ)) (rest : List (List ℕ)) → map written.packet (on_wires.packet_of script no_rules J n o) ++ rest ≡ cons_option (option_map (spelled script J n) o) rest
+    one : (n : ℕ) (o : Option (MsgName × ℕ)) (rest : List (List ℕ)) → map written.packet (on_wires.packet_of script rules J n o) ++ rest ≡ cons_option (option_map (spelled script rules J n) o) rest
     one n None rest = refl
     one n (Some pair) rest = refl
 
-    pub packets-spelled : (ns : List ℕ) → AllByRecursion (λ n. bytes_of w n ≡ packet_at script J a b n) ns → map written.packet (packets script no_rules J a b ns) ≡ filter_map (bytes_of w) ns
+    pub packets-spelled : (ns : List ℕ) → AllByRecursion (λ n. bytes_of w n ≡ packet_at script rules J a b n) ns → map written.packet (packets script rules J a b ns) ≡ filter_map (bytes_of w) ns
     unfolding packets packet_at
     packets-spelled [] h = refl
     packets-spelled (n ∷ ns) h =
-        let f = λ (k : ℕ). on_wires.packet_of script no_rules J k (slice_get (numbered script J a b) k) in
+        let f = λ (k : ℕ). on_wires.packet_of script rules J k (slice_get (numbered script J a b) k) in
         ap (map written.packet) (flat_map-cons f n ns)
         ∙ map-append written.packet (f n) (flat_map f ns)
         ∙ ap (λ rest. map written.packet (f n) ++ rest) (packets-spelled ns h.1)
@@ -50,52 +50,52 @@ module _ (script : Script) where
 
   -- Of a link, a tick sends again what its end keeps,
   module _ (r : Run) (a b : ℕ) where
-    module _ (s : SendingEnd) (h : SendsFor script s r a b) where
-      open-numbers : to_resend script no_rules r a b ≡ unacked s.window
+    module _ (s : SendingEnd) (h : SendsFor script rules s r a b) where
+      open-numbers : to_resend script rules r a b ≡ unacked s.window
       unfolding to_resend
       open-numbers = λ i. below (sym h.numbers.numbers i) (λ n. h.numbers.sent n i && not (h.numbers.acked n i))
 
-      kept-each : (ns : List ℕ) → AllByRecursion (λ n. (n < s.window.numbers) × ((window.is_sent s.window n && not (window.is_acked s.window n)) ≡ true)) ns → AllByRecursion (λ n. bytes_of s.window n ≡ packet_at script r.journal a b n) ns
+      kept-each : (ns : List ℕ) → AllByRecursion (λ n. (n < s.window.numbers) × ((window.is_sent s.window n && not (window.is_acked s.window n)) ≡ true)) ns → AllByRecursion (λ n. bytes_of s.window n ≡ packet_at script rules r.journal a b n) ns
       kept-each [] all = tt
       kept-each (n ∷ ns) all =
           let both = and_parts (window.is_sent s.window n) (not (window.is_acked s.window n)) all.0.1 in
           (h.kept n (ltb-true n (sent_count s.window) both.0) (not-true (window.is_acked s.window n) both.1), kept-each ns all.1)
 
-      pub ticked-spelled : map written.packet (ticked script no_rules r a b) ≡ kept s
+      pub ticked-spelled : map written.packet (ticked script rules r a b) ≡ kept s
       ticked-spelled =
-          ap (λ ns. map written.packet (packets script no_rules r.journal a b ns)) open-numbers
+          ap (λ ns. map written.packet (packets script rules r.journal a b ns)) open-numbers
           ∙ packets-spelled r.journal a b s.window (unacked s.window) (kept-each (unacked s.window) (below-all s.window.numbers (λ n. window.is_sent s.window n && not (window.is_acked s.window n))))
 
-    pub ticked-at : (o : Option SendingEnd) → SenderAt script r a b o → map written.packet (ticked script no_rules r a b) ≡ of_end kept o
+    pub ticked-at : (o : Option SendingEnd) → SenderAt script rules r a b o → map written.packet (ticked script rules r a b) ≡ of_end kept o
     ticked-at None h = absurd h
     ticked-at (Some s) h = ticked-spelled s h
 
     -- and no other numbers are sent than before.
-    pub sent-again : (n : ℕ) → has_number (r.wire a b ++ ticked script no_rules r a b) n ≡ has_number (r.wire a b) n
+    pub sent-again : (n : ℕ) → has_number (r.wire a b ++ ticked script rules r a b) n ≡ has_number (r.wire a b) n
     unfolding to_resend has_number
     sent-again n =
         let test = λ (k : ℕ). is_sent r a b k && not (is_acked r a b k) in
         let count = length (numbered script r.journal a b) in
-        same_tests (has_number (r.wire a b ++ ticked script no_rules r a b) n) (has_number (r.wire a b) n)
+        same_tests (has_number (r.wire a b ++ ticked script rules r a b) n) (has_number (r.wire a b) n)
         (λ there.
         ⊎_elim
         (λ (old : has_number (r.wire a b) n ≡ true). old)
-        (λ (new : has_number (ticked script no_rules r a b) n ≡ true).
-        let passes = packets-number script no_rules r.journal a b (λ k. (k < count) × (test k ≡ true)) (below count test) (below-all count test) n new in
+        (λ (new : has_number (ticked script rules r a b) n ≡ true).
+        let passes = packets-number script rules r.journal a b (λ k. (k < count) × (test k ≡ true)) (below count test) (below-all count test) n new in
         (and_parts (is_sent r a b n) (not (is_acked r a b n)) passes.1).0)
-        (number-append script no_rules (r.wire a b) (ticked script no_rules r a b) n there))
-        (λ there. list_any-append (is_number n) (r.wire a b) (ticked script no_rules r a b) ∙ or_left (has_number (r.wire a b) n) (has_number (ticked script no_rules r a b) n) there)
+        (number-append script rules (r.wire a b) (ticked script rules r a b) n there))
+        (λ there. list_any-append (is_number n) (r.wire a b) (ticked script rules r a b) ∙ or_left (has_number (r.wire a b) n) (has_number (ticked script rules r a b) n) there)
 
   module _ (t : ℕ) (r : Run) where
-    wire-after : (b : ℕ) → (tick script no_rules r t).wire t b ≡ r.wire t b ++ ticked script no_rules r t b
+    wire-after : (b : ℕ) → (tick script rules r t).wire t b ≡ r.wire t b ++ ticked script rules r t b
     unfolding tick
-    wire-after b = cond-true (t == t) (r.wire t b ++ ticked script no_rules r t b) (r.wire t b) (eqb-refl t)
+    wire-after b = cond-true (t == t) (r.wire t b ++ ticked script rules r t b) (r.wire t b) (eqb-refl t)
 
-    journal-after : (tick script no_rules r t).journal ≡ followed r.journal []
+    journal-after : (tick script rules r t).journal ≡ followed r.journal []
     unfolding tick followed
     journal-after = refl
 
-    sends-after : (s : SendingEnd) (b : ℕ) → SendsFor script s r t b → SendsFor script s (tick script no_rules r t) t b
+    sends-after : (s : SendingEnd) (b : ℕ) → SendsFor script rules s r t b → SendsFor script rules s (tick script rules r t) t b
     unfolding tick
     sends-after s b h = record {
       numbers = record {
@@ -109,13 +109,14 @@ module _ (script : Script) where
       waiting = h.waiting;
     }
 
-    sender-after : (b : ℕ) (o : Option SendingEnd) → SenderAt script r t b o → SenderAt script (tick script no_rules r t) t b o
+    sender-after : (b : ℕ) (o : Option SendingEnd) → SenderAt script rules r t b o → SenderAt script rules (tick script rules r t) t b o
     sender-after b None h = absurd h
     sender-after b (Some s) h = sends-after s b h
 
-    stands-after : (task : Task) → StandsFor script t task r → StandsFor script t task (tick script no_rules r t)
+    stands-after : (task : Task) → StandsFor script rules t task r → StandsFor script rules t task (tick script rules r t)
     unfolding tick
     stands-after task h = record {
+      calls = h.calls;
       holds = h.holds;
       sender_count = h.sender_count;
       receiver_count = h.receiver_count;
@@ -123,7 +124,7 @@ module _ (script : Script) where
       receivers = h.receivers;
     }
 
-    pub tick-does : (task : Task) (old new : Outcome) → StandsFor script t task r → new.events ≡ old.events → new.entries ≡ old.entries ++ entries_of kept task.senders.items (length task.senders.items) → HasEffect script t r (tick script no_rules r t) task old new
+    pub tick-does : (task : Task) (old new : Outcome) → StandsFor script rules t task r → new.events ≡ old.events → new.entries ≡ old.entries ++ entries_of kept task.senders.items (length task.senders.items) → HasEffect script rules t r (tick script rules r t) task old new
     tick-does task old new h same grown =
         let ends = task.senders.items in
         let entries = entries_of kept ends (length ends) in record {
@@ -135,7 +136,7 @@ module _ (script : Script) where
           put = λ b lt.
               let reached : b < length ends = subst (λ n. b < n) (sym h.sender_count) lt in
               ap (map written.packet) (wire-after b)
-              ∙ map-append written.packet (r.wire t b) (ticked script no_rules r t b)
+              ∙ map-append written.packet (r.wire t b) (ticked script rules r t b)
               ∙ ap (λ xs. map written.packet (r.wire t b) ++ xs) (ticked-at r t b (slice_get ends b) (h.senders b lt) ∙ sym (bytes-of-end kept ends b (length ends) reached));
           entries_added = grown;
           ends = entries-within kept ends script.tasks (length ends) (subst (λ n. n ≤ script.tasks) (sym h.sender_count) (omega arith));

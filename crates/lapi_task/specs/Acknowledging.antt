@@ -16,7 +16,7 @@ answer script ps a b = record { to = a; bytes = written.packet (ack_of script ps
 -- Task t has taken these packets from a task.
 pub record HasTaken (script : Script) (t : ℕ) (task : Task) (from : ℕ) (ps : List Packet) : Type 0 where
   pub performed : IsSupported script
-  pub number : task.number ≡ t
+  pub number : task.state.number ≡ t
   pub known : t < script.tasks
   pub from_known : from < script.tasks
   pub receiver : ReceiverAt script ps (slice_get task.receivers.items from)

@@ -2,6 +2,7 @@
 use Rattle.std.specs.Prelude.{◌≡◌, ℕ, ◌<◌, ◌==◌, List, ◌++◌, map, filter, slice_get, Some, Result, Ok, Err}
 use Rattle.std.specs.List.{AllByRecursion}
 use Rattle.lapi_base.specs.declared.script.Script.{Script}
+use Rattle.lapi_base.specs.declared.rule.Rules.{Rules}
 use Rattle.lapi_base.specs.declared.event.Event.{Event}
 use Rattle.lapi_base.specs.declared.packet.Packet.{Packet}
 use Rattle.lapi_base.specs.declared.packet.Packet.TheVariants as packets
@@ -9,7 +10,8 @@ use Rattle.lapi_base.specs.declared.reply.Bad.{Bad}
 use Rattle.lapi_base.specs.declared.wire.WireEntry.{WireEntry}
 use Rattle.lapi_base.specs.Record.Wires.{Run}
 use Rattle.lapi_base.specs.Record.Acts.{followed}
-use Rattle.lapi_base.specs.Record.WorldView.{no_rules, IsRecord}
+use Rattle.lapi_base.specs.Record.Valid.{ValidRules}
+use Rattle.lapi_base.specs.Record.WorldView.{IsRecord}
 use Rattle.lapi_base.specs.Packet.PacketBytes as written
 use Rattle.lapi_task.specs.declared.outcome.Outcome.{Outcome}
 use Rattle.lapi_task.specs.declared.received.Received.{Received}
@@ -23,34 +25,40 @@ abbrev pub bytes_to : (b : ℕ) → List WireEntry → List (List ℕ)
 bytes_to b entries = map (λ (e : WireEntry). e.bytes) (filter (λ (e : WireEntry). e.to == b) entries)
 
 -- Task t stands for a record of valid acts.
-pub record IsAt (script : Script) (t : ℕ) (task : Task) (r : Run) : Type 0 where
-  pub recorded : IsRecord script no_rules r
+pub record IsAt (script : Script) (rules : Rules) (t : ℕ) (task : Task) (r : Run) : Type 0 where
+  pub recorded : IsRecord script rules r
   pub known : t < script.tasks
-  pub stands : StandsFor script t task r
+  pub stands : StandsFor script rules t task r
 
 -- it does so for some record
-abbrev pub IsAtSome : Script → Task → Type 0
-IsAtSome script task = (t : ℕ) × (r : Run) × IsAt script t task r
+abbrev pub IsAtSome : Task → Type 0
+IsAtSome task = (script : Script) × (rules : Rules) × (t : ℕ) × (r : Run) × IsAt script rules t task r
 
 -- The task stands for the record after the act, and the outcome has the events and the entries that the act adds to the record before it.
-pub record HasEffect (script : Script) (t : ℕ) (before after : Run) (task : Task) (old new : Outcome) : Type 0 where
+pub record HasEffect (script : Script) (rules : Rules) (t : ℕ) (before after : Run) (task : Task) (old new : Outcome) : Type 0 where
   pub events : List Event
   pub entries : List WireEntry
-  pub stands : StandsFor script t task after
+  pub stands : StandsFor script rules t task after
   pub journal : after.journal ≡ followed before.journal events
   pub events_added : new.events ≡ old.events ++ events
   pub put : (b : ℕ) → b < script.tasks → map written.packet (after.wire t b) ≡ map written.packet (before.wire t b) ++ bytes_to b entries
   pub entries_added : new.entries ≡ old.entries ++ entries
   pub ends : AllByRecursion (λ (e : WireEntry). e.to < script.tasks) entries
 
+-- what a line makes of each record that the task stood for, it stands for, with what the line adds in the outcome
+abbrev pub Performs : (Script → Rules → Run → ℕ → Run) → (before after : Task) → (old new : Outcome) → Type 0
+Performs line before after old new =
+    (script : Script) (rules : Rules) (t : ℕ) (r : Run)
+    → IsAt script rules t before r → HasEffect script rules t r (line script rules r t) after old new
+
 -- A packet is an entry of the wire from a task, by some record that this task stands for.
 pub record IsOnWire (endpoint : Task) (from : ℕ) (p : Packet) : Type 0 where
   pub script : Script
-  pub performed : IsSupported script
+  pub rules : Rules
   pub task : ℕ
   pub run : Run
   pub place : ℕ
-  pub at : IsAt script task endpoint run
+  pub at : IsAt script rules task endpoint run
   pub from_known : from < script.tasks
   pub entry : slice_get (run.wire from task) place ≡ Some p
 

@@ -19,22 +19,28 @@ use Rattle.lapi_memory.specs.TaskMemory as memories
 use Rattle.lapi_link.specs.declared.arrival.Arrival.{Arrival}
 use Rattle.lapi_link.specs.declared.arrival.Arrival.TheVariants.{Whole}
 use Rattle.lapi_link.specs.Receiver.{ReceivingEnd, ReceivesFor, MayArrive}
-use Rattle.lapi_link.specs.Sender.{SendingEnd, appended}
+use Rattle.lapi_link.specs.Sender.{SendingEnd}
+use Rattle.lapi_task.specs.Outgoing.{with_message, AreSpelled}
+use Rattle.lapi_task.specs.StandsFor.{task_unit}
 use Rattle.lapi_task.specs.declared.task.Task.{Task}
 use Rattle.lapi_task.specs.Counting.{announced}
 
--- the notice from task t to task a that the message is complete, with number n
-abbrev pub note_packet : (t a n : ℕ) → MsgName → (counter : ℕ) → DataPacket
-note_packet t a n m c = record { from = t; to = a; seq = n; name = message m.origin m.statement Note; head = heads.Note NoteOp.Put c; length = 0; fragment = 0; payload = [] }
+-- the notice from task t to task a that the message is complete
+abbrev pub note_name : MsgName → MsgName
+note_name m = message m.origin m.statement Note
 
--- the sending ends of task t with the notice to task a, if a counter is named
-abbrev pub noted_at : (t a : ℕ) → MsgName → (counter : ℕ) → Option SendingEnd → List SendingEnd → List SendingEnd
-noted_at t a m c None ends = ends
-noted_at t a m c (Some s) ends = slice_set ends a (appended s (written.packet (Data (note_packet t a s.window.numbers m c))))
+abbrev pub note_of : (t a : ℕ) → MsgName → (counter : ℕ) → DataPacket
+note_of t a m c = record { from = t; to = a; seq = 0; name = note_name m; head = heads.Note NoteOp.Put c; length = 0; fragment = 0; payload = [] }
 
-abbrev pub with_note : (t a : ℕ) → MsgName → Option ℕ → List SendingEnd → List SendingEnd
-with_note t a m None ends = ends
-with_note t a m (Some c) ends = noted_at t a m c (slice_get ends a) ends
+-- the sending ends of task t with a message more that has no bytes
+abbrev pub with_empty_at : (unit : ℕ) → DataPacket → Option SendingEnd → List SendingEnd → List SendingEnd
+with_empty_at unit o None ends = ends
+with_empty_at unit o (Some s) ends = slice_set ends o.to (with_message unit o [] s)
+
+-- and with the notice to task a, if a counter is named
+abbrev pub with_note : (unit t a : ℕ) → MsgName → Option ℕ → List SendingEnd → List SendingEnd
+with_note unit t a m None ends = ends
+with_note unit t a m (Some c) ends = with_empty_at unit (note_of t a m c) (slice_get ends a) ends
 
 -- What a message with this head makes of a memory, of counters and of sending ends, and which events it brings;
 abbrev pub head_memory : Head → (bytes : List ℕ) → (memory : List ℕ) → List ℕ
@@ -46,22 +52,22 @@ head_counters (heads.Put at tgt cmpl) counters = announced counters tgt
 head_counters (heads.Note op cmpl) counters = announced counters (Some cmpl)
 head_counters _ counters = counters
 
-abbrev pub head_ends : (t a : ℕ) → MsgName → Head → (ends : List SendingEnd) → List SendingEnd
-head_ends t a m (heads.Put at tgt cmpl) ends = with_note t a m cmpl ends
-head_ends t a m _ ends = ends
+abbrev pub head_ends : (unit t a : ℕ) → MsgName → Head → (ends : List SendingEnd) → List SendingEnd
+head_ends unit t a m (heads.Put at tgt cmpl) ends = with_note unit t a m cmpl ends
+head_ends unit t a m _ ends = ends
 
 abbrev pub head_events : MsgName → Head → List Event
 head_events m (heads.Put at tgt cmpl) = Land m ∷ noted m cmpl
 head_events m _ = Land m ∷ []
 
 -- where its places and its counters are there, and its notice has a spelling.
-abbrev pub HeadMayLand : (t a : ℕ) → MsgName → Head → (bytes memory counters : List ℕ) → Type 0
-HeadMayLand t a m (heads.Put at tgt cmpl) bytes memory counters =
+abbrev pub HeadMayLand : (unit t a : ℕ) → MsgName → Head → (bytes memory counters : List ℕ) → Type 0
+HeadMayLand unit t a m (heads.Put at tgt cmpl) bytes memory counters =
     memories.IsWithin memory at (length bytes)
     × ((c : ℕ) → tgt ≡ Some c → c < length counters)
-    × ((c n : ℕ) → cmpl ≡ Some c → n < 2 ^ 32 → HasSpelling (Data (note_packet t a n m c)))
-HeadMayLand t a m (heads.Note op cmpl) bytes memory counters = cmpl < length counters
-HeadMayLand t a m _ bytes memory counters = Unit {0}
+    × ((c : ℕ) → cmpl ≡ Some c → AreSpelled unit (note_of t a m c) [])
+HeadMayLand unit t a m (heads.Note op cmpl) bytes memory counters = cmpl < length counters
+HeadMayLand unit t a m _ bytes memory counters = Unit {0}
 
 -- The same of what comes of a packet.
 abbrev pub memory_after : Arrival → (memory : List ℕ) → List ℕ
@@ -72,30 +78,25 @@ abbrev pub counters_after : Arrival → (counters : List ℕ) → List ℕ
 counters_after (Whole m) counters = head_counters m.head counters
 counters_after _ counters = counters
 
-abbrev pub ends_after : (t a : ℕ) → Arrival → (ends : List SendingEnd) → List SendingEnd
-ends_after t a (Whole m) ends = head_ends t a m.name m.head ends
-ends_after t a _ ends = ends
+abbrev pub ends_after : (unit t a : ℕ) → Arrival → (ends : List SendingEnd) → List SendingEnd
+ends_after unit t a (Whole m) ends = head_ends unit t a m.name m.head ends
+ends_after unit t a _ ends = ends
 
 abbrev pub events_of : Arrival → List Event
 events_of (Whole m) = head_events m.name m.head
 events_of _ = []
 
-abbrev pub ArrivalMayLand : (t a : ℕ) → Arrival → (memory counters : List ℕ) → Type 0
-ArrivalMayLand t a (Whole m) memory counters = HeadMayLand t a m.name m.head m.bytes memory counters
-ArrivalMayLand t a _ memory counters = Unit {0}
+abbrev pub ArrivalMayLand : (unit t a : ℕ) → Arrival → (memory counters : List ℕ) → Type 0
+ArrivalMayLand unit t a (Whole m) memory counters = HeadMayLand unit t a m.name m.head m.bytes memory counters
+ArrivalMayLand unit t a _ memory counters = Unit {0}
 
 -- What came from task a took effect at the task.
 pub record HasArrived (a : ℕ) (arrival : Arrival) (before after : Task) (old new : List Event) : Type 0 where
-  pub number : after.number ≡ before.number
-  pub next : after.next ≡ before.next
-  pub reads : after.reads.items ≡ before.reads.items
-  pub refusals : after.refusals.items ≡ before.refusals.items
-  pub uncopied : after.uncopied.items ≡ before.uncopied.items
-  pub receivers : after.receivers.items ≡ before.receivers.items
-  pub memory : after.memory ≡ memory_after arrival before.memory
-  pub counters : after.counters ≡ counters_after arrival before.counters
-  pub senders : after.senders.items ≡ ends_after before.number a arrival before.senders.items
+  pub memory : after.state.memory ≡ memory_after arrival before.state.memory
+  pub counters : after.state.counters ≡ counters_after arrival before.state.counters
+  pub senders : after.senders.items ≡ ends_after (task_unit before) before.state.number a arrival before.senders.items
   pub events : new ≡ old ++ events_of arrival
+  pub rest : after ≡ record before { senders = after.senders; state = record before.state { memory = after.state.memory; counters = after.state.counters } }
 
 -- the packet may come to the end of the link from task a
 pub record MayTake (ends : List ReceivingEnd) (a : ℕ) (p : DataPacket) : Type 0 where

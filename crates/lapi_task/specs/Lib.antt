@@ -5,7 +5,7 @@ pub mod Counting
 pub mod HasEffect
 pub mod Landed
 pub mod Supported
-pub mod Puts
+pub mod Outgoing
 pub mod Sends
 pub mod StandsFor
 pub mod Steps

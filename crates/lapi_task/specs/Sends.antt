@@ -1,6 +1,7 @@
 -- How the sending end of a link stands for its record.
 use Rattle.std.specs.Prelude.{◌≡◌, ℕ, zero, suc, ◌+◌, ◌<◌, nat_lt, false, List, [], ◌++◌, length, slice_get, Option, None, Some, option_map}
 use Rattle.lapi_base.specs.declared.script.Script.{Script}
+use Rattle.lapi_base.specs.declared.rule.Rules.{Rules}
 use Rattle.lapi_base.specs.declared.message.MsgName.{MsgName}
 use Rattle.lapi_base.specs.declared.event.Event.{Event}
 use Rattle.lapi_base.specs.declared.wire.WireEntry.{WireEntry}
@@ -8,19 +9,18 @@ use Rattle.lapi_base.specs.Packet.Layout.{window_of}
 use Rattle.lapi_base.specs.Record.Packets.{data_packet}
 use Rattle.lapi_base.specs.Packet.PacketBytes as written
 use Rattle.lapi_base.specs.Record.Wires.{Run, numbered, is_sent, is_acked}
-use Rattle.lapi_base.specs.Record.WorldView.{no_rules}
 use Rattle.lapi_base.specs.Laws.Entries.{carried}
 use Rattle.lapi_window.specs.SendWindow.{Sending, sent_count, bytes_of}
 use Rattle.lapi_window.specs.SendWindow as window
 use Rattle.lapi_link.specs.Sender.{SendingEnd, entries_to}
 
 -- the bytes of the packet with number n, which is of this message and fragment
-abbrev pub spelled : Script → List Event → (n : ℕ) → MsgName × ℕ → List ℕ
-spelled script J n pair = written.packet (data_packet script pair.0 n pair.1 (carried script no_rules J pair.0))
+abbrev pub spelled : Script → Rules → List Event → (n : ℕ) → MsgName × ℕ → List ℕ
+spelled script rules J n pair = written.packet (data_packet script pair.0 n pair.1 (carried script rules J pair.0))
 
 -- the bytes of number n of the link from a to b
-unfoldable pub packet_at : Script → List Event → (from to n : ℕ) → Option (List ℕ)
-packet_at script J a b n = option_map (spelled script J n) (slice_get (numbered script J a b) n)
+unfoldable pub packet_at : Script → Rules → List Event → (from to n : ℕ) → Option (List ℕ)
+packet_at script rules J a b n = option_map (spelled script rules J n) (slice_get (numbered script J a b) n)
 
 -- The window has the numbers of the link from a to b, those sent and those acknowledged;
 pub record HasNumbers (script : Script) (w : Sending) (r : Run) (a b : ℕ) : Type 0 where
@@ -30,11 +30,11 @@ pub record HasNumbers (script : Script) (w : Sending) (r : Run) (a b : ℕ) : Ty
   pub acked : (n : ℕ) → is_acked r a b n ≡ window.is_acked w n
 
 -- the packets that may have to be sent again are kept, and those that were not sent wait.
-pub record SendsFor (script : Script) (s : SendingEnd) (r : Run) (a b : ℕ) : Type 0 where
+pub record SendsFor (script : Script) (rules : Rules) (s : SendingEnd) (r : Run) (a b : ℕ) : Type 0 where
   pub numbers : HasNumbers script s.window r a b
   pub whole : sent_count s.window + length s.waiting ≡ s.window.numbers
-  pub kept : (n : ℕ) → n < sent_count s.window → window.is_acked s.window n ≡ false → bytes_of s.window n ≡ packet_at script r.journal a b n
-  pub waiting : (i : ℕ) → slice_get s.waiting i ≡ packet_at script r.journal a b (sent_count s.window + i)
+  pub kept : (n : ℕ) → n < sent_count s.window → window.is_acked s.window n ≡ false → bytes_of s.window n ≡ packet_at script rules r.journal a b n
+  pub waiting : (i : ℕ) → slice_get s.waiting i ≡ packet_at script rules r.journal a b (sent_count s.window + i)
 
 -- what f gives of an end, where it is there
 abbrev pub of_end : (SendingEnd → List (List ℕ)) → Option SendingEnd → List (List ℕ)

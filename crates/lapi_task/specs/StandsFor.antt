@@ -1,6 +1,8 @@
 -- How a task stands for its part of a record.
-use Rattle.std.specs.Prelude.{◌≡◌, ℕ, ◌<◌, ◌≤◌, Bool, false, ◌&&◌, not, List, length, slice_get, slice_index, Option, None, Some}
+use Rattle.std.specs.Prelude.{◌≡◌, ℕ, ◌<◌, ◌≤◌, Bool, false, ◌&&◌, not, List, length, slice_get, slice_index, replicate, [], Option, None, Some}
 use Rattle.lapi_base.specs.declared.script.Script.{Script}
+use Rattle.lapi_base.specs.declared.sizes.Sizes.{Sizes}
+use Rattle.lapi_base.specs.declared.rule.Rules.{Rules}
 use Rattle.lapi_base.specs.declared.event.Event.{Event}
 use Rattle.lapi_base.specs.declared.packet.Packet.{Packet}
 use Rattle.lapi_base.specs.declared.message.Leg.TheVariants.{Go}
@@ -11,10 +13,13 @@ use Rattle.lapi_base.specs.Record.Counters.{count, reads}
 use Rattle.lapi_base.specs.Record.Jobs.{runs}
 use Rattle.lapi_base.specs.Record.Wires.{Run}
 use Rattle.lapi_base.specs.Record.Refusals.{next, refusals}
-use Rattle.lapi_base.specs.Record.WorldView.{no_rules}
 use Rattle.lapi_base.specs.Record.Values.{memory_bytes}
 use Rattle.lapi_link.specs.Receiver.{ReceivingEnd, ReceivesFor}
 use Rattle.lapi_link.specs.Sender.{SendingEnd}
+use Rattle.lapi_base.specs.Packet.Layout.{layout_of, unit, sizes_of}
+use Rattle.lapi_base.specs.Record.Valid.{ValidRules}
+use Rattle.lapi_task.specs.Supported.{IsSupported}
+use Rattle.lapi_task.specs.declared.state.State.{State}
 use Rattle.lapi_task.specs.declared.task.Task.{Task}
 use Rattle.lapi_task.specs.Sends.{SendsFor}
 
@@ -22,31 +27,61 @@ use Rattle.lapi_task.specs.Sends.{SendsFor}
 abbrev pub is_uncopied : Script → List Event → (t i : ℕ) → Bool
 is_uncopied script J t i = is_data (statement script t i) && (happened (Issued t i) J && not (happened (Copied (message t i Go)) J))
 
-abbrev pub SenderAt : Script → Run → (from to : ℕ) → Option SendingEnd → Type 0
-SenderAt script r a b None = ⊥
-SenderAt script r a b (Some s) = SendsFor script s r a b
+abbrev pub SenderAt : Script → Rules → Run → (from to : ℕ) → Option SendingEnd → Type 0
+SenderAt script rules r a b None = ⊥
+SenderAt script rules r a b (Some s) = SendsFor script rules s r a b
 
 abbrev pub ReceiverAt : Script → List Packet → Option ReceivingEnd → Type 0
 ReceiverAt script ps None = ⊥
 ReceiverAt script ps (Some s) = ReceivesFor script s ps
 
--- what the task did and holds is what the record says of task t
-pub record HoldsFor (script : Script) (t : ℕ) (task : Task) (J : List Event) : Type 0 where
-  pub number : task.number ≡ t
-  pub next : task.next ≡ next J t
-  pub ahead : (i : ℕ) → task.next ≤ i → happened (Issued t i) J ≡ false
-  pub reads : task.reads.items ≡ reads script no_rules J t
-  pub refusals : task.refusals.items ≡ refusals J t
-  pub memory : task.memory ≡ memory_bytes script no_rules J t
-  pub counter_count : length task.counters ≡ script.counters
-  pub counters : (c : ℕ) → c < script.counters → slice_index task.counters c ≡ count script no_rules J t c
-  pub uncopied : task.uncopied.items ≡ below (length (statements script t)) (is_uncopied script J t)
+-- what a task with these sizes holds before its first line
+pub record IsNewState (sizes : Sizes) (task : ℕ) (state : State) : Type 0 where
+  pub number : state.number ≡ task
+  pub next : state.next ≡ 0
+  pub memory : state.memory ≡ replicate sizes.memory 0
+  pub counters : state.counters ≡ replicate sizes.counters 0
+  pub reads : state.reads.items ≡ []
+  pub refusals : state.refusals.items ≡ []
+  pub uncopied : state.uncopied.items ≡ []
+
+-- What a task holds and did is what the record says of task t;
+pub record HoldsFor (script : Script) (rules : Rules) (t : ℕ) (state : State) (J : List Event) : Type 0 where
+  pub number : state.number ≡ t
+  pub next : state.next ≡ next J t
+  pub ahead : (i : ℕ) → state.next ≤ i → happened (Issued t i) J ≡ false
+  pub reads : state.reads.items ≡ reads script rules J t
+  pub refusals : state.refusals.items ≡ refusals J t
+  pub memory : state.memory ≡ memory_bytes script rules J t
+  pub counter_count : length state.counters ≡ script.counters
+  pub counters : (c : ℕ) → c < script.counters → slice_index state.counters c ≡ count script rules J t c
+  pub uncopied : state.uncopied.items ≡ below (length (statements script t)) (is_uncopied script J t)
   pub jobless : (w : ℕ) → runs J t w ≡ None
 
--- and so are the ends of its links
-pub record StandsFor (script : Script) (t : ℕ) (task : Task) (r : Run) : Type 0 where
-  pub holds : HoldsFor script t task r.journal
+-- the payload of each fragment but the last, by the task's sizes
+abbrev pub task_unit : Task → ℕ
+task_unit task = unit (layout_of task.sizes.layout)
+
+-- it has its statements, which are of forms that are performed, the script's sizes and the number of header handlers;
+pub record HasCalls (script : Script) (rules : Rules) (t : ℕ) (task : Task) : Type 0 where
+  pub supported : IsSupported script
+  pub rules_valid : ValidRules rules
+  pub sizes : task.sizes ≡ sizes_of script
+  pub statements : task.statements ≡ statements script t
+  pub header_count : task.header_count ≡ length rules.headers
+
+-- and the ends of its links are those of the record.
+pub record StandsFor (script : Script) (rules : Rules) (t : ℕ) (task : Task) (r : Run) : Type 0 where
+  pub calls : HasCalls script rules t task
+  pub holds : HoldsFor script rules t task.state r.journal
   pub sender_count : length task.senders.items ≡ script.tasks
   pub receiver_count : length task.receivers.items ≡ script.tasks
-  pub senders : (b : ℕ) → b < script.tasks → SenderAt script r t b (slice_get task.senders.items b)
+  pub senders : (b : ℕ) → b < script.tasks → SenderAt script rules r t b (slice_get task.senders.items b)
   pub receivers : (a : ℕ) → a < script.tasks → ReceiverAt script (r.handed a t) (slice_get task.receivers.items a)
+
+-- This holds for each record that the task stands for; it holds for one of them.
+abbrev pub ForEachRecord : Task → (Script → Rules → ℕ → Run → Type 0) → Type 0
+ForEachRecord task P = (script : Script) (rules : Rules) (t : ℕ) (r : Run) → StandsFor script rules t task r → P script rules t r
+
+abbrev pub ForSomeRecord : Task → (Script → Rules → ℕ → Run → Type 0) → Type 0
+ForSomeRecord task P = (script : Script) × (rules : Rules) × (t : ℕ) × (r : Run) × StandsFor script rules t task r × P script rules t r

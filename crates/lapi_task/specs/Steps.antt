@@ -6,8 +6,7 @@ use Rattle.lapi_base.specs.declared.event.Event.{Event}
 use Rattle.lapi_base.specs.declared.event.Event.TheVariants.{Issue, Refuse, Pass}
 use Rattle.lapi_base.specs.declared.refusal.Refusal.{Refusal}
 use Rattle.lapi_memory.specs.TaskMemory.{written, IsWithin}
-use Rattle.lapi_task.specs.declared.outcome.Outcome.{Outcome}
-use Rattle.lapi_task.specs.declared.task.Task.{Task}
+use Rattle.lapi_task.specs.declared.state.State.{State}
 
 -- the places and the counter that the statement names are there
 abbrev pub MayStep : Statement → (memory counters : List ℕ) → Type 0
@@ -35,16 +34,13 @@ with_uncopied (Put target to from len tgt org cmpl) i before = before ++ i ∷ [
 with_uncopied _ i before = before
 
 -- an event was added, and the task is past a statement
-pub record Advances (e : Event) (before after : Task) (old new : Outcome) : Type 0 where
+pub record Advances (e : Event) (before after : State) (old new : List Event) : Type 0 where
   pub number : after.number ≡ before.number
   pub next : after.next ≡ before.next + 1
-  pub senders : after.senders.items ≡ before.senders.items
-  pub receivers : after.receivers.items ≡ before.receivers.items
-  pub events : new.events ≡ old.events ++ e ∷ []
-  pub entries : new.entries ≡ old.entries
+  pub events : new ≡ old ++ e ∷ []
 
 -- the statement was refused, issued, or passed
-pub record IsRefused (why : Refusal) (before after : Task) (old new : Outcome) : Type 0 where
+pub record IsRefused (why : Refusal) (before after : State) (old new : List Event) : Type 0 where
   pub past : Advances (Refuse before.number before.next why) before after old new
   pub memory : after.memory ≡ before.memory
   pub counters : after.counters ≡ before.counters
@@ -52,7 +48,7 @@ pub record IsRefused (why : Refusal) (before after : Task) (old new : Outcome) :
   pub refusals : after.refusals.items ≡ before.refusals.items ++ (before.next, why) ∷ []
   pub uncopied : after.uncopied.items ≡ before.uncopied.items
 
-pub record IsIssued (s : Statement) (before after : Task) (old new : Outcome) : Type 0 where
+pub record IsIssued (s : Statement) (before after : State) (old new : List Event) : Type 0 where
   pub past : Advances (Issue before.number before.next) before after old new
   pub memory : after.memory ≡ stored s before.memory
   pub counters : after.counters ≡ counters_set s before.counters
@@ -60,7 +56,7 @@ pub record IsIssued (s : Statement) (before after : Task) (old new : Outcome) : 
   pub refusals : after.refusals.items ≡ before.refusals.items
   pub uncopied : after.uncopied.items ≡ with_uncopied s before.next before.uncopied.items
 
-pub record PassesWait (counter value : ℕ) (before after : Task) (old new : Outcome) : Type 0 where
+pub record PassesWait (counter value : ℕ) (before after : State) (old new : List Event) : Type 0 where
   pub enough : value ≤ slice_index before.counters counter
   pub past : Advances (Pass before.number before.next) before after old new
   pub memory : after.memory ≡ before.memory
@@ -70,7 +66,7 @@ pub record PassesWait (counter value : ℕ) (before after : Task) (old new : Out
   pub uncopied : after.uncopied.items ≡ before.uncopied.items
 
 -- the counter has less than the value, and nothing was changed
-pub record IsBlocked (counter value : ℕ) (before after : Task) (old new : Outcome) : Type 0 where
+pub record IsBlocked (counter value : ℕ) (before after : State) (old new : List Event) : Type 0 where
   pub less : slice_index before.counters counter < value
-  pub task : after ≡ before
-  pub outcome : new ≡ old
+  pub state : after ≡ before
+  pub events : new ≡ old

@@ -1,14 +1,15 @@
 //! One task as the endpoint of its links: its statements, its memory, its counters, and what it sends and receives.
 #![tactic(auto)]
 
+mod copy;
 mod counting;
 mod law;
 mod note;
 mod outcome;
 mod packet;
-mod put;
 mod reason;
 mod received;
+mod state;
 mod statement;
 mod task;
 

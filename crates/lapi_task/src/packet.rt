@@ -1,15 +1,16 @@
 //! Packets that leave the task.
 ghost use Rattle.std.specs.Prelude.{◌≡◌, ◌*◌, ◌≤◌, length, IfOk, OnOk};
+ghost use Rattle.lapi_base.specs.declared.packet.Packet.TheVariants.{Data};
+ghost use Rattle.lapi_base.specs.Record.Fragments.{fragment_bytes};
 ghost use Rattle.lapi_base.specs.Packet.Spelling.{HasSpelling};
 ghost use Rattle.lapi_base.specs.Packet.PacketBytes as written;
 ghost use Rattle.lapi_reassembly.specs.Partial.{IsUnit};
 ghost use Rattle.lapi_link.specs.Sender.{appended};
-ghost use Rattle.lapi_task.specs.Puts.{with_put, AreSpelled};
+ghost use Rattle.lapi_task.specs.Outgoing.{with_message, AreSpelled};
 
-use crate::put::{Put, payload_of};
-use lapi_base::{Bytes, FRAME_ROOM, Frame, Memory, PAYLOAD_ROOM, Packet};
+use lapi_base::{Bytes, DataPacket, FRAME_ROOM, Frame, Memory, PAYLOAD_ROOM, Packet, Payload};
 use lapi_link::Sender;
-use lapi_packet::encode;
+use lapi_packet::{encode, encode_data};
 use std::alloc::Global;
 
 /// The bytes of a packet.
@@ -23,35 +24,59 @@ pub fn spelled(alloc: Global, packet: &Packet) -> Result<Bytes, Memory>
     Bytes::from_slice(alloc, frame.as_slice())
 }
 
-/// Gives the next number of a link to a packet, which is sent by a poll.
-pub fn append(alloc: Global, sender: &mut Sender, packet: &Packet) -> Result<(), Memory>
-    requires { HasSpelling packet.now }
-    ensures { OnOk result (sender.new ≡ appended sender.old (written.packet packet.now)) }
+/// The bytes of a data packet.
+fn spelled_data(alloc: Global, packet: &DataPacket) -> Result<Bytes, Memory>
+    requires { HasSpelling (Data packet.now) }
+    ensures bytes { IfOk result (λ bytes. bytes ≡ written.packet (Data packet.now)) }
+    ensures short { IfOk result (λ bytes. length bytes ≤ FRAME_ROOM) }
 {
-    let bytes = spelled(alloc, packet)?;
+    let mut frame = Frame::new();
+    encode_data(packet, &mut frame);
+    Bytes::from_slice(alloc, frame.as_slice())
+}
+
+/// Gives the next number of a link to a data packet, which is sent by a poll.
+fn append(alloc: Global, sender: &mut Sender, packet: &DataPacket) -> Result<(), Memory>
+    requires { HasSpelling (Data packet.now) }
+    ensures { OnOk result (sender.new ≡ appended sender.old (written.packet (Data packet.now))) }
+{
+    let bytes = spelled_data(alloc, packet)?;
     sender.append(bytes)
 }
 
-/// Gives numbers to all fragments of a put, which is statement `i` of task `t`; each but the last has `unit` bytes.
-pub fn append_put(
+/// Gives numbers to all fragments of a message with these bytes; each but the last has `unit` bytes. The packet has what
+/// they have in common.
+pub fn append_message(
     alloc: Global,
     sender: &mut Sender,
     unit: u32,
-    put: Put,
-    t: u32,
-    i: u32,
+    mut packet: DataPacket,
     bytes: &[u8],
 ) -> Result<(), Memory>
     requires unit { IsUnit unit × (unit ≤ PAYLOAD_ROOM) }
-    requires bytes { (length bytes.now ≡ put.len) × (put.len ≤ 64 * unit) }
-    requires spelled { AreSpelled unit put t i bytes.now }
-    ensures { OnOk result (sender.new ≡ with_put unit put t i bytes.now sender.old) }
+    requires bytes { (length bytes.now ≡ packet.length) × (packet.length ≤ 64 * unit) }
+    requires spelled { AreSpelled unit packet bytes.now }
+    ensures { OnOk result (sender.new ≡ with_message unit packet bytes.now sender.old) }
 {
-    for fragment in 0..put.len.div_ceil(unit).max(1) {
-        let seq = sender.window().numbers();
-        let payload = payload_of(bytes, unit, fragment);
-        let packet = Packet::Data(put.packet(t, i, seq, fragment, payload));
+    for fragment in 0..packet.length.div_ceil(unit).max(1) {
+        packet.seq = sender.window().numbers();
+        packet.fragment = fragment;
+        packet.payload = payload_of(bytes, unit, fragment);
         append(alloc, sender, &packet)?;
     }
     Ok(())
+}
+
+/// The bytes of one fragment, where each but the last has `unit`.
+#[tactic(auto, using(std::proofs::lemmas::List::take_min))]
+fn payload_of(bytes: &[u8], unit: u32, fragment: u32) -> Payload
+    requires unit { unit ≤ PAYLOAD_ROOM }
+    requires within { unit * fragment ≤ length bytes.now }
+    ensures { result ≡ fragment_bytes unit fragment bytes.now }
+{
+    let (_, rest) = bytes.split_at(unit as usize * fragment as usize);
+    let (part, _) = rest.split_at((unit as usize).min(rest.len()));
+    let mut payload = Payload::new();
+    payload.extend_from_slice(part);
+    payload
 }

@@ -2,15 +2,15 @@ ghost use Rattle.std.specs.Prelude.{◌≡◌, ◌+◌, nat_le, nat_lt, not, opt
 ghost use Rattle.std.specs.List.{list_any};
 ghost use Rattle.lapi_task.specs.Supported.{reason_of};
 
-use lapi_base::{Addr, Refusal, Script, Statement};
+use lapi_base::{Addr, Refusal, Sizes, Statement};
 
 /// Why the statement is refused, if it is.
-pub fn reason_of(script: &Script, statement: &Statement) -> Option<Refusal>
-    ensures { result ≡ reason_of script.now statement.now }
+pub fn reason_of(sizes: Sizes, statement: &Statement) -> Option<Refusal>
+    ensures { result ≡ reason_of sizes statement.now }
 {
     match statement {
         Statement::Store { at, bytes } => {
-            let is_within = lies_within(script.memory, *at, bytes.as_slice().len());
+            let is_within = lies_within(sizes.memory, *at, bytes.as_slice().len());
             (!is_within).then_some(Refusal::BadOriginRange)
         }
         Statement::Put {
@@ -22,18 +22,18 @@ pub fn reason_of(script: &Script, statement: &Statement) -> Option<Refusal>
             org,
             cmpl,
         } => {
-            if *target >= script.tasks {
+            if *target >= sizes.tasks {
                 Some(Refusal::BadTask)
-            } else if !lies_within(script.memory, *to, *len as usize) {
+            } else if !lies_within(sizes.memory, *to, *len as usize) {
                 Some(Refusal::BadTargetRange)
-            } else if !lies_within(script.memory, *from, *len as usize) {
+            } else if !lies_within(sizes.memory, *from, *len as usize) {
                 Some(Refusal::BadOriginRange)
-            } else if is_missing(script, *tgt)
-                || is_missing(script, *org)
-                || is_missing(script, *cmpl)
+            } else if is_missing(sizes, *tgt)
+                || is_missing(sizes, *org)
+                || is_missing(sizes, *cmpl)
             {
                 Some(Refusal::BadCounter)
-            } else if *len > script.longest() {
+            } else if *len > sizes.longest() {
                 Some(Refusal::TooLong)
             } else {
                 None
@@ -42,7 +42,7 @@ pub fn reason_of(script: &Script, statement: &Statement) -> Option<Refusal>
         Statement::Wait { counter, .. }
         | Statement::Set { counter, .. }
         | Statement::Read { counter } => {
-            let is_missing = *counter >= script.counters;
+            let is_missing = *counter >= sizes.counters;
             is_missing.then_some(Refusal::BadCounter)
         }
         _ => None,
@@ -50,11 +50,11 @@ pub fn reason_of(script: &Script, statement: &Statement) -> Option<Refusal>
 }
 
 /// Whether a counter is named that isn't there.
-fn is_missing(script: &Script, counter: Option<u32>) -> bool
-    ensures { result ≡ list_any (λ c. not (nat_lt c script.now.counters)) (option_to_list counter) }
+fn is_missing(sizes: Sizes, counter: Option<u32>) -> bool
+    ensures { result ≡ list_any (λ c. not (nat_lt c sizes.counters)) (option_to_list counter) }
 {
     match counter {
-        Some(counter) => counter >= script.counters,
+        Some(counter) => counter >= sizes.counters,
         None => false,
     }
 }

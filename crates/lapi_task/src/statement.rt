@@ -1,12 +1,10 @@
 ghost use Rattle.std.specs.Prelude.{◌≡◌, option_map, slice_get};
-ghost use Rattle.lapi_base.specs.Record.Operations.{statements};
 
-use lapi_base::{Script, Statement};
+use lapi_base::{Statement, Statements};
 
-/// Statement `i` of task `t`, if there is one.
-pub fn statement_of(script: &Script, t: u32, i: u32) -> Option<&Statement>
-    ensures { option_map (λ s. s.now) result ≡ slice_get (statements script.now t) i }
+/// Statement `i` of these, if there is one.
+pub fn statement_at(statements: &Statements, i: u32) -> Option<&Statement>
+    ensures { option_map (λ s. s.now) result ≡ slice_get statements.now i }
 {
-    let list = script.lists.as_slice().get(t as usize)?;
-    list.as_slice().get(i as usize)
+    statements.as_slice().get(i as usize)
 }

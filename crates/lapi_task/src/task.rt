@@ -1,8 +1,6 @@
-use lapi_base::Refusal;
-use lapi_counters::Counters;
+use crate::state::State;
+use lapi_base::{Sizes, Statements};
 use lapi_link::{Receiver, Sender};
-use lapi_memory::TaskMemory;
-use std::collections::VecDeque;
 
 mod accessors;
 mod answering;
@@ -15,15 +13,11 @@ mod ticking;
 /// One task. After a call has answered Memory it is used no more.
 #[derive(Drop)]
 pub struct Task {
-    number: u32,
-    /// The next statement.
-    next: u32,
-    memory: TaskMemory,
-    counters: Counters,
-    reads: Vec<(u32, u64)>,
-    refusals: Vec<(u32, Refusal)>,
-    /// The statements whose data are to be copied by the next poll, rising.
-    uncopied: VecDeque<u32>,
+    sizes: Sizes,
+    statements: Statements,
+    /// How many header handlers there are.
+    header_count: u32,
+    state: State,
     /// The links to each task.
     senders: Vec<Sender>,
     /// The links from each task.

@@ -3,6 +3,7 @@ use Rattle.std.proofs.Common.{◌≡◌, ℕ, ◌<◌, Bool, true, false, List, 
 use Rattle.std.specs.Prelude.{slice_get, option_map}
 use Rattle.std.specs.List.{AllByRecursion}
 use Rattle.lapi_base.specs.declared.script.Script.{Script}
+use Rattle.lapi_base.specs.declared.rule.Rules.{Rules}
 use Rattle.lapi_base.specs.declared.event.Event.{Event}
 use Rattle.lapi_base.specs.declared.schedule.Act.{Act}
 use Rattle.lapi_base.specs.declared.schedule.Line.{Line}
@@ -11,7 +12,7 @@ use Rattle.lapi_base.specs.Record.Atomic.{AtomicInTime}
 use Rattle.lapi_base.specs.Input.Built.{is_built_act}
 use Rattle.lapi_base.specs.Laws.Headline.{HoldsOfRuns}
 use Rattle.lapi_base.specs.Record.Wires.{Run, start}
-use Rattle.lapi_base.specs.Record.WorldView.{no_rules, IsRecord, act_at, acts_of, record_of, record_at, performed}
+use Rattle.lapi_base.specs.Record.WorldView.{IsRecord, act_at, acts_of, record_of, record_at, performed}
 use Rattle.lapi_base.specs.Packet.Spelling.{refusal, spells_packet}
 use Rattle.lapi_base.specs.Record.Valid.{ValidAct, ValidLine}
 use Rattle.lapi_base.specs.Packet.PacketBytes.{packet_size}
@@ -22,7 +23,7 @@ use Rattle.lapi_task.specs.HasEffect.{IsAt}
 use Rattle.lapi_world.specs.declared.network.Network.{Network}
 use Rattle.lapi_world.specs.Stands.{TaskAt, Stands, IsSupportedLine, IsWorld}
 
-module _ (script : Script) where
+module _ (script : Script) (rules : Rules) where
   -- A line of the schedule.
   act-of : (o : Option Line) (act : Act) → option_map (λ (line : Line). line.act) o ≡ Some act → (line : Line) × (o ≡ Some line) × (line.act ≡ act)
   act-of None act e = absurd (cc)
@@ -34,35 +35,35 @@ module _ (script : Script) where
       (subst (ValidAct script spells_packet) line.2 (all-get (ValidLine script spells_packet) schedule n line.0 valid line.1).1, subst (λ x. is_built_act x ≡ true) line.2 (all-get IsSupportedLine schedule n line.0 built line.1))
 
   -- The record of the lines taken.
-  pub recorded : (schedule : List Line) (network : Network) (taken : List ℕ) (replies : List Reply) (spent : Bool) → IsWorld script schedule network taken replies spent → IsRecord script no_rules (record_at script no_rules schedule taken)
+  pub recorded : (schedule : List Line) (network : Network) (taken : List ℕ) (replies : List Reply) (spent : Bool) → IsWorld script rules schedule network taken replies spent → IsRecord script rules (record_at script rules schedule taken)
   recorded schedule network taken replies spent w = (acts_of schedule taken, acts-valid script schedule taken w.schedule_valid, refl)
 
   -- A task of it.
-  pub task-stands : (schedule : List Line) (network : Network) (taken : List ℕ) (replies : List Reply) (spent : Bool) (t : ℕ) (task : Task) → IsWorld script schedule network taken replies spent → spent ≡ false → t < script.tasks → slice_get network.tasks.items t ≡ Some task → IsAt script t task (record_at script no_rules schedule taken)
+  pub task-stands : (schedule : List Line) (network : Network) (taken : List ℕ) (replies : List Reply) (spent : Bool) (t : ℕ) (task : Task) → IsWorld script rules schedule network taken replies spent → spent ≡ false → t < script.tasks → slice_get network.tasks.items t ≡ Some task → IsAt script rules t task (record_at script rules schedule taken)
   task-stands schedule network taken replies spent t task w free l at = record {
     recorded = recorded schedule network taken replies spent w;
     known = l;
-    stands = subst (TaskAt script (record_at script no_rules schedule taken) t) at ((w.stands free).tasks t l);
+    stands = subst (TaskAt script rules (record_at script rules schedule taken) t) at ((w.stands free).tasks t l);
   }
 
-  one-more : (schedule : List Line) (old new : List ℕ) (n : ℕ) (act : Act) → act_at schedule n ≡ Some act → new ≡ old ++ n ∷ [] → record_at script no_rules schedule new ≡ performed script no_rules (record_at script no_rules schedule old) act
-  one-more schedule old new n act at push = ap (record_at script no_rules schedule) push ∙ record-more script no_rules schedule old n act at
+  one-more : (schedule : List Line) (old new : List ℕ) (n : ℕ) (act : Act) → act_at schedule n ≡ Some act → new ≡ old ++ n ∷ [] → record_at script rules schedule new ≡ performed script rules (record_at script rules schedule old) act
+  one-more schedule old new n act at push = ap (record_at script rules schedule) push ∙ record-more script rules schedule old n act at
 
-  pub line-stands : (schedule : List Line) (old new : List ℕ) (n : ℕ) (act : Act) (network : Network) → act_at schedule n ≡ Some act → new ≡ old ++ n ∷ [] → Stands script network (performed script no_rules (record_at script no_rules schedule old) act) → Stands script network (record_at script no_rules schedule new)
-  line-stands schedule old new n act network at push h = subst (Stands script network) (sym (one-more schedule old new n act at push)) h
+  pub line-stands : (schedule : List Line) (old new : List ℕ) (n : ℕ) (act : Act) (network : Network) → act_at schedule n ≡ Some act → new ≡ old ++ n ∷ [] → Stands script rules network (performed script rules (record_at script rules schedule old) act) → Stands script rules network (record_at script rules schedule new)
+  line-stands schedule old new n act network at push h = subst (Stands script rules network) (sym (one-more schedule old new n act at push)) h
 
-  pub line-replies : (schedule : List Line) (old new : List ℕ) (n : ℕ) (act : Act) (reply : Reply) → act_at schedule n ≡ Some act → new ≡ old ++ n ∷ [] → (performed script no_rules (record_at script no_rules schedule old) act).replies ≡ (record_at script no_rules schedule old).replies ++ reply ∷ [] → (record_at script no_rules schedule new).replies ≡ (record_at script no_rules schedule old).replies ++ reply ∷ []
+  pub line-replies : (schedule : List Line) (old new : List ℕ) (n : ℕ) (act : Act) (reply : Reply) → act_at schedule n ≡ Some act → new ≡ old ++ n ∷ [] → (performed script rules (record_at script rules schedule old) act).replies ≡ (record_at script rules schedule old).replies ++ reply ∷ [] → (record_at script rules schedule new).replies ≡ (record_at script rules schedule old).replies ++ reply ∷ []
   line-replies schedule old new n act reply at push h = ap (λ (r : Run). r.replies) (one-more schedule old new n act at push) ∙ h
 
-  pub first-stands : (schedule : List Line) (network : Network) (taken : List ℕ) → taken ≡ [] → Stands script network start → Stands script network (record_at script no_rules schedule taken)
-  first-stands schedule network taken e h = subst (Stands script network) (sym (ap (record_at script no_rules schedule) e ∙ record-first script no_rules schedule)) h
+  pub first-stands : (schedule : List Line) (network : Network) (taken : List ℕ) → taken ≡ [] → Stands script rules network start → Stands script rules network (record_at script rules schedule taken)
+  first-stands schedule network taken e h = subst (Stands script rules network) (sym (ap (record_at script rules schedule) e ∙ record-first script rules schedule)) h
 
-  pub first-replies : (schedule : List Line) (taken : List ℕ) → taken ≡ [] → [] ≡ (record_at script no_rules schedule taken).replies
-  first-replies schedule taken e = sym (ap (λ (r : Run). r.replies) (ap (record_at script no_rules schedule) e ∙ record-first script no_rules schedule))
+  pub first-replies : (schedule : List Line) (taken : List ℕ) → taken ≡ [] → [] ≡ (record_at script rules schedule taken).replies
+  first-replies schedule taken e = sym (ap (λ (r : Run). r.replies) (ap (record_at script rules schedule) e ∙ record-first script rules schedule))
 
   -- Its journal is atomic.
-  pub world-atomic : HoldsOfRuns (λ script rules r. AtomicInTime script rules (reverse r.journal)) → (schedule : List Line) (network : Network) (taken : List ℕ) (replies : List Reply) (spent : Bool) (journal : List Event) → IsWorld script schedule network taken replies spent → spent ≡ false → journal ≡ network.journal → AtomicInTime script no_rules journal
+  pub world-atomic : HoldsOfRuns (λ script rules r. AtomicInTime script rules (reverse r.journal)) → (schedule : List Line) (network : Network) (taken : List ℕ) (replies : List Reply) (spent : Bool) (journal : List Event) → IsWorld script rules schedule network taken replies spent → spent ≡ false → journal ≡ network.journal → AtomicInTime script rules journal
   unfolding record_of
   world-atomic law schedule network taken replies spent journal w free told =
-      subst (AtomicInTime script no_rules) (sym (told ∙ (w.stands free).journal))
-      (law script no_rules spells_packet packet_size refusal (acts_of schedule taken) (acts-valid script schedule taken w.schedule_valid))
+      subst (AtomicInTime script rules) (sym (told ∙ (w.stands free).journal))
+      (law script rules spells_packet packet_size refusal (acts_of schedule taken) (acts-valid script schedule taken w.schedule_valid))

@@ -1,22 +1,23 @@
 -- What a line makes of what is network.
 use Rattle.std.specs.Prelude.{◌≡◌, ℕ, ◌+◌, ◌*◌, ◌==◌, List, [], ◌∷◌, ◌++◌, length, map, filter, slice_get, option_map}
 use Rattle.lapi_base.specs.declared.script.Script.{Script}
+use Rattle.lapi_base.specs.declared.rule.Rules.{Rules}
 use Rattle.lapi_base.specs.declared.schedule.Act.{Act}
 use Rattle.lapi_base.specs.declared.reply.Reply.{Reply}
 use Rattle.lapi_base.specs.declared.wire.WireEntry.{WireEntry}
 use Rattle.lapi_base.specs.Record.Wires.{Run}
-use Rattle.lapi_base.specs.Record.WorldView.{no_rules, IsRecord, performed}
+use Rattle.lapi_base.specs.Record.WorldView.{IsRecord, performed}
 use Rattle.lapi_task.specs.declared.outcome.Outcome.{Outcome}
 use Rattle.lapi_world.specs.declared.network.Network.{Network}
 use Rattle.lapi_world.specs.Stands.{Stands}
 
 -- what stood for a record stands for it with this act
-abbrev pub KeepsRecord : Script → Act → (old new : Network) → Type 0
-KeepsRecord script act old new = (r : Run) → IsRecord script no_rules r → Stands script old r → Stands script new (performed script no_rules r act)
+abbrev pub KeepsRecord : Script → Rules → Act → (old new : Network) → Type 0
+KeepsRecord script rules act old new = (r : Run) → IsRecord script rules r → Stands script rules old r → Stands script rules new (performed script rules r act)
 
 -- and this is the reply to the act
-abbrev pub Answers : Script → Act → Network → Reply → Type 0
-Answers script act old reply = (r : Run) → IsRecord script no_rules r → Stands script old r → (performed script no_rules r act).replies ≡ r.replies ++ reply ∷ []
+abbrev pub Answers : Script → Rules → Act → Network → Reply → Type 0
+Answers script rules act old reply = (r : Run) → IsRecord script rules r → Stands script rules old r → (performed script rules r act).replies ≡ r.replies ++ reply ∷ []
 
 -- the bytes of the entries that go from task t onto the wire at this place
 abbrev pub bytes_at : (tasks t place : ℕ) → List WireEntry → List (List ℕ)

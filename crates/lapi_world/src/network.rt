@@ -1,22 +1,25 @@
 ghost use Rattle.std.specs.Prelude.{◌≡◌, ◌+◌, ◌*◌, ◌<◌, ◌≤◌, true, [], ◌++◌, length, map, replicate, slice_get, Some, OnOk, IfOk};
 ghost use Rattle.std.specs.List.{AllByRecursion};
+ghost use Rattle.lapi_base.specs.declared.rule.Rules.{Rules};
 ghost use Rattle.lapi_base.specs.declared.script.Script.{Script};
 ghost use Rattle.lapi_base.specs.declared.schedule.Act.TheVariants.{Step, Poll, Tick, Deliver};
 ghost use Rattle.lapi_base.specs.declared.wire.WireEntry.{WireEntry};
 ghost use Rattle.lapi_base.specs.Input.Built.{is_built_act};
 ghost use Rattle.lapi_base.specs.Record.Final.{is_quiet};
 ghost use Rattle.lapi_base.specs.Record.Wires.{Run, start};
-ghost use Rattle.lapi_base.specs.Record.WorldView.{no_rules, IsRecord};
+ghost use Rattle.lapi_base.specs.Record.WorldView.{IsRecord};
 ghost use Rattle.lapi_base.specs.Packet.Spelling.{spells_packet};
 ghost use Rattle.lapi_base.specs.Record.Valid.{ValidAct};
 ghost use Rattle.lapi_base.specs.Packet.PacketBytes as written;
+ghost use Rattle.lapi_handlers.specs.Handlers.{rules_of};
 ghost use Rattle.lapi_task.specs.Apart.{TasksStayApart};
 ghost use Rattle.lapi_task.specs.Supported.{IsSupported};
-ghost use Rattle.lapi_world.specs.Stands.{Stands, StandsForOne, TasksStand};
+ghost use Rattle.lapi_world.specs.Stands.{HaveRules, Stands, StandsForOne, TasksStand};
 ghost use Rattle.lapi_world.specs.Grows.{KeepsRecord, Answers, ArePut, IsAdded};
 
 use crate::wire::Wire;
 use lapi_base::{Act, Bytes, Entries, Event, Events, Memory, Reply, Script, WireEntry};
+use lapi_handlers::Handlers;
 use lapi_task::{Outcome, Task, tasks_stay_apart};
 use std::alloc::Global;
 
@@ -31,11 +34,11 @@ pub struct Network {
 
 impl Network {
     /// Nothing happened yet.
-    pub fn new(alloc: Global, script: &Script) -> Result<Network, Memory>
+    pub fn new(alloc: Global, script: &Script, header_count: u32) -> Result<Network, Memory>
         requires { IsSupported script.now }
-        ensures { IfOk result (λ network. Stands script.now network start) }
+        ensures { IfOk result (λ network. (rules : Rules) → HaveRules rules header_count → Stands script.now rules network start) }
     {
-        let tasks = new_tasks(alloc, script)?;
+        let tasks = new_tasks(alloc, script, header_count)?;
         let wires = new_wires(alloc, script.tasks * script.tasks)?;
         Ok(Network {
             tasks,
@@ -60,7 +63,7 @@ impl Network {
     /// What stands on the wire from `a` to `b`.
     pub fn entries(&self, tasks: u32, a: u32, b: u32) -> &[Bytes]
         requires { (a < tasks) × (b < tasks) × (tasks ≤ 8) }
-        ensures { (script : Script) (r : Run) → script.tasks ≡ tasks → Stands script self.now r → result.now ≡ map written.packet (r.wire a b) }
+        ensures { (script : Script) (rules : Rules) (r : Run) → script.tasks ≡ tasks → Stands script rules self.now r → result.now ≡ map written.packet (r.wire a b) }
     {
         match self.wires.as_slice().get(place(tasks, a, b)) {
             Some(wire) => wire.entries(),
@@ -69,19 +72,25 @@ impl Network {
     }
 
     /// What a schedule line of these forms does.
-    pub fn perform(&mut self, alloc: Global, script: &Script, act: &Act) -> Result<Reply, Memory>
+    pub fn perform(
+        &mut self,
+        alloc: Global,
+        script: &Script,
+        handlers: &Handlers,
+        act: &Act,
+    ) -> Result<Reply, Memory>
         requires script { IsSupported script.now }
         requires act { ValidAct script.now spells_packet act.now × (is_built_act act.now ≡ true) }
-        requires stands { StandsForOne script.now self.old }
-        ensures ok { OnOk result (KeepsRecord script.now act.now self.old self.new) }
-        ensures reply { IfOk result (Answers script.now act.now self.old) }
+        requires stands { StandsForOne script.now (rules_of handlers.now) self.old }
+        ensures ok { OnOk result (KeepsRecord script.now (rules_of handlers.now) act.now self.old self.new) }
+        ensures reply { IfOk result (Answers script.now (rules_of handlers.now) act.now self.old) }
         ensures count { length self.new.tasks.items ≡ length self.old.tasks.items }
     {
         match act {
             Act::Step(t) => self.step(alloc, script, *t),
             Act::Poll(t) => self.poll(alloc, script, *t),
             Act::Tick(t) => self.tick(alloc, script, *t),
-            Act::Deliver { a, b, k } => self.deliver(alloc, script, *a, *b, *k),
+            Act::Deliver { a, b, k } => self.deliver(alloc, script, handlers, *a, *b, *k),
             Act::Cut { .. } | Act::Inject { .. } | Act::Begin { .. } | Act::End { .. } =>
                 unreachable!(),
         }
@@ -90,14 +99,14 @@ impl Network {
     fn step(&mut self, alloc: Global, script: &Script, t: u32) -> Result<Reply, Memory>
         requires script { IsSupported script.now }
         requires task { t < script.now.tasks }
-        requires stands { StandsForOne script.now self.old }
-        ensures ok { OnOk result (KeepsRecord script.now (Step t) self.old self.new) }
-        ensures reply { IfOk result (Answers script.now (Step t) self.old) }
+        requires stands { (rules : Rules) × StandsForOne script.now rules self.old }
+        ensures ok { OnOk result ((rules : Rules) → KeepsRecord script.now rules (Step t) self.old self.new) }
+        ensures reply { IfOk result (λ reply. (rules : Rules) → Answers script.now rules (Step t) self.old reply) }
         ensures count { length self.new.tasks.items ≡ length self.old.tasks.items }
     {
         let mut out = Outcome::new(alloc);
         let task = &mut self.tasks[t as usize];
-        let reply = task.step(script, &mut out)?;
+        let reply = task.step(&mut out)?;
         self.add(script.tasks, t, out)?;
         Ok(reply)
     }
@@ -105,14 +114,14 @@ impl Network {
     fn poll(&mut self, alloc: Global, script: &Script, t: u32) -> Result<Reply, Memory>
         requires script { IsSupported script.now }
         requires task { t < script.now.tasks }
-        requires stands { StandsForOne script.now self.old }
-        ensures ok { OnOk result (KeepsRecord script.now (Poll t) self.old self.new) }
-        ensures reply { IfOk result (Answers script.now (Poll t) self.old) }
+        requires stands { (rules : Rules) × StandsForOne script.now rules self.old }
+        ensures ok { OnOk result ((rules : Rules) → KeepsRecord script.now rules (Poll t) self.old self.new) }
+        ensures reply { IfOk result (λ reply. (rules : Rules) → Answers script.now rules (Poll t) self.old reply) }
         ensures count { length self.new.tasks.items ≡ length self.old.tasks.items }
     {
         let mut out = Outcome::new(alloc);
         let task = &mut self.tasks[t as usize];
-        task.poll(alloc, script, &mut out)?;
+        task.poll(alloc, &mut out)?;
         self.add(script.tasks, t, out)?;
         Ok(Reply::Did)
     }
@@ -120,9 +129,9 @@ impl Network {
     fn tick(&mut self, alloc: Global, script: &Script, t: u32) -> Result<Reply, Memory>
         requires script { IsSupported script.now }
         requires task { t < script.now.tasks }
-        requires stands { StandsForOne script.now self.old }
-        ensures ok { OnOk result (KeepsRecord script.now (Tick t) self.old self.new) }
-        ensures reply { IfOk result (Answers script.now (Tick t) self.old) }
+        requires stands { (rules : Rules) × StandsForOne script.now rules self.old }
+        ensures ok { OnOk result ((rules : Rules) → KeepsRecord script.now rules (Tick t) self.old self.new) }
+        ensures reply { IfOk result (λ reply. (rules : Rules) → Answers script.now rules (Tick t) self.old reply) }
         ensures count { length self.new.tasks.items ≡ length self.old.tasks.items }
     {
         let mut out = Outcome::new(alloc);
@@ -137,15 +146,16 @@ impl Network {
         &mut self,
         alloc: Global,
         script: &Script,
+        handlers: &Handlers,
         a: u32,
         b: u32,
         k: u32,
     ) -> Result<Reply, Memory>
         requires script { IsSupported script.now }
         requires tasks { (a < script.now.tasks) × (b < script.now.tasks) }
-        requires stands { StandsForOne script.now self.old }
-        ensures ok { OnOk result (KeepsRecord script.now (Deliver a b k) self.old self.new) }
-        ensures reply { IfOk result (Answers script.now (Deliver a b k) self.old) }
+        requires stands { StandsForOne script.now (rules_of handlers.now) self.old }
+        ensures ok { OnOk result (KeepsRecord script.now (rules_of handlers.now) (Deliver a b k) self.old self.new) }
+        ensures reply { IfOk result (Answers script.now (rules_of handlers.now) (Deliver a b k) self.old) }
         ensures count { length self.new.tasks.items ≡ length self.old.tasks.items }
     {
         let wire = &self.wires[place(script.tasks, a, b)];
@@ -154,14 +164,14 @@ impl Network {
         };
         let mut out = Outcome::new(alloc);
         let task = &mut self.tasks[b as usize];
-        task.receive(alloc, a, entry, &mut out)?;
+        task.receive(alloc, a, entry, handlers, &mut out)?;
         self.add(script.tasks, b, out)?;
         Ok(Reply::Did)
     }
 
     /// Whether every task is still.
     pub fn is_quiet(&self) -> bool
-        ensures { (script : Script) (r : Run) → IsSupported script → IsRecord script no_rules r → Stands script self.now r → result ≡ is_quiet script no_rules r }
+        ensures { (script : Script) (rules : Rules) (r : Run) → IsRecord script rules r → Stands script rules self.now r → result ≡ is_quiet script rules r }
     {
         for task in &self.tasks {
             if !task.still() {
@@ -211,13 +221,14 @@ fn put_all(wires: &mut Vec<Wire>, tasks: u32, t: u32, entries: Entries) -> Resul
     Ok(())
 }
 
-fn new_tasks(alloc: Global, script: &Script) -> Result<Vec<Task>, Memory>
+fn new_tasks(alloc: Global, script: &Script, header_count: u32) -> Result<Vec<Task>, Memory>
     requires { IsSupported script.now }
-    ensures { IfOk result (λ tasks. (length tasks.items ≡ script.now.tasks) × TasksStand script.now start tasks.items) }
+    ensures count { IfOk result (λ tasks. length tasks.items ≡ script.now.tasks) }
+    ensures stand { IfOk result (λ tasks. (rules : Rules) → HaveRules rules header_count → TasksStand script.now rules start tasks.items) }
 {
     let mut tasks = Vec::new(alloc);
     for t in 0..script.tasks {
-        let task = Task::new(alloc, script, t)?;
+        let task = Task::new(alloc, script, t, header_count)?;
         tasks.push(task)?;
     }
     Ok(tasks)

@@ -1,15 +1,19 @@
 ghost use Rattle.std.specs.Prelude.{◌≡◌, ◌<◌, true, false, ◌∷◌, [], ◌++◌, length, map, reverse, OnOk, OnErr, IfOk, Some};
 ghost use Rattle.lapi_base.specs.Record.Atomic.{AtomicInTime};
 ghost use Rattle.lapi_base.specs.Record.Final.{is_quiet};
-ghost use Rattle.lapi_base.specs.Record.WorldView.{view_record, no_rules, act_at};
+ghost use Rattle.lapi_base.specs.Record.WorldView.{view_record, act_at};
 ghost use Rattle.lapi_base.specs.Input.Built.{IsBuilt};
 ghost use Rattle.lapi_base.specs.Packet.Spelling.{spells_packet};
 ghost use Rattle.lapi_base.specs.Record.Valid.{ValidScript, ValidSchedule};
 ghost use Rattle.lapi_base.specs.Packet.PacketBytes as written;
+ghost use Rattle.lapi_handlers.specs.Handlers.{rules_of};
 ghost use Rattle.lapi_task.specs.HasEffect.{IsAt};
 
 use crate::network::Network;
-use lapi_base::{Act, Bytes, Event, Line, Memory, Numbers, Replies, Reply, Schedule, Script};
+use lapi_base::{
+    Act, Bytes, Event, Line, Memory, Numbers, Replies, Reply, Rules, Schedule, Script,
+};
+use lapi_handlers::Handlers;
 use lapi_laws::journal_is_atomic;
 use lapi_task::Task;
 use std::alloc::Global;
@@ -22,6 +26,8 @@ use std::marker::Model;
 #[derive(Drop)]
 pub struct World {
     script: Script,
+    /// What the handlers answer.
+    rules: Rules,
     schedule: Schedule,
     network: Network,
     taken: Numbers,
@@ -30,27 +36,34 @@ pub struct World {
 }
 
 impl Model for World {
-    ghost use Rattle.lapi_base.specs.Record.WorldView.{WorldView, no_rules};
+    ghost use Rattle.lapi_base.specs.Record.WorldView.{WorldView};
     ghost use Rattle.lapi_world.specs.Stands.{IsWorld};
 
     ghost Value = { WorldView };
 
-    ghost view = { λ w. record { script = w.script; rules = no_rules; schedule = w.schedule; taken = w.taken; spent = w.spent } };
+    ghost view = { λ w. record { script = w.script; rules = w.rules; schedule = w.schedule; taken = w.taken; spent = w.spent } };
 
-    ghost invariant = { λ w. IsWorld w.script w.schedule w.network w.taken w.replies w.spent };
+    ghost invariant = { λ w. IsWorld w.script w.rules w.schedule w.network w.taken w.replies w.spent };
 }
 
 impl World {
     /// The world of a script and a schedule before the first line.
-    pub fn new(alloc: Global, script: Script, schedule: Schedule) -> Result<World, Memory>
+    pub fn new(
+        alloc: Global,
+        script: Script,
+        schedule: Schedule,
+        handlers: &Handlers,
+    ) -> Result<World, Memory>
         requires script { ValidScript script }
         requires schedule { ValidSchedule script spells_packet schedule }
         requires built { IsBuilt (record { script = script; schedule = schedule }) }
-        ensures { IfOk result (λ w. w ≡ record { script = script; rules = no_rules; schedule = schedule; taken = []; spent = false }) }
+        ensures { IfOk result (λ w. w ≡ record { script = script; rules = rules_of handlers.now; schedule = schedule; taken = []; spent = false }) }
     {
-        let network = Network::new(alloc, &script)?;
+        let rules = handlers.rules(alloc)?;
+        let network = Network::new(alloc, &script, handlers.header_count())?;
         Ok(World {
             script,
+            rules,
             schedule,
             network,
             taken: Numbers::new(alloc),
@@ -59,9 +72,10 @@ impl World {
         })
     }
 
-    /// Performs schedule line `n`, from 0.
-    pub fn line(&mut self, alloc: Global, n: u32) -> Result<Reply, Memory>
-        requires { n < length self.old.schedule }
+    /// Performs schedule line `n`, from 0, with handlers of the rules that the world was made with.
+    pub fn line(&mut self, alloc: Global, handlers: &Handlers, n: u32) -> Result<Reply, Memory>
+        requires line { n < length self.old.schedule }
+        requires rules { rules_of handlers.now ≡ self.old.rules }
         ensures ok { OnOk result ((self.old.spent ≡ false) × (self.new ≡ record self.old { taken = self.old.taken ++ n ∷ [] })) }
         ensures reply { IfOk result (λ reply. (view_record self.new).replies ≡ (view_record self.old).replies ++ reply ∷ []) }
         ensures err { OnErr result (self.new ≡ record self.old { spent = true }) }
@@ -71,7 +85,7 @@ impl World {
         }
         self.spent = true;
         let act = act_at(self.schedule.as_slice(), n);
-        let reply = self.network.perform(alloc, &self.script, act)?;
+        let reply = self.network.perform(alloc, &self.script, handlers, act)?;
         self.replies.push(reply)?;
         self.taken.push(n)?;
         self.spent = false;
@@ -125,8 +139,7 @@ impl World {
     /// Task `t`, as the lines taken left it.
     pub fn task(&self, t: u32) -> &Task
         requires { t < self.now.script.tasks }
-        ensures stands { self.now.spent ≡ false → IsAt self.now.script t result.now (view_record self.now) }
-        ensures rules { self.now.rules ≡ no_rules }
+        ensures { self.now.spent ≡ false → IsAt self.now.script self.now.rules t result.now (view_record self.now) }
     {
         self.network.task(t)
     }

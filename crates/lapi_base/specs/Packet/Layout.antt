@@ -2,6 +2,7 @@
 -- them are this project's own.
 use Rattle.std.specs.Prelude.{ℕ, Bool, true, false, cond, ◌==◌}
 use Rattle.lapi_base.specs.declared.script.Script.{Script}
+use Rattle.lapi_base.specs.declared.sizes.Sizes.{Sizes}
 use Rattle.lapi_base.specs.Packet.Format.{Size, Four, Eight}
 
 pub data Layout : Type 0 where
@@ -64,6 +65,10 @@ most_lines Second = 5000
 abbrev pub most_injected : Layout → ℕ
 most_injected First = 640
 most_injected Second = 1280
+
+-- The layout and the sizes of a script.
+abbrev pub sizes_of : Script → Sizes
+sizes_of s = record { layout = s.layout; tasks = s.tasks; memory = s.memory; counters = s.counters; workers = s.workers }
 
 -- The same of a script.
 unfoldable pub unit_of : Script → ℕ

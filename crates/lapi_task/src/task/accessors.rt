@@ -6,13 +6,12 @@ ghost use Rattle.lapi_base.specs.Record.Counters.{count, reads};
 ghost use Rattle.lapi_base.specs.Record.Jobs.{queue, busy};
 ghost use Rattle.lapi_base.specs.Record.Wires.{Run, is_delivered};
 ghost use Rattle.lapi_base.specs.Record.Refusals.{next, refusals};
-ghost use Rattle.lapi_base.specs.Record.WorldView.{no_rules};
 ghost use Rattle.lapi_base.specs.Record.Values.{memory_bytes};
 ghost use Rattle.lapi_window.specs.RecvWindow.{is_taken};
 ghost use Rattle.lapi_reassembly.specs.Partials.{partial};
 ghost use Rattle.lapi_link.specs.Receiver.{partial_of};
 ghost use Rattle.lapi_task.specs.Sends.{HasNumbers};
-ghost use Rattle.lapi_task.specs.StandsFor.{StandsFor};
+ghost use Rattle.lapi_task.specs.StandsFor.{ForEachRecord, ForSomeRecord};
 
 use crate::task::Task;
 use lapi_base::Refusal;
@@ -24,80 +23,80 @@ use lapi_window::{RecvWindow, SendWindow};
 impl Task {
     /// How many statements were issued, refused or passed: the number of the next one.
     pub fn next(&self) -> u32
-        ensures { (script : Script) (t : ℕ) (r : Run) → StandsFor script t self.now r → result ≡ next r.journal t }
+        ensures { ForEachRecord self.now (λ script rules t r. result ≡ next r.journal t) }
     {
-        self.next
+        self.state.next
     }
 
     pub fn memory(&self) -> &TaskMemory
-        ensures { (script : Script) (t : ℕ) (r : Run) → StandsFor script t self.now r → result.now ≡ memory_bytes script no_rules r.journal t }
+        ensures { ForEachRecord self.now (λ script rules t r. result.now ≡ memory_bytes script rules r.journal t) }
     {
-        &self.memory
+        &self.state.memory
     }
 
     /// The value of counter `c`.
     pub fn counter(&self, c: u32) -> u64
-        requires { (script : Script) × (t : ℕ) × (r : Run) × StandsFor script t self.now r × (c < script.counters) }
-        ensures { (script : Script) (t : ℕ) (r : Run) → StandsFor script t self.now r → c < script.counters → result ≡ count script no_rules r.journal t c }
+        requires { ForSomeRecord self.now (λ script rules t r. c < script.counters) }
+        ensures { ForEachRecord self.now (λ script rules t r. c < script.counters → result ≡ count script rules r.journal t c) }
     {
-        self.counters.get(c)
+        self.state.counters.get(c)
     }
 
     /// The counters that were read, each with the number of the statement, in order.
     pub fn reads(&self) -> &[(u32, u64)]
-        ensures { (script : Script) (t : ℕ) (r : Run) → StandsFor script t self.now r → result.now ≡ reads script no_rules r.journal t }
+        ensures { ForEachRecord self.now (λ script rules t r. result.now ≡ reads script rules r.journal t) }
     {
-        self.reads.as_slice()
+        self.state.reads.as_slice()
     }
 
     /// The statements that were refused, each with the reason, in order.
     pub fn refusals(&self) -> &[(u32, Refusal)]
-        ensures { (script : Script) (t : ℕ) (r : Run) → StandsFor script t self.now r → result.now ≡ refusals r.journal t }
+        ensures { ForEachRecord self.now (λ script rules t r. result.now ≡ refusals r.journal t) }
     {
-        self.refusals.as_slice()
+        self.state.refusals.as_slice()
     }
 
     /// How many jobs wait for a worker. No form that is performed makes one.
     pub fn queued(&self) -> u32
-        ensures { (script : Script) (t : ℕ) (r : Run) → StandsFor script t self.now r → result ≡ length (queue script no_rules r.journal t) }
+        ensures { ForEachRecord self.now (λ script rules t r. result ≡ length (queue script rules r.journal t)) }
     {
         0
     }
 
     /// How many workers run a job.
     pub fn running(&self) -> u32
-        ensures { (script : Script) (t : ℕ) (r : Run) → StandsFor script t self.now r → result ≡ length (busy script r.journal t) }
+        ensures { ForEachRecord self.now (λ script rules t r. result ≡ length (busy script r.journal t)) }
     {
         0
     }
 
     /// The numbers of the link to task `b`.
     pub fn sending(&self, b: u32) -> &SendWindow
-        requires { (script : Script) × (t : ℕ) × (r : Run) × StandsFor script t self.now r × (b < script.tasks) }
-        ensures { (script : Script) (t : ℕ) (r : Run) → StandsFor script t self.now r → b < script.tasks → HasNumbers script result.now r t b }
+        requires { ForSomeRecord self.now (λ script rules t r. b < script.tasks) }
+        ensures { ForEachRecord self.now (λ script rules t r. b < script.tasks → HasNumbers script result.now r t b) }
     {
         self.senders[b as usize].window()
     }
 
     /// The numbers taken from task `a`.
     pub fn receiving(&self, a: u32) -> &RecvWindow
-        requires { (script : Script) × (t : ℕ) × (r : Run) × StandsFor script t self.now r × (a < script.tasks) }
-        ensures { (script : Script) (t : ℕ) (r : Run) → StandsFor script t self.now r → a < script.tasks → (n : ℕ) → is_taken result.now n ≡ is_delivered r a t n }
+        requires { ForSomeRecord self.now (λ script rules t r. a < script.tasks) }
+        ensures { ForEachRecord self.now (λ script rules t r. a < script.tasks → (n : ℕ) → is_taken result.now n ≡ is_delivered r a t n) }
     {
         self.receivers[a as usize].window()
     }
 
     /// The messages from task `a` of which some fragments have come and some are missing.
     pub fn partials(&self, a: u32) -> &Partials
-        requires { (script : Script) × (t : ℕ) × (r : Run) × StandsFor script t self.now r × (a < script.tasks) }
-        ensures { (script : Script) (t : ℕ) (r : Run) → StandsFor script t self.now r → a < script.tasks → (m : MsgName) → partial result.now m ≡ partial_of script (r.handed a t) m }
+        requires { ForSomeRecord self.now (λ script rules t r. a < script.tasks) }
+        ensures { ForEachRecord self.now (λ script rules t r. a < script.tasks → (m : MsgName) → partial result.now m ≡ partial_of script (r.handed a t) m) }
     {
         self.receivers[a as usize].partials()
     }
 
     pub fn counters(&self) -> &Counters
-        ensures { (script : Script) (t : ℕ) (r : Run) → StandsFor script t self.now r → (c : ℕ) → c < script.counters → slice_index result.now c ≡ count script no_rules r.journal t c }
+        ensures { ForEachRecord self.now (λ script rules t r. (c : ℕ) → c < script.counters → slice_index result.now c ≡ count script rules r.journal t c) }
     {
-        &self.counters
+        &self.state.counters
     }
 }

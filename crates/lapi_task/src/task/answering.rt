@@ -1,15 +1,14 @@
 //! How a task answers what it took, and what it notes of the answers of others.
 ghost use Rattle.std.specs.Prelude.{◌≡◌, ℕ, ◌<◌, [], ◌∷◌, ◌++◌, List, OnOk, slice_get, Some};
+ghost use Rattle.lapi_base.specs.declared.rule.Rules.{Rules};
 ghost use Rattle.lapi_base.specs.declared.script.Script.{Script};
 ghost use Rattle.lapi_base.specs.declared.packet.Packet.{Packet as ThePacket};
 ghost use Rattle.lapi_base.specs.declared.packet.Packet.TheVariants.{Ack};
 ghost use Rattle.lapi_base.specs.Record.Wires.{Run};
 ghost use Rattle.lapi_base.specs.Record.Acts.{deliver};
-ghost use Rattle.lapi_base.specs.Record.WorldView.{no_rules};
 ghost use Rattle.lapi_task.specs.declared.outcome.Outcome.{Outcome};
 ghost use Rattle.lapi_task.specs.Acknowledging.{HasTaken, answer};
 ghost use Rattle.lapi_task.specs.HasEffect.{IsAt, HasEffect, IsOnWire};
-ghost use Rattle.lapi_task.specs.Supported.{IsSupported};
 
 use crate::packet::spelled;
 use crate::task::Task;
@@ -29,7 +28,7 @@ impl Task {
     {
         let (base, bits) = self.receivers[from as usize].ack();
         let packet = Packet::Ack {
-            from: self.number,
+            from: self.state.number,
             to: from,
             base,
             bits,
@@ -41,7 +40,7 @@ impl Task {
     /// Notes an acknowledgement that came from task `from`.
     pub(super) fn acknowledged(&mut self, from: u32, base: u32, bits: u32)
         requires { (x : ℕ) × (y : ℕ) × IsOnWire self.old from (Ack x y base bits) }
-        ensures { (script : Script) (t k x y : ℕ) (r : Run) (out : Outcome) → IsSupported script → IsAt script t self.old r → from < script.tasks → slice_get (r.wire from t) k ≡ Some (Ack x y base bits) → HasEffect script t r (deliver script no_rules r from t k) self.new out out }
+        ensures { (script : Script) (rules : Rules) (t k x y : ℕ) (r : Run) (out : Outcome) → IsAt script rules t self.old r → from < script.tasks → slice_get (r.wire from t) k ≡ Some (Ack x y base bits) → HasEffect script rules t r (deliver script rules r from t k) self.new out out }
     {
         self.senders[from as usize].acked(base, bits);
     }

@@ -1,44 +1,36 @@
 //! A poll: what was issued is copied, and what the windows allow is sent.
-ghost use Rattle.std.specs.Prelude.{◌≡◌, ℕ, ◌≤◌, ◌++◌, List, length, OnOk};
+ghost use Rattle.std.specs.Prelude.{◌≡◌, ℕ, ◌≤◌, ◌++◌, length, OnOk};
+ghost use Rattle.lapi_base.specs.declared.rule.Rules.{Rules};
+ghost use Rattle.lapi_base.specs.declared.script.Script.{Script};
 ghost use Rattle.lapi_base.specs.Record.Wires.{Run};
-ghost use Rattle.lapi_base.specs.Record.Acts.{copy_each, ready, poll};
-ghost use Rattle.lapi_base.specs.Record.WorldView.{no_rules};
-ghost use Rattle.lapi_task.specs.Supported.{IsSupported};
-ghost use Rattle.lapi_task.specs.StandsFor.{StandsFor};
-ghost use Rattle.lapi_task.specs.HasEffect.{IsAt, IsAtSome, HasEffect};
+ghost use Rattle.lapi_base.specs.Record.Acts.{poll};
+ghost use Rattle.lapi_task.specs.HasEffect.{IsAt, IsAtSome, Performs};
 ghost use Rattle.lapi_task.specs.Copies.{AllCopied, AllSent, packets_now};
 ghost use Rattle.lapi_task.specs.Sends.{entries_of};
 
 use crate::outcome::Outcome;
 use crate::task::Task;
-use lapi_base::{Entries, Events, Memory, Script};
+use lapi_base::{Entries, Events, Memory};
 use lapi_link::Sender;
 use std::alloc::Global;
 
 impl Task {
     /// Copies what was issued, and sends what the windows allow.
-    pub fn poll(&mut self, alloc: Global, script: &Script, out: &mut Outcome) -> Result<(), Memory>
-        requires script { IsSupported script.now }
-        requires record { IsAtSome script.now self.old }
-        ensures { OnOk result ((t : ℕ) (r : Run) → IsAt script.now t self.old r → HasEffect script.now t r (poll script.now no_rules r t) self.new out.old out.new) }
+    pub fn poll(&mut self, alloc: Global, out: &mut Outcome) -> Result<(), Memory>
+        requires { IsAtSome self.old }
+        ensures { OnOk result (Performs poll self.old self.new out.old out.new) }
     {
-        self.copy_all(alloc, script, &mut out.events)?;
-        send_all(&mut self.senders, script.tasks, &mut out.entries)
+        self.copy_all(alloc, &mut out.events)?;
+        send_all(&mut self.senders, self.sizes.tasks, &mut out.entries)
     }
 
     /// Copies the data of all statements whose data wait.
-    fn copy_all(
-        &mut self,
-        alloc: Global,
-        script: &Script,
-        events: &mut Events,
-    ) -> Result<(), Memory>
-        requires script { IsSupported script.now }
-        requires record { IsAtSome script.now self.old }
-        ensures { OnOk result ((t : ℕ) (r : Run) → IsAt script.now t self.old r → AllCopied script.now t r self.new events.old events.new) }
+    fn copy_all(&mut self, alloc: Global, events: &mut Events) -> Result<(), Memory>
+        requires { IsAtSome self.old }
+        ensures { OnOk result ((script : Script) (rules : Rules) (t : ℕ) (r : Run) → IsAt script rules t self.old r → AllCopied script rules t r self.new events.old events.new) }
     {
-        for _copy in 0..self.uncopied.len() {
-            self.copy_next(alloc, script, events)?;
+        for _copy in 0..self.state.uncopied.len() {
+            self.copy_next(alloc, events)?;
         }
         Ok(())
     }

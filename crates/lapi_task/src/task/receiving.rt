@@ -1,5 +1,6 @@
 //! What a task does with what comes to it.
-ghost use Rattle.std.specs.Prelude.{◌≡◌, ℕ, ◌<◌, ◌^◌, ◌∷◌, [], ◌++◌, List, Ok, Err, IfOk, OnOk, length, slice_get, Some};
+ghost use Rattle.std.specs.Prelude.{◌≡◌, ℕ, ◌<◌, ◌≤◌, ◌∷◌, [], ◌++◌, List, Ok, Err, IfOk, OnOk, length, slice_get, Some};
+ghost use Rattle.lapi_base.specs.declared.rule.Rules.{Rules};
 ghost use Rattle.lapi_base.specs.declared.script.Script.{Script};
 ghost use Rattle.lapi_base.specs.declared.packet.Packet.{Packet as ThePacket};
 ghost use Rattle.lapi_base.specs.declared.packet.Packet.TheVariants.{Data};
@@ -7,20 +8,24 @@ ghost use Rattle.lapi_base.specs.declared.reply.Bad.{Bad};
 ghost use Rattle.lapi_base.specs.Record.Arrived.{noted};
 ghost use Rattle.lapi_base.specs.Record.Wires.{Run};
 ghost use Rattle.lapi_base.specs.Record.Acts.{deliver};
-ghost use Rattle.lapi_base.specs.Record.WorldView.{no_rules};
-ghost use Rattle.lapi_base.specs.Packet.Spelling.{Spells, HasSpelling, decoded};
+ghost use Rattle.lapi_base.specs.Packet.Spelling.{Spells, decoded};
+ghost use Rattle.lapi_handlers.specs.Handlers.{rules_of};
 ghost use Rattle.lapi_link.specs.declared.arrival.Arrival.TheVariants as arrivals;
 ghost use Rattle.lapi_link.specs.Receiver.{ReceivingEnd, ReceivesFor, MayArrive, arrival_of};
-ghost use Rattle.lapi_task.specs.Supported.{IsSupported};
 ghost use Rattle.lapi_task.specs.HasEffect.{IsAt, HasEffect, IsOnWire, received_as};
-ghost use Rattle.lapi_task.specs.Landed.{ArrivalMayLand, HeadMayLand, HasArrived, note_packet, with_note, MayTake, HasCome};
+ghost use Rattle.lapi_task.specs.Landed.{ArrivalMayLand, HeadMayLand, HasArrived, note_of, with_note, MayTake, HasCome};
+ghost use Rattle.lapi_task.specs.Outgoing.{AreSpelled};
+ghost use Rattle.lapi_task.specs.StandsFor.{task_unit};
+ghost use Rattle.lapi_base.specs.declared.payload.TheConstants.{PAYLOAD_ROOM};
 
 use crate::counting::announce;
-use crate::note::{append_note, note_of};
+use crate::note::{note_name, note_of};
 use crate::outcome::Outcome;
+use crate::packet::append_message;
 use crate::received::Received;
 use crate::task::Task;
 use lapi_base::{DataPacket, Event, Events, Head, Memory, MsgName, Packet};
+use lapi_handlers::Handlers;
 use lapi_link::{Arrival, Receiver};
 use lapi_packet::decode;
 use lapi_reassembly::Message;
@@ -33,12 +38,13 @@ impl Task {
         alloc: Global,
         from: u32,
         bytes: &[u8],
+        handlers: &Handlers,
         out: &mut Outcome,
     ) -> Result<Received, Memory>
         requires { (p : ThePacket) → Spells p bytes.now → IsOnWire self.old from p }
         ensures refused { (bad : Bad) → decoded bytes.now ≡ Err bad → (result ≡ Ok (Received.Refused bad)) × (self.new ≡ self.old) × (out.new ≡ out.old) }
         ensures kind { IfOk result (λ received. received ≡ received_as (decoded bytes.now)) }
-        ensures effect { OnOk result ((script : Script) (t k : ℕ) (r : Run) (p : ThePacket) → IsSupported script → IsAt script t self.old r → from < script.tasks → Spells p bytes.now → slice_get (r.wire from t) k ≡ Some p → HasEffect script t r (deliver script no_rules r from t k) self.new out.old out.new) }
+        ensures effect { OnOk result ((script : Script) (t k : ℕ) (r : Run) (p : ThePacket) → let rules = rules_of handlers.now in IsAt script rules t self.old r → from < script.tasks → Spells p bytes.now → slice_get (r.wire from t) k ≡ Some p → HasEffect script rules t r (deliver script rules r from t k) self.new out.old out.new) }
     {
         match decode(bytes) {
             Err(bad) => Ok(Received::Refused(bad)),
@@ -62,7 +68,7 @@ impl Task {
         out: &mut Outcome,
     ) -> Result<(), Memory>
         requires { IsOnWire self.old from (Data packet.now) }
-        ensures { OnOk result ((script : Script) (t k : ℕ) (r : Run) → IsSupported script → IsAt script t self.old r → from < script.tasks → slice_get (r.wire from t) k ≡ Some (Data packet.now) → HasEffect script t r (deliver script no_rules r from t k) self.new out.old out.new) }
+        ensures { OnOk result ((script : Script) (rules : Rules) (t k : ℕ) (r : Run) → IsAt script rules t self.old r → from < script.tasks → slice_get (r.wire from t) k ≡ Some (Data packet.now) → HasEffect script rules t r (deliver script rules r from t k) self.new out.old out.new) }
     {
         let arrival = take(&mut self.receivers, alloc, from, packet)?;
         self.take_effect(alloc, from, &arrival, &mut out.events)?;
@@ -77,8 +83,8 @@ impl Task {
         arrival: &Arrival,
         events: &mut Events,
     ) -> Result<(), Memory>
-        requires link { from < length self.old.senders.items }
-        requires allowed { ArrivalMayLand self.old.number from arrival.now self.old.memory self.old.counters }
+        requires link { (from < length self.old.senders.items) × (task_unit self.old ≤ PAYLOAD_ROOM) }
+        requires allowed { ArrivalMayLand (task_unit self.old) self.old.state.number from arrival.now self.old.state.memory self.old.state.counters }
         ensures { OnOk result (HasArrived from arrival.now self.old self.new events.old events.new) }
     {
         match arrival {
@@ -95,18 +101,18 @@ impl Task {
         message: &Message,
         events: &mut Events,
     ) -> Result<(), Memory>
-        requires link { from < length self.old.senders.items }
-        requires allowed { HeadMayLand self.old.number from message.now.name message.now.head message.now.bytes self.old.memory self.old.counters }
+        requires link { (from < length self.old.senders.items) × (task_unit self.old ≤ PAYLOAD_ROOM) }
+        requires allowed { HeadMayLand (task_unit self.old) self.old.state.number from message.now.name message.now.head message.now.bytes self.old.state.memory self.old.state.counters }
         ensures { OnOk result (HasArrived from (arrivals.Whole message.now) self.old self.new events.old events.new) }
     {
         events.push(Event::Land(message.name))?;
         match &message.head {
             Head::Put { at, tgt, cmpl } => {
-                self.memory.write(*at, message.bytes.as_slice());
-                announce(&mut self.counters, *tgt)?;
+                self.state.memory.write(*at, message.bytes.as_slice());
+                announce(&mut self.state.counters, *tgt)?;
                 self.note(alloc, from, message.name, *cmpl, events)
             }
-            Head::Note { cmpl, .. } => announce(&mut self.counters, Some(*cmpl)),
+            Head::Note { cmpl, .. } => announce(&mut self.state.counters, Some(*cmpl)),
             _ => Ok(()),
         }
     }
@@ -120,17 +126,19 @@ impl Task {
         cmpl: Option<u32>,
         events: &mut Events,
     ) -> Result<(), Memory>
-        requires link { from < length self.old.senders.items }
-        requires spelled { (c n : ℕ) → cmpl ≡ Some c → n < 2 ^ 32 → HasSpelling (Data (note_packet self.old.number from n name c)) }
-        ensures senders { OnOk result (self.new.senders.items ≡ with_note self.old.number from name cmpl self.old.senders.items) }
+        requires link { (from < length self.old.senders.items) × (task_unit self.old ≤ PAYLOAD_ROOM) }
+        requires spelled { (c : ℕ) → cmpl ≡ Some c → AreSpelled (task_unit self.old) (note_of self.old.state.number from name c) [] }
+        ensures senders { OnOk result (self.new.senders.items ≡ with_note (task_unit self.old) self.old.state.number from name cmpl self.old.senders.items) }
         ensures events { OnOk result (events.new ≡ events.old ++ noted name cmpl) }
         ensures rest { self.new ≡ record self.old { senders = self.new.senders } }
     {
         let Some(cmpl) = cmpl else {
             return Ok(());
         };
-        append_note(alloc, &mut self.senders, self.number, from, name, cmpl)?;
-        events.push(Event::Copy(note_of(name)))
+        let note = note_of(self.state.number, from, name, cmpl);
+        let sender = &mut self.senders[from as usize];
+        append_message(alloc, sender, self.sizes.unit(), note, &[])?;
+        events.push(Event::Copy(note_name(name)))
     }
 }
 

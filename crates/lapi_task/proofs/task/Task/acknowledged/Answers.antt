@@ -7,9 +7,9 @@ acked-requires c =
     let y = c.requires.1 in
     let w = c.requires.2 in
     record {
-      sent = covers-sent w.script w.run c.args.from w.task w.place x y c.args.base c.args.bits c.args.self.now w.at w.from_known w.entry c.index_mut.result.now c.index_mut.ensures.value;
-      narrow = is-narrow w.script w.run c.args.from w.task w.place x y c.args.base c.args.bits c.args.self.now w.at w.from_known w.entry c.index_mut.result.now c.index_mut.ensures.value w.performed.valid;
+      sent = covers-sent w.script w.rules w.run c.args.from w.task w.place x y c.args.base c.args.bits c.args.self.now w.at w.from_known w.entry c.index_mut.result.now c.index_mut.ensures.value;
+      narrow = is-narrow w.script w.rules w.run c.args.from w.task w.place x y c.args.base c.args.bits c.args.self.now w.at w.from_known w.entry c.index_mut.result.now c.index_mut.ensures.value w.at.stands.calls.supported.valid;
     }
 
 pub returns : goal.returns
-returns c = λ script t k x y r out performed at known entry. acked-does script r c.args.from t k x y c.args.base c.args.bits c.args.self.now at known entry c.index_mut.result.now c.index_mut.ensures.value c.acked.new.self c.acked.ensures out
+returns c = λ script rules t k x y r out at known entry. acked-does script rules r c.args.from t k x y c.args.base c.args.bits c.args.self.now at known entry c.index_mut.result.now c.index_mut.ensures.value c.acked.new.self c.acked.ensures out

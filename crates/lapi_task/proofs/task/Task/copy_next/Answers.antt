@@ -1,41 +1,48 @@
-use Rattle.std.proofs.Common.{ℕ, refl, subst}
+use Rattle.std.proofs.Common.{[], ◌∷◌, ◌++◌, refl, sym, ap, ◌∙◌, subst}
+use Rattle.lapi_base.specs.declared.event.Event.TheVariants.{Copy}
 use Rattle.lapi_base.proofs.Results.{on-ok}
+use Rattle.lapi_task.specs.declared.copy.DataCopy.{DataCopy}
 use Rattle.lapi_task.specs.declared.task.Task.{Task}
-use Rattle.lapi_base.specs.Packet.Layout.{unit_of}
-use Rattle.lapi_task.specs.Copies.{IsCopied}
-use Rattle.lapi_task.proofs.CopyLaws.{popped-is, found-put, no-put, copyable, copied-stands}
+use Rattle.lapi_task.specs.Copies.{IsCopyable, IsCopied}
+use Rattle.lapi_task.specs.StandsFor.{task_unit}
+use Rattle.lapi_task.proofs.CopyLaws.{popped-is, next-put, put_copy, no-statement, found-copy, no-copy, copyable, copied-stands}
 use Rattle.lapi_task.proofs.task.Task.copy_next.Goals as goal
 
-pub unreachable-requires-in_default-put_at : goal.unreachable-requires-in_default-put_at
-unreachable-requires-in_default-put_at c =
-    let t = c.requires.next.0 in
-    let r = c.requires.next.1 in
-    let i = c.requires.next.2 in
-    let rest = c.requires.next.3 in
-    let h = c.requires.next.4 in
-    let pop = popped-is c.pop_front.result c.args.self.now.uncopied.items c.pop_front.new.self.items rest c.in-Some.i i c.pop_front.ensures.items c.in-Some.is h.first in
-    no-put c.args.script.now c.requires.script t c.args.self.now r i rest h c.args.self.now.number c.in-Some.i c.put_at.result h.stands.holds.number pop.0 c.put_at.ensures c.in_default-put_at.is
+pub unreachable-requires-in_default-statement_at : goal.unreachable-requires-in_default-statement_at
+unreachable-requires-in_default-statement_at c =
+    let x = c.requires in
+    let pop = popped-is c.pop_front.result c.args.self.now.state.uncopied.items c.pop_front.new.self.items x.5 c.in-Some.i x.4 c.pop_front.ensures.items c.in-Some.is x.6.first in
+    no-statement x.0 x.1 x.2 c.args.self.now x.3 x.4 x.5 x.6 c.in-Some.i _ pop.0 c.in_default-statement_at.ensures refl
+
+pub unreachable-requires-in_default-of : goal.unreachable-requires-in_default-of
+unreachable-requires-in_default-of c =
+    let x = c.requires in
+    let pop = popped-is c.pop_front.result c.args.self.now.state.uncopied.items c.pop_front.new.self.items x.5 c.in-Some.i x.4 c.pop_front.ensures.items c.in-Some.is x.6.first in
+    no-copy x.0 x.1 x.2 c.args.self.now x.3 x.4 x.5 x.6 c.args.self.now.state.number c.in-Some.i c.in-Some-statement_at.statement.now c.of.result x.6.stands.holds.number pop.0 c.in-Some-statement_at.ensures c.of.ensures c.in_default-of.is
 
 pub copy-requires : goal.copy-requires
 copy-requires c =
-    let t = c.requires.next.0 in
-    let r = c.requires.next.1 in
-    let i = c.requires.next.2 in
-    let rest = c.requires.next.3 in
-    let h = c.requires.next.4 in
-    let script = c.args.script.now in
+    let x = c.requires in
     let task = c.args.self.now in
-    let pop = popped-is c.pop_front.result task.uncopied.items c.pop_front.new.self.items rest c.in-Some.i i c.pop_front.ensures.items c.in-Some.is h.first in
-    let is = found-put script c.requires.script t task r i rest h task.number c.in-Some.i c.put_at.result c.in-Some-put_at.put h.stands.holds.number pop.0 c.put_at.ensures c.in-Some-put_at.is in
-    rw (c.unit.ensures.unit, pop.0) (copyable script c.requires.script t task r i rest h c.in-Some-put_at.put is (record task { uncopied = c.pop_front.new.self }) (record { list = pop.1; others = refl }))
+    let pop = popped-is c.pop_front.result task.state.uncopied.items c.pop_front.new.self.items x.5 c.in-Some.i x.4 c.pop_front.ensures.items c.in-Some.is x.6.first in
+    let is = found-copy x.0 x.1 x.2 task x.3 x.4 x.5 x.6 task.state.number c.in-Some.i c.in-Some-statement_at.statement.now c.of.result c.in-Some-of.copy x.6.stands.holds.number pop.0 c.in-Some-statement_at.ensures c.of.ensures c.in-Some-of.is in
+    let popped : Task = record task { state = record task.state { uncopied = c.pop_front.new.self } } in
+    let put = next-put x.0 x.1 x.2 task x.3 x.4 x.5 x.6 in
+    subst (λ (d : DataCopy). IsCopyable (task_unit popped) popped d) (sym is) (copyable x.0 x.1 x.2 task x.3 x.4 x.5 x.6 put.0 put.1 popped (record { list = pop.1; others = refl }))
 
 pub returns-clause-stands : goal.returns-clause-stands
-returns-clause-stands c = on-ok _ _ c.push.result (λ _. λ t r i rest h.
-    let script = c.args.script.now in
+returns-clause-stands c = on-ok _ _ c.push.result (λ _. λ script rules t r i rest h.
     let task = c.args.self.now in
-    let pop = popped-is c.pop_front.result task.uncopied.items c.pop_front.new.self.items rest c.in-Some.i i c.pop_front.ensures.items c.in-Some.is h.first in
-    let is = found-put script c.requires.script t task r i rest h task.number c.in-Some.i c.put_at.result c.in-Some-put_at.put h.stands.holds.number pop.0 c.put_at.ensures c.in-Some-put_at.is in
-    let popped : Task = record task { uncopied = c.pop_front.new.self } in
-    copied-stands script c.requires.script t task r i rest h c.in-Some-put_at.put is popped c.copy.new.self (record { list = pop.1; others = refl })
-    (subst (λ (k : ℕ). IsCopied (unit_of script) c.in-Some-put_at.put k popped c.copy.new.self) pop.0
-    (subst (λ (u : ℕ). IsCopied u c.in-Some-put_at.put c.in-Some.i popped c.copy.new.self) c.unit.ensures.unit c.in_ok-copy.ensures))) c.push.ensures.ok
+    let pop = popped-is c.pop_front.result task.state.uncopied.items c.pop_front.new.self.items rest c.in-Some.i i c.pop_front.ensures.items c.in-Some.is h.first in
+    let is = found-copy script rules t task r i rest h task.state.number c.in-Some.i c.in-Some-statement_at.statement.now c.of.result c.in-Some-of.copy h.stands.holds.number pop.0 c.in-Some-statement_at.ensures c.of.ensures c.in-Some-of.is in
+    let popped : Task = record task { state = record task.state { uncopied = c.pop_front.new.self } } in
+    let put = next-put script rules t task r i rest h in
+    copied-stands script rules t task r i rest h put.0 put.1 popped c.copy.new.self (record { list = pop.1; others = refl })
+    (subst (λ (d : DataCopy). IsCopied (task_unit popped) d popped c.copy.new.self) is c.in_ok-copy.ensures)) c.push.ensures.ok
+
+pub returns-clause-event : goal.returns-clause-event
+returns-clause-event c = on-ok _ _ c.push.result (λ put. λ script rules t r i rest h.
+    let task = c.args.self.now in
+    let pop = popped-is c.pop_front.result task.state.uncopied.items c.pop_front.new.self.items rest c.in-Some.i i c.pop_front.ensures.items c.in-Some.is h.first in
+    let is = found-copy script rules t task r i rest h task.state.number c.in-Some.i c.in-Some-statement_at.statement.now c.of.result c.in-Some-of.copy h.stands.holds.number pop.0 c.in-Some-statement_at.ensures c.of.ensures c.in-Some-of.is in
+    (put ∙ ap (λ (d : DataCopy). c.args.events.now ++ Copy d.message.name ∷ []) is, ap (λ (x : Task). x.state.uncopied.items) c.in_ok-copy.ensures.rest ∙ pop.1)) c.push.ensures.ok

@@ -1,16 +1,19 @@
-use Rattle.std.proofs.Common.{refl}
+use Rattle.std.proofs.Common.{sym, subst}
+use Rattle.lapi_base.specs.declared.sizes.Sizes.{Sizes}
+use Rattle.lapi_task.specs.StandsFor.{IsNewState}
 use Rattle.lapi_task.proofs.NewStands.{new-stands}
 use Rattle.lapi_task.proofs.task.Task.new.Goals as goal
 
 pub returns : goal.returns
-returns c = new-stands c.args.script.now c.args.task _ (record {
-  number = refl;
-  next = refl;
-  memory = c.in_ok-memory.ensures;
-  counters = c.in_ok-counters.ensures;
-  reads = c.new-3.ensures.items;
-  refusals = c.new-4.ensures.items;
-  uncopied = c.new-5.ensures.items;
-  senders = (c.in_ok-senders.ensures.count, c.in_ok-senders.ensures.fresh);
-  receivers = (c.in_ok-receivers.ensures.count, c.in_ok-receivers.ensures.blank);
+returns c = λ rules valid count. new-stands c.args.script.now rules c.args.task _ (record {
+  calls = record {
+    supported = c.requires.script;
+    rules_valid = valid;
+    sizes = c.sizes-sizes.ensures;
+    statements = c.in_ok-statements.ensures;
+    header_count = sym count;
+  };
+  state = subst (λ (z : Sizes). IsNewState z c.args.task c.in_ok-state.state) c.sizes-sizes.ensures c.in_ok-state.ensures;
+  senders = (c.in_ok-senders.ensures.count, c.in_ok-senders.ensures.new);
+  receivers = (c.in_ok-receivers.ensures.count, c.in_ok-receivers.ensures.new);
 })

@@ -6,25 +6,25 @@ use Rattle.lapi_world.proofs.Quietness.{is_still, all-still, one-busy}
 use Rattle.lapi_world.proofs.network.Network.is_quiet.Goals as goal
 
 pub loop-task-init : goal.loop-task-init
-loop-task-init c = λ script r perf is h. every-none (is_still script r)
+loop-task-init c = λ script rules r is h. every-none (is_still script rules r)
 
 pub loop-task-preserved : goal.loop-task-preserved
-loop-task-preserved c = λ script r perf is h.
+loop-task-preserved c = λ script rules r is h.
     let same = c.deref-task-items.ensures.value in
     let t = c.loop-task.task-index in
     let known : t < script.tasks = (let e = ap length same in let count = h.task_count in omega (arith, c.loop-task-test.true, e, count)) in
-    let at = task-read script r t c.args.self.now c.task-item.result is h known (c.task-item.is ∙ ap (λ xs. get_or xs t c.task-item.result) same) in
-    every-more t (is_still script r) (c.loop-task.invariant script r perf is h) (sym (c.still.ensures script t r perf at) ∙ c.if-not-still.false)
+    let at = task-read script rules r t c.args.self.now c.task-item.result is h known (c.task-item.is ∙ ap (λ xs. get_or xs t c.task-item.result) same) in
+    every-more t (is_still script rules r) (c.loop-task.invariant script rules r is h) (sym (c.still.ensures script rules t r at) ∙ c.if-not-still.false)
 
 pub returns-then-not-still : goal.returns-then-not-still
-returns-then-not-still c = λ script r perf is h.
+returns-then-not-still c = λ script rules r is h.
     let same = c.deref-task-items.ensures.value in
     let t = c.loop-task.task-index in
     let known : t < script.tasks = (let e = ap length same in let count = h.task_count in omega (arith, c.loop-task-test.true, e, count)) in
-    let at = task-read script r t c.args.self.now c.task-item.result is h known (c.task-item.is ∙ ap (λ xs. get_or xs t c.task-item.result) same) in
-    one-busy script r t known (sym (c.still.ensures script t r perf at) ∙ c.if-not-still.true)
+    let at = task-read script rules r t c.args.self.now c.task-item.result is h known (c.task-item.is ∙ ap (λ xs. get_or xs t c.task-item.result) same) in
+    one-busy script rules r t known (sym (c.still.ensures script rules t r at) ∙ c.if-not-still.true)
 
 pub returns : goal.returns
-returns c = λ script r perf is h.
+returns c = λ script rules r is h.
     let end : c.loop-task.task-index ≡ script.tasks = (let e = ap length c.deref-task-items.ensures.value in let count = h.task_count in omega (arith, c.loop-task-test.false, c.loop-task.auto.task-index-end, e, count)) in
-    all-still script r (subst (λ n. every_below n (is_still script r) ≡ true) end (c.loop-task.invariant script r perf is h))
+    all-still script rules r (subst (λ n. every_below n (is_still script rules r) ≡ true) end (c.loop-task.invariant script rules r is h))

@@ -1,19 +1,20 @@
 use Rattle.std.proofs.Common.{refl, inl, inr}
 use Rattle.lapi_base.specs.Input.Built.{is_built_act}
 use Rattle.lapi_world.proofs.Acts.{unbuilt}
+use Rattle.lapi_handlers.specs.Handlers.{rules_of}
 use Rattle.lapi_world.proofs.network.Network.perform.Goals as goal
 
 -- none of these forms is built
 pub unreachable-requires : goal.unreachable-requires
 unfolding is_built_act
-unreachable-requires c =
+unreachable-requires g c =
     elim c.in-Cut.is [
-      | inl cut ↦ unbuilt c.args.script.now _ _ c.requires.act.1 refl cut.4
+      | inl cut ↦ unbuilt c.args.script.now (rules_of c.args.handlers.now) _ _ c.requires.act.1 refl cut.4
       | inr rest ↦ elim rest [
-        | inl inject ↦ unbuilt c.args.script.now _ _ c.requires.act.1 refl inject.3
+        | inl inject ↦ unbuilt c.args.script.now (rules_of c.args.handlers.now) _ _ c.requires.act.1 refl inject.3
         | inr jobs ↦ elim jobs [
-          | inl begin ↦ unbuilt c.args.script.now _ _ c.requires.act.1 refl begin.2
-          | inr end ↦ unbuilt c.args.script.now _ _ c.requires.act.1 refl end.2
+          | inl begin ↦ unbuilt c.args.script.now (rules_of c.args.handlers.now) _ _ c.requires.act.1 refl begin.2
+          | inr end ↦ unbuilt c.args.script.now (rules_of c.args.handlers.now) _ _ c.requires.act.1 refl end.2
         ]
       ]
     ]

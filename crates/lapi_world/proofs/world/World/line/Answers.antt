@@ -1,45 +1,53 @@
 use Rattle.std.proofs.Common.{◌≡◌, ◌++◌, ◌∷◌, [], List, subst, sym, ap, ◌∙◌}
 use Rattle.lapi_base.specs.declared.schedule.Line.{Line}
 use Rattle.lapi_base.specs.declared.reply.Reply.{Reply}
-use Rattle.lapi_base.specs.Record.WorldView.{WorldView, no_rules, act_at, record_at, view_record}
+use Rattle.lapi_base.specs.Record.WorldView.{WorldView, act_at, record_at, view_record}
+use Rattle.lapi_base.specs.declared.rule.Rules.{Rules}
+use Rattle.lapi_handlers.specs.Handlers.{rules_of}
+use Rattle.lapi_world.specs.Grows.{KeepsRecord, Answers}
+use Rattle.lapi_world.specs.Stands.{StandsForOne}
 use Rattle.lapi_world.proofs.WorldLaws.{act-valid, recorded, line-stands, line-replies}
 use Rattle.lapi_world.proofs.world.World.line.Goals as goal
 
 pub perform-requires : goal.perform-requires
-perform-requires c =
+perform-requires g c =
     let w = c.self.inside in
+    let same : rules_of c.args.handlers.now ≡ w.rules = c.requires.rules ∙ sym (ap (λ (v : WorldView). v.rules) c.self.view_is) in
     let at = ap (λ (s : List Line). act_at s c.args.n) (sym c.as_slice.ensures) ∙ c.act_at-act.ensures in
     record {
       script = c.self.invariant.script_performed;
-      act = act-valid w.script w.schedule c.args.n c.act_at-act.result.now c.self.invariant.schedule_valid.lines c.self.invariant.schedule_performed at;
-      stands = (record_at w.script no_rules w.schedule w.taken, recorded w.script w.schedule w.network w.taken w.replies w.spent c.self.invariant, c.self.invariant.stands c.if-self.false);
+      act = act-valid w.script w.rules w.schedule c.args.n c.act_at-act.result.now c.self.invariant.schedule_valid.lines c.self.invariant.schedule_performed at;
+      stands = subst (λ (x : Rules). StandsForOne w.script x w.network) (sym same) (record_at w.script w.rules w.schedule w.taken, recorded w.script w.rules w.schedule w.network w.taken w.replies w.spent c.self.invariant, c.self.invariant.stands c.if-self.false);
     }
 
 pub invariant_of-self-2 : goal.invariant_of-self-2
-invariant_of-self-2 c =
+invariant_of-self-2 g c =
     let w = c.self.inside in
-    let r = record_at w.script no_rules w.schedule w.taken in
-    let is = recorded w.script w.schedule w.network w.taken w.replies w.spent c.self.invariant in
+    let same : rules_of c.args.handlers.now ≡ w.rules = c.requires.rules ∙ sym (ap (λ (v : WorldView). v.rules) c.self.view_is) in
+    let r = record_at w.script w.rules w.schedule w.taken in
+    let is = recorded w.script w.rules w.schedule w.network w.taken w.replies w.spent c.self.invariant in
     let stands = c.self.invariant.stands c.if-self.false in
     let act = c.act_at-act.result.now in
     let at = ap (λ (s : List Line). act_at s c.args.n) (sym c.as_slice.ensures) ∙ c.act_at-act.ensures in
     record {
       script_performed = c.self.invariant.script_performed;
+      rules_valid = c.self.invariant.rules_valid;
       schedule_valid = c.self.invariant.schedule_valid;
       schedule_performed = c.self.invariant.schedule_performed;
       task_count = c.perform.ensures.count ∙ c.self.invariant.task_count;
-      stands = λ _. line-stands w.script w.schedule w.taken c.push-2.new.self c.args.n act c.perform.new.self at c.in_ok-push-2.ensures.ok (c.in_ok-reply.ensures.ok r is stands);
+      stands = λ _. line-stands w.script w.rules w.schedule w.taken c.push-2.new.self c.args.n act c.perform.new.self at c.in_ok-push-2.ensures.ok (subst (λ (x : Rules). KeepsRecord w.script x act w.network c.perform.new.self) same c.in_ok-reply.ensures.ok r is stands);
       answers = λ _.
           c.in_ok-push.ensures.ok
           ∙ ap (λ (rs : List Reply). rs ++ c.in_ok-reply.reply ∷ []) (c.self.invariant.answers c.if-self.false)
-          ∙ sym (line-replies w.script w.schedule w.taken c.push-2.new.self c.args.n act c.in_ok-reply.reply at c.in_ok-push-2.ensures.ok (c.in_ok-reply.ensures.reply r is stands));
+          ∙ sym (line-replies w.script w.rules w.schedule w.taken c.push-2.new.self c.args.n act c.in_ok-reply.reply at c.in_ok-push-2.ensures.ok (subst (λ (x : Rules). Answers w.script x act w.network c.in_ok-reply.reply) same c.in_ok-reply.ensures.reply r is stands));
     }
 
 pub returns-clause-reply : goal.returns-clause-reply
-returns-clause-reply c =
+returns-clause-reply g c =
     let w = c.self.inside in
-    let r = record_at w.script no_rules w.schedule w.taken in
-    let is = recorded w.script w.schedule w.network w.taken w.replies w.spent c.self.invariant in
+    let same : rules_of c.args.handlers.now ≡ w.rules = c.requires.rules ∙ sym (ap (λ (v : WorldView). v.rules) c.self.view_is) in
+    let r = record_at w.script w.rules w.schedule w.taken in
+    let is = recorded w.script w.rules w.schedule w.network w.taken w.replies w.spent c.self.invariant in
     let at = ap (λ (s : List Line). act_at s c.args.n) (sym c.as_slice.ensures) ∙ c.act_at-act.ensures in
-    subst (λ (v : WorldView). (record_at w.script no_rules w.schedule c.push-2.new.self).replies ≡ (view_record v).replies ++ c.in_ok-reply.reply ∷ []) c.self.view_is
-    (line-replies w.script w.schedule w.taken c.push-2.new.self c.args.n c.act_at-act.result.now c.in_ok-reply.reply at c.in_ok-push-2.ensures.ok (c.in_ok-reply.ensures.reply r is (c.self.invariant.stands c.if-self.false)))
+    subst (λ (v : WorldView). (record_at w.script w.rules w.schedule c.push-2.new.self).replies ≡ (view_record v).replies ++ c.in_ok-reply.reply ∷ []) c.self.view_is
+    (line-replies w.script w.rules w.schedule w.taken c.push-2.new.self c.args.n c.act_at-act.result.now c.in_ok-reply.reply at c.in_ok-push-2.ensures.ok (subst (λ (x : Rules). Answers w.script x c.act_at-act.result.now w.network c.in_ok-reply.reply) same c.in_ok-reply.ensures.reply r is (c.self.invariant.stands c.if-self.false)))

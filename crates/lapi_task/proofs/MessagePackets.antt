@@ -1,4 +1,4 @@
--- The packets of a put, one after another.
+-- The packets of a message, one after another.
 use Rattle.std.proofs.Common.{◌≡◌, ℕ, ◌+◌, ◌*◌, ◌<◌, ◌≤◌, List, [], ◌∷◌, ◌++◌, map, length, max, refl, sym, ap, ◌∙◌, arith, append_assoc, add-one, subst, inl, inr}
 use Rattle.std.proofs.lemmas.List.{append-nil, length-append, length-map, map-append}
 use Rattle.std.specs.Int.{div_ceil}
@@ -8,7 +8,7 @@ use Rattle.lapi_base.specs.Record.Operations.{numbers_below}
 use Rattle.lapi_base.proofs.UptoLaws.{numbers_below-length, numbers_below-more}
 use Rattle.lapi_reassembly.specs.Partial.{IsUnit}
 use Rattle.lapi_link.specs.Sender.{SendingEnd, appended}
-use Rattle.lapi_task.specs.Puts.{extended}
+use Rattle.lapi_task.specs.Outgoing.{extended}
 
 pub extended-none : (s : SendingEnd) (f : ℕ → List ℕ) → s ≡ extended s (map f (numbers_below 0))
 unfolding numbers_below below
