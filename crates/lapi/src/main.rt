@@ -1,7 +1,11 @@
 //! The command `lapi`, over standard input and output.
 #![tactic(auto)]
 
-use lapi_base::Status;
+use lapi_base::{CompletionRule, HeaderIn, Status};
+use lapi_handlers::{
+    CompletionFn, Handlers, HeaderFn, NOWHERE, PER_ORIGIN, WORD, WORD_AND_CHOICE, nothing, nowhere,
+    per_origin, reversed, same, sum, word, word_and_choice,
+};
 use lapi_io::{StdSink, StdSource};
 use lapi_tool::run;
 use std::io::{BufWriter, Write};
@@ -10,25 +14,59 @@ use std::{env, io};
 
 /// Ends with the status' number; nothing goes to standard error.
 fn main(rt: HostRuntime) -> ExitCode {
-    let status = match words(&rt) {
-        Ok(words) => answer(&rt, &words),
-        Err(_) => Status::Memory,
-    };
+    let status = answer(&rt).unwrap_or(Status::Memory);
     ExitCode::from(status as u8)
+}
+
+/// Makes the handlers and runs the command with them. Where there is no memory for one, nothing is read or written.
+fn answer(rt: &HostRuntime) -> io::Result<Status> {
+    let alloc = rt.alloc();
+    let words = words(rt)?;
+    let mut headers = Vec::new(alloc);
+    headers.push(HeaderFn::new(WORD, Box::new(alloc, |given: &HeaderIn| word(given))?))?;
+    headers.push(HeaderFn::new(
+        WORD_AND_CHOICE,
+        Box::new(alloc, |given: &HeaderIn| word_and_choice(given))?,
+    ))?;
+    headers.push(HeaderFn::new(
+        PER_ORIGIN,
+        Box::new(alloc, |given: &HeaderIn| per_origin(given))?,
+    ))?;
+    headers.push(HeaderFn::new(
+        NOWHERE,
+        Box::new(alloc, |given: &HeaderIn| nowhere(given))?,
+    ))?;
+    let mut completions = Vec::new(alloc);
+    completions.push(CompletionFn::new(
+        CompletionRule::Nothing,
+        Box::new(alloc, |user: u32, buffer: &[u8]| nothing(user, buffer))?,
+    ))?;
+    completions.push(CompletionFn::new(
+        CompletionRule::Sum,
+        Box::new(alloc, |user: u32, buffer: &[u8]| sum(user, buffer))?,
+    ))?;
+    completions.push(CompletionFn::new(
+        CompletionRule::Same,
+        Box::new(alloc, |user: u32, buffer: &[u8]| same(user, buffer))?,
+    ))?;
+    completions.push(CompletionFn::new(
+        CompletionRule::Reversed,
+        Box::new(alloc, |user: u32, buffer: &[u8]| reversed(user, buffer))?,
+    ))?;
+    let handlers = Handlers::new(headers, completions);
+    command(rt, &words, &handlers)
 }
 
 /// Runs the command with standard output behind a buffer. What is left in it when the command ends is written then, and
 /// where that fails the status is that of a text that couldn't be written.
-fn answer(rt: &HostRuntime, words: &Vec<String>) -> Status {
-    let Ok(mut out) = BufWriter::new(rt.alloc(), rt.stdout()) else {
-        return Status::Memory;
-    };
+fn command(rt: &HostRuntime, words: &Vec<String>, handlers: &Handlers) -> io::Result<Status> {
+    let mut out = BufWriter::new(rt.alloc(), rt.stdout())?;
     let mut source = StdSource::new(rt.stdin());
     let mut sink = StdSink::new(&mut out);
-    let status = run(rt.alloc(), words, &mut source, &mut sink);
+    let status = run(rt.alloc(), words, &mut source, &mut sink, handlers);
     match out.flush() {
-        Ok(()) => status,
-        Err(_) => Status::SinkFault,
+        Ok(()) => Ok(status),
+        Err(_) => Ok(Status::SinkFault),
     }
 }
 

@@ -4,7 +4,31 @@ ghost use Rattle.lapi_base.specs.Record.Handlers as rules;
 ghost use Rattle.lapi_base.specs.Record.Handlers.{header_answer};
 ghost use Rattle.lapi_handlers.specs.BuiltInHeader.{word_rule, word_and_choice_rule, per_origin_rule, nowhere_rule};
 
-use lapi_base::{HeaderIn, HeaderOut, UserHeader};
+use lapi_base::{Choice, HeaderIn, HeaderOut, HeaderRule, Place, UserHeader};
+
+/// The rule of header handler 0.
+pub const WORD: HeaderRule = HeaderRule {
+    place: Place::Word,
+    choice: Choice::Never,
+};
+
+/// The rule of header handler 1.
+pub const WORD_AND_CHOICE: HeaderRule = HeaderRule {
+    place: Place::Word,
+    choice: Choice::Word,
+};
+
+/// The rule of header handler 2.
+pub const PER_ORIGIN: HeaderRule = HeaderRule {
+    place: Place::PerOrigin { base: 0, step: 256 },
+    choice: Choice::Always(3),
+};
+
+/// The rule of header handler 3.
+pub const NOWHERE: HeaderRule = HeaderRule {
+    place: Place::Nowhere,
+    choice: Choice::Always(1),
+};
 
 /// Header handler 0: the message goes to word 0 of the user header, and no completion handler follows.
 pub fn word(given: &HeaderIn) -> HeaderOut

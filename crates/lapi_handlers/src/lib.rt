@@ -12,7 +12,9 @@ mod job;
 
 pub use begun::Begun;
 pub use built_in_completion::{nothing, reversed, same, sum};
-pub use built_in_header::{nowhere, per_origin, word, word_and_choice};
+pub use built_in_header::{
+    NOWHERE, PER_ORIGIN, WORD, WORD_AND_CHOICE, nowhere, per_origin, word, word_and_choice,
+};
 pub use completion_fn::CompletionFn;
 pub use finished::Finished;
 pub use handlers::Handlers;

@@ -12,6 +12,11 @@ mod row;
 mod table;
 
 use anyhow::Context;
+use lapi_base::{CompletionRule, HeaderIn};
+use lapi_handlers::{
+    CompletionFn, Handlers, HeaderFn, NOWHERE, PER_ORIGIN, WORD, WORD_AND_CHOICE, nothing, nowhere,
+    per_origin, reversed, same, sum, word, word_and_choice,
+};
 use ran::Ran;
 use row::Row;
 use std::alloc::Global;
@@ -20,6 +25,43 @@ use table::Table;
 
 fn main(rt: HostRuntime) -> anyhow::Result<()> {
     let alloc = rt.alloc();
+    let mut headers = Vec::new(alloc);
+    headers.push(HeaderFn::new(WORD, Box::new(alloc, |given: &HeaderIn| word(given))?))?;
+    headers.push(HeaderFn::new(
+        WORD_AND_CHOICE,
+        Box::new(alloc, |given: &HeaderIn| word_and_choice(given))?,
+    ))?;
+    headers.push(HeaderFn::new(
+        PER_ORIGIN,
+        Box::new(alloc, |given: &HeaderIn| per_origin(given))?,
+    ))?;
+    headers.push(HeaderFn::new(
+        NOWHERE,
+        Box::new(alloc, |given: &HeaderIn| nowhere(given))?,
+    ))?;
+    let mut completions = Vec::new(alloc);
+    completions.push(CompletionFn::new(
+        CompletionRule::Nothing,
+        Box::new(alloc, |user: u32, buffer: &[u8]| nothing(user, buffer))?,
+    ))?;
+    completions.push(CompletionFn::new(
+        CompletionRule::Sum,
+        Box::new(alloc, |user: u32, buffer: &[u8]| sum(user, buffer))?,
+    ))?;
+    completions.push(CompletionFn::new(
+        CompletionRule::Same,
+        Box::new(alloc, |user: u32, buffer: &[u8]| same(user, buffer))?,
+    ))?;
+    completions.push(CompletionFn::new(
+        CompletionRule::Reversed,
+        Box::new(alloc, |user: u32, buffer: &[u8]| reversed(user, buffer))?,
+    ))?;
+    let handlers = Handlers::new(headers, completions);
+    run_table(&rt, alloc, &handlers)
+}
+
+/// Runs the rows of the table on standard input with these handlers.
+fn run_table(rt: &HostRuntime, alloc: Global, handlers: &Handlers) -> anyhow::Result<()> {
     let mut table = Table::new(alloc);
     let mut differ = 0u64;
     for (i, line) in BufReader::new(alloc, rt.reader())?.lines(alloc).enumerate() {
@@ -27,7 +69,7 @@ fn main(rt: HostRuntime) -> anyhow::Result<()> {
         let ended = table
             .take(alloc, line.as_str())
             .context(format_args!("line {} of the table", i + 1))?;
-        if ended && !has_passed(&rt, alloc, &table)? {
+        if ended && !has_passed(rt, alloc, handlers, &table)? {
             differ = differ.saturating_add(1);
         }
     }
@@ -36,9 +78,14 @@ fn main(rt: HostRuntime) -> anyhow::Result<()> {
 }
 
 /// Runs the last row and prints what came of it.
-fn has_passed(rt: &impl Print, alloc: Global, table: &Table) -> anyhow::Result<bool> {
+fn has_passed(
+    rt: &impl Print,
+    alloc: Global,
+    handlers: &Handlers,
+    table: &Table,
+) -> anyhow::Result<bool> {
     let row = table.rows().last().context("no row")?;
-    let ran = row.run(alloc)?;
+    let ran = row.run(alloc, handlers)?;
     let passed = row.accepts(&ran);
     if passed {
         println!(rt; "row {} ok", row.name())?;

@@ -5,6 +5,7 @@ use crate::input::Input;
 use crate::ran::Ran;
 use crate::repeats::written_out;
 use anyhow::{Context, Result, bail, ensure};
+use lapi_handlers::Handlers;
 use lapi_io::{MemSink, MemSource};
 use lapi_tool::run;
 use std::alloc::Global;
@@ -136,7 +137,7 @@ impl Row {
     }
 
     /// Runs the command over its input.
-    pub fn run(&self, alloc: Global) -> Result<Ran> {
+    pub fn run(&self, alloc: Global, handlers: &Handlers) -> Result<Ran> {
         let input = self.input.bytes(alloc)?;
         let failing_reads = self.failing_reads.clone()?;
         let failing_writes = self.failing_writes.clone()?;
@@ -144,7 +145,7 @@ impl Row {
         let mut sink = MemSink::new(alloc, self.room, self.write_step, failing_writes)
             .ok()
             .context("no memory for a sink")?;
-        let status = run(alloc, &self.words, &mut source, &mut sink);
+        let status = run(alloc, &self.words, &mut source, &mut sink, handlers);
         Ok(Ran::new(status, Vec::from_slice(alloc, sink.held())?))
     }
 

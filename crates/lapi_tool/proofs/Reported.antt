@@ -3,6 +3,7 @@ use Rattle.std.proofs.Common.{◌≡◌, ℕ, ◌≤◌, List, [], ◌∷◌, le
 use Rattle.std.specs.Prelude.{map, reverse, if◌then◌else◌, MatchResult}
 use Rattle.std.specs.List.{AllByRecursion}
 use Rattle.std.proofs.lemmas.Bool.{ltb-false, false_from_ne_true}
+use Rattle.lapi_base.specs.declared.rule.Rules.{Rules}
 use Rattle.lapi_base.specs.declared.command.View.TheVariants.{Report}
 use Rattle.lapi_base.specs.declared.input.Input.{Input}
 use Rattle.lapi_base.specs.declared.status.Status.{Status}
@@ -15,7 +16,7 @@ use Rattle.lapi_base.specs.Record.Atomic.{AtomicInTime}
 use Rattle.lapi_base.specs.Input.Lines.{lines_of}
 use Rattle.lapi_base.specs.Input.Reading.{Fault, First, most_input, read, read_from}
 use Rattle.lapi_base.specs.Input.Rows.{IsInputText}
-use Rattle.lapi_base.specs.Record.WorldView.{no_rules, record_of}
+use Rattle.lapi_base.specs.Record.WorldView.{record_of}
 use Rattle.lapi_base.specs.Packet.Spelling.{spells_packet, refusal}
 use Rattle.lapi_base.specs.Record.Valid.{ValidAct, ValidLine}
 use Rattle.lapi_base.specs.Packet.PacketBytes.{packet_size}
@@ -48,14 +49,15 @@ IsOther _ = Unit {0}
 module _
     (found : (bytes : List ℕ) (x : Input) → read bytes ≡ Ok x → IsInputText x bytes)
     (in_time : HoldsOfRuns (λ script rules r. AtomicInTime script rules (reverse r.journal)))
+    (rules : Rules)
     (left rest held now : Option (List ℕ))
   where
     -- the journal of an input's record
-    atomic : (x : Input) (bytes : List ℕ) → IsInputText x bytes → AtomicInTime x.script no_rules (reverse (recorded x).journal)
+    atomic : (x : Input) (bytes : List ℕ) → IsInputText x bytes → AtomicInTime x.script rules (reverse (recorded rules x).journal)
     unfolding record_of
-    atomic x bytes reads = in_time x.script no_rules spells_packet packet_size refusal (map act_of x.schedule) (acts_valid x.script x.schedule reads.schedule.lines)
+    atomic x bytes reads = in_time x.script rules spells_packet packet_size refusal (map act_of x.schedule) (acts_valid x.script x.schedule reads.schedule.lines)
 
-    of_input : (bytes : List ℕ) → WasRead left rest bytes → (reading : Result Input Fault) → read bytes ≡ reading → (result : Status) → CommandGives (input_answer (view_text Report) reading) held now result → result ≡ status.Ok → IsReported left rest held now
+    of_input : (bytes : List ℕ) → WasRead left rest bytes → (reading : Result Input Fault) → read bytes ≡ reading → (result : Status) → CommandGives (input_answer (view_text Report rules) reading) held now result → result ≡ status.Ok → IsReported rules left rest held now
     of_input bytes taken (Ok x) e result (inl told) ok =
         let reads = found bytes x e in
         record { bytes = bytes; x = x; read = (taken.0, taken.2 (kept bytes x e)); reads = reads; written = told.1; atomic = atomic x bytes reads }
@@ -63,6 +65,6 @@ module _
     of_input bytes taken (Err (why.Limit w, line)) e result (inl told) ok = absurd (subst IsOther (sym told.0 ∙ ok) tt)
     of_input bytes taken reading e result (inr cut) ok = absurd (subst IsCutShort ok cut.0)
 
-    pub reported : (result : Status) → IsAnswered (Some (Read Report)) left rest held now result → result ≡ status.Ok → IsReported left rest held now
+    pub reported : (result : Status) → IsAnswered rules (Some (Read Report)) left rest held now result → result ≡ status.Ok → IsReported rules left rest held now
     reported result (inl silent) ok = absurd (subst IsUnread ok silent.0)
     reported result (inr (bytes, taken, told)) ok = of_input bytes taken (read bytes) refl result told ok

@@ -14,7 +14,7 @@ use Rattle.lapi_base.specs.Record.Atomic.{AtomicInTime}
 use Rattle.lapi_base.specs.Input.Reading.{most_input, read}
 use Rattle.lapi_base.specs.Output.ReportText.{report_text}
 use Rattle.lapi_base.specs.Input.Rows.{IsInputText}
-use Rattle.lapi_base.specs.Record.WorldView.{no_rules}
+use Rattle.lapi_base.specs.declared.rule.Rules.{Rules}
 use Rattle.lapi_io.specs.Writes.{AppendsFront}
 
 -- all that was left was read; or, of a source with more bytes than an input may have, one byte more than those
@@ -52,18 +52,18 @@ abbrev pub IsToldOf : (text : Input → List ℕ) → (left rest held now : Opti
 IsToldOf text left rest held now result =
     IsSilent result held now ⊎ ((bytes : List ℕ) × WasRead left rest bytes × CommandGives (input_answer text (read bytes)) held now result)
 
-abbrev pub IsAnswered : Option Command → (left rest held now : Option (List ℕ)) → Status → Type 0
-IsAnswered None left rest held now result = CommandGives usage_answer held now result × (rest ≡ left)
-IsAnswered (Some (Show bytes)) left rest held now result = CommandGives (shown_answer bytes) held now result × (rest ≡ left)
-IsAnswered (Some Check) left rest held now result = IsToldOf counts_text left rest held now result
-IsAnswered (Some (Read view)) left rest held now result = IsToldOf (view_text view) left rest held now result
+abbrev pub IsAnswered : Rules → Option Command → (left rest held now : Option (List ℕ)) → Status → Type 0
+IsAnswered rules None left rest held now result = CommandGives usage_answer held now result × (rest ≡ left)
+IsAnswered rules (Some (Show bytes)) left rest held now result = CommandGives (shown_answer bytes) held now result × (rest ≡ left)
+IsAnswered rules (Some Check) left rest held now result = IsToldOf counts_text left rest held now result
+IsAnswered rules (Some (Read view)) left rest held now result = IsToldOf (view_text view rules) left rest held now result
 
 -- The whole source is the text of an input; the report of the record of all its lines was appended; and the journal of
 -- that record is one of the atomic message machine, which has no packets.
-pub record IsReported (left rest held now : Option (List ℕ)) : Type 0 where
+pub record IsReported (rules : Rules) (left rest held now : Option (List ℕ)) : Type 0 where
   pub bytes : List ℕ
   pub x : Input
   pub read : Consumes left rest bytes × IsAtEnd rest
   pub reads : IsInputText x bytes
-  pub written : Appends held now (report_text x.script no_rules (recorded x) (length x.schedule))
-  pub atomic : AtomicInTime x.script no_rules (reverse (recorded x).journal)
+  pub written : Appends held now (report_text x.script rules (recorded rules x) (length x.schedule))
+  pub atomic : AtomicInTime x.script rules (reverse (recorded rules x).journal)

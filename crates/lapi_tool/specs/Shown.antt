@@ -1,5 +1,6 @@
 -- What is written of a world and of an input.
 use Rattle.std.specs.Prelude.{ℕ, ◌≤◌, List, length, Option, Some, None}
+use Rattle.lapi_base.specs.declared.rule.Rules.{Rules}
 use Rattle.lapi_base.specs.declared.command.View.{View}
 use Rattle.lapi_base.specs.declared.command.View.TheVariants.{Report, Journal, Wires, Trace}
 use Rattle.lapi_base.specs.declared.input.Input.{Input}
@@ -18,9 +19,9 @@ world_text Wires w = wire_text w.script (view_record w)
 world_text Trace w = trace_text w.schedule w.taken (view_record w).replies
 
 -- and of an input: its counts, where no view of its record is asked for
-abbrev pub asked_text : Option View → Input → List ℕ
-asked_text None = counts_text
-asked_text (Some view) = view_text view
+abbrev pub asked_text : Option View → Rules → Input → List ℕ
+asked_text None rules = counts_text
+asked_text (Some view) rules = view_text view rules
 
 -- as many statements as a task may have
 abbrev pub HasFew : List Statement → Type 0

@@ -4,6 +4,7 @@ ghost use Rattle.lapi_base.specs.declared.command.View.TheVariants.{Report};
 ghost use Rattle.lapi_base.specs.Output.CommandAnswers.{input_answer};
 ghost use Rattle.lapi_base.specs.Output.Commands as commands_of;
 ghost use Rattle.lapi_base.specs.Input.Reading.{read};
+ghost use Rattle.lapi_handlers.specs.Handlers.{rules_of};
 ghost use Rattle.lapi_io.specs.Causes.{Rose};
 ghost use Rattle.lapi_io.specs.Writes.{Wrote};
 ghost use Rattle.lapi_tool.specs.Answered.{IsAnswered, IsToldOf, IsReported, CommandGives, refused_answer};
@@ -15,6 +16,7 @@ use crate::views::write_view;
 use crate::words::command_of;
 use lapi_base::{Command, LONGEST_INPUT, ReadFault, Status, View, Which, WriteFault};
 use lapi_io::{ReadAll, Sink, Source, read_all};
+use lapi_handlers::Handlers;
 use lapi_laws::journal_is_atomic;
 use lapi_report::write_packet;
 use lapi_script::read_input;
@@ -31,7 +33,7 @@ const USAGE: &str =
     "usage: lapi run|journal|wire|trace|check|live, lapi show HEX, lapi gen N, lapi sum N\n";
 
 /// Does what the words say, which are the arguments after the program's name: reads an input, performs every
-/// line of its schedule and writes what is asked of it, or shows a packet.
+/// line of its schedule with these handlers and writes what is asked of it, or shows a packet.
 ///
 /// All text goes to the sink, that of a refusal too.
 pub fn run<S: Source, K: Sink>(
@@ -39,11 +41,12 @@ pub fn run<S: Source, K: Sink>(
     words: &Vec<String>,
     source: &mut S,
     sink: &mut K,
+    handlers: &Handlers,
 ) -> Status
     // The status and the text that are defined for the words and the input, or a front of that text.
-    ensures answer { IsAnswered (commands_of.command_of (map (λ word. word.bytes.items) words.now.items)) (S.left source.old) (S.left source.new) (K.held sink.old) (K.held sink.new) result }
+    ensures answer { IsAnswered (rules_of handlers.now) (commands_of.command_of (map (λ word. word.bytes.items) words.now.items)) (S.left source.old) (S.left source.new) (K.held sink.old) (K.held sink.new) result }
     // The report is that of the atomic message machine.
-    ensures headline { commands_of.command_of (map (λ word. word.bytes.items) words.now.items) ≡ Some (commands.Read Report) → result ≡ Status.Ok → IsReported (S.left source.old) (S.left source.new) (K.held sink.old) (K.held sink.new) }
+    ensures headline { commands_of.command_of (map (λ word. word.bytes.items) words.now.items) ≡ Some (commands.Read Report) → result ≡ Status.Ok → IsReported (rules_of handlers.now) (S.left source.old) (S.left source.new) (K.held sink.old) (K.held sink.new) }
     // A fault is answered only where its count rose.
     ensures source { result ≡ Status.SourceFault → Rose (S.faults source.old) (S.faults source.new) }
     ensures unwritten { result ≡ Status.SourceFault → sink.new ≡ sink.old }
@@ -56,8 +59,8 @@ pub fn run<S: Source, K: Sink>(
         Err(_) => Status::Memory,
         Ok(None) => end(Status::Usage, write_text(USAGE, sink)),
         Ok(Some(Command::Show(bytes))) => end(Status::Ok, write_packet(bytes.as_slice(), sink)),
-        Ok(Some(Command::Check)) => read_and_answer(alloc, None, source, sink),
-        Ok(Some(Command::Read(view))) => read_and_answer(alloc, Some(view), source, sink),
+        Ok(Some(Command::Check)) => read_and_answer(alloc, None, source, sink, handlers),
+        Ok(Some(Command::Read(view))) => read_and_answer(alloc, Some(view), source, sink, handlers),
     }
 }
 
@@ -67,15 +70,16 @@ fn read_and_answer<S: Source, K: Sink>(
     view: Option<View>,
     source: &mut S,
     sink: &mut K,
+    handlers: &Handlers,
 ) -> Status
-    ensures answer { IsToldOf (asked_text view) (S.left source.old) (S.left source.new) (K.held sink.old) (K.held sink.new) result }
+    ensures answer { IsToldOf (asked_text view (rules_of handlers.now)) (S.left source.old) (S.left source.new) (K.held sink.old) (K.held sink.new) result }
     ensures source { result ≡ Status.SourceFault → Rose (S.faults source.old) (S.faults source.new) }
     ensures unwritten { result ≡ Status.SourceFault → sink.new ≡ sink.old }
     ensures sink { result ≡ Status.SinkFault → Rose (K.faults sink.old) (K.faults sink.new) }
     ensures room { K.room sink.new ≡ K.room sink.old }
 {
     match read_all(alloc, source, LONGEST_INPUT) {
-        Ok(bytes) => answer_input(alloc, view, bytes.as_slice(), sink),
+        Ok(bytes) => answer_input(alloc, view, bytes.as_slice(), sink, handlers),
         Err(ReadAll::Long) => refuse(alloc, TOO_LONG, sink),
         Err(ReadAll::Failed) => Status::SourceFault,
         Err(ReadAll::Memory) => Status::Memory,
@@ -83,14 +87,20 @@ fn read_and_answer<S: Source, K: Sink>(
 }
 
 /// Answers bytes that are no more than an input may have.
-fn answer_input<K: Sink>(alloc: Global, view: Option<View>, bytes: &[u8], sink: &mut K) -> Status
-    ensures answer { CommandGives (input_answer (asked_text view) (read bytes.now)) (K.held sink.old) (K.held sink.new) result }
+fn answer_input<K: Sink>(
+    alloc: Global,
+    view: Option<View>,
+    bytes: &[u8],
+    sink: &mut K,
+    handlers: &Handlers,
+) -> Status
+    ensures answer { CommandGives (input_answer (asked_text view (rules_of handlers.now)) (read bytes.now)) (K.held sink.old) (K.held sink.new) result }
     ensures source { result ≢ Status.SourceFault }
     ensures sink { result ≡ Status.SinkFault → Rose (K.faults sink.old) (K.faults sink.new) }
     ensures room { K.room sink.new ≡ K.room sink.old }
 {
     match read_input(alloc, bytes) {
-        Ok(input) => end(Status::Ok, write_view(alloc, view, input, sink)),
+        Ok(input) => end(Status::Ok, write_view(alloc, view, input, sink, handlers)),
         Err(fault) => refuse(alloc, fault, sink),
     }
 }

@@ -3,12 +3,14 @@ ghost use Rattle.lapi_base.specs.Output.CommandAnswers.{view_text};
 ghost use Rattle.lapi_base.specs.Input.Built.{IsBuilt};
 ghost use Rattle.lapi_base.specs.Packet.Spelling.{spells_packet};
 ghost use Rattle.lapi_base.specs.Record.Valid.{ValidScript, ValidSchedule};
+ghost use Rattle.lapi_handlers.specs.Handlers.{rules_of};
 ghost use Rattle.lapi_report.specs.SinkWrites.{WritesWithMemory};
 ghost use Rattle.lapi_tool.specs.Shown.{asked_text, world_text};
 
 use crate::counts::write_counts;
 use crate::performed::performed;
 use lapi_base::{Input, View, WriteFault};
+use lapi_handlers::Handlers;
 use lapi_io::Sink;
 use lapi_parts::lines_are_taken;
 use lapi_report::{write_journal, write_report, write_trace, write_wire};
@@ -21,14 +23,15 @@ pub fn write_view<K: Sink>(
     view: Option<View>,
     input: Input,
     sink: &mut K,
+    handlers: &Handlers,
 ) -> Result<(), WriteFault>
     requires script { ValidScript input.script }
     requires schedule { ValidSchedule input.script spells_packet input.schedule }
     requires built { IsBuilt input }
-    ensures { WritesWithMemory K.held K.faults K.room sink.old sink.new (asked_text view input) result }
+    ensures { WritesWithMemory K.held K.faults K.room sink.old sink.new (asked_text view (rules_of handlers.now) input) result }
 {
     match view {
-        Some(view) => write_performed(alloc, view, input, sink),
+        Some(view) => write_performed(alloc, view, input, sink, handlers),
         None => write_counts(alloc, &input, sink),
     }
 }
@@ -39,14 +42,15 @@ fn write_performed<K: Sink>(
     view: View,
     input: Input,
     sink: &mut K,
+    handlers: &Handlers,
 ) -> Result<(), WriteFault>
     requires script { ValidScript input.script }
     requires schedule { ValidSchedule input.script spells_packet input.schedule }
     requires built { IsBuilt input }
-    ensures { WritesWithMemory K.held K.faults K.room sink.old sink.new (view_text view input) result }
+    ensures { WritesWithMemory K.held K.faults K.room sink.old sink.new (view_text view (rules_of handlers.now) input) result }
 {
     lines_are_taken();
-    let world = performed(alloc, input)?;
+    let world = performed(alloc, input, handlers)?;
     write_world(view, &world, sink)
 }
 

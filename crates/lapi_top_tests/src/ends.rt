@@ -1,4 +1,5 @@
 use lapi_base::Status;
+use lapi_handlers::Handlers;
 use lapi_io::{CountSink, MemSink, SureSource};
 use lapi_report::write_packet;
 use lapi_tool::run;
@@ -14,7 +15,9 @@ fn a_run_may_be_counted_and_no_bytes_be_shown(rt: HostRuntime) -> Result<(), Fai
     words.push(String::from_str(alloc, "trace")?)?;
     let mut source = SureSource::new(Vec::from_slice(alloc, SMALLEST.as_bytes())?);
     let mut sink = CountSink::new();
-    assert_eq!(rt; run(alloc, &words, &mut source, &mut sink), Status::Ok);
+    let handlers = Handlers::new(Vec::new(alloc), Vec::new(alloc));
+    let status = run(alloc, &words, &mut source, &mut sink, &handlers);
+    assert_eq!(rt; status, Status::Ok);
     assert_eq!(rt; sink.taken(), "0 poll 0 : did\n".len() as u64);
 
     let mut sink = MemSink::new(alloc, 4096, 7, Vec::new(alloc))?;

@@ -11,9 +11,10 @@ use Rattle.lapi_base.specs.declared.input.LineError.TheVariants.{Syntax, Limit}
 use Rattle.lapi_base.specs.declared.status.Status.{Status}
 use Rattle.lapi_base.specs.declared.status.Status.TheVariants as status
 use Rattle.lapi_base.specs.Record.Operations.{numbers_below}
+use Rattle.lapi_base.specs.declared.rule.Rules.{Rules}
 use Rattle.lapi_base.specs.Record.Wires.{Run}
 use Rattle.lapi_base.specs.Input.Reading.{Fault}
-use Rattle.lapi_base.specs.Record.WorldView.{no_rules, record_of_all}
+use Rattle.lapi_base.specs.Record.WorldView.{record_of_all}
 use Rattle.lapi_base.specs.Output.ReportText.{report_text}
 use Rattle.lapi_base.specs.Output.JournalText.{journal_text}
 use Rattle.lapi_base.specs.Output.WireText.{wire_text}
@@ -53,9 +54,9 @@ abbrev pub fault_answer : Fault → Answer
 fault_answer (Syntax, line) = record { status = status.Syntax; text = codes "syntax " ++ decimal line ++ codes "\n" }
 fault_answer (Limit w, line) = record { status = status.Limit; text = codes "limit " ++ which_name w ++ codes " " ++ decimal line ++ codes "\n" }
 
--- What is written of an input: its counts alone, or of the record of all its lines in order.
-abbrev pub recorded : Input → Run
-recorded x = record_of_all x.script no_rules x.schedule
+-- What is written of an input: its counts alone, or of the record of all its lines in order, with handlers of these rules.
+abbrev pub recorded : Rules → Input → Run
+recorded rules x = record_of_all x.script rules x.schedule
 
 -- ok tasks T statements S lines L
 abbrev pub counts_line : (tasks statements lines : ℕ) → List ℕ
@@ -64,11 +65,11 @@ counts_line tasks statements lines = codes "ok tasks " ++ decimal tasks ++ codes
 abbrev pub counts_text : Input → List ℕ
 counts_text x = counts_line x.script.tasks (sum (map (λ list. length list) x.script.lists)) (length x.schedule)
 
-abbrev pub view_text : View → Input → List ℕ
-view_text Report x = report_text x.script no_rules (recorded x) (length x.schedule)
-view_text Journal x = journal_text (recorded x)
-view_text Wires x = wire_text x.script (recorded x)
-view_text Trace x = trace_text x.schedule (numbers_below (length x.schedule)) (recorded x).replies
+abbrev pub view_text : View → Rules → Input → List ℕ
+view_text Report rules x = report_text x.script rules (recorded rules x) (length x.schedule)
+view_text Journal rules x = journal_text (recorded rules x)
+view_text Wires rules x = wire_text x.script (recorded rules x)
+view_text Trace rules x = trace_text x.schedule (numbers_below (length x.schedule)) (recorded rules x).replies
 
 abbrev pub input_answer : (text : Input → List ℕ) → Result Input Fault → Answer
 input_answer text (Ok x) = record { status = status.Ok; text = text x }

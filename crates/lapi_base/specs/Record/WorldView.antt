@@ -20,10 +20,6 @@ pub record WorldView : Type 0 where
   pub taken : List ℕ
   pub spent : Bool
 
--- no handlers
-abbrev pub no_rules : Rules
-no_rules = record { headers = []; completions = [] }
-
 -- the acts of these lines
 abbrev pub act_at : List Line → ℕ → Option Act
 act_at schedule n = option_map (λ (line : Line). line.act) (slice_get schedule n)

@@ -3,11 +3,12 @@ use Rattle.lapi_base.specs.Output.CommandAnswers.{input_answer}
 use Rattle.lapi_tool.specs.Answered.{CommandGives}
 use Rattle.lapi_tool.specs.Shown.{asked_text}
 use Rattle.lapi_tool.proofs.Refusals.{refused_is}
+use Rattle.lapi_handlers.specs.Handlers.{rules_of}
 use Rattle.lapi_tool.proofs.command.answer_input.Goals as goal
 
 pub returns-in-Ok-clause-answer : goal.returns-in-Ok-clause-answer
 returns-in-Ok-clause-answer g c =
-    subst (λ r. CommandGives (input_answer (asked_text c.args.view) r) (g.K.Sink.held c.args.sink.now) (g.K.Sink.held c.write_view.new.sink) c.end.result) (sym c.in-Ok.ensures.exact) (c.end.ensures.answer _ _ _ c.write_view.ensures.text)
+    subst (λ r. CommandGives (input_answer (asked_text c.args.view (rules_of c.args.handlers.now)) r) (g.K.Sink.held c.args.sink.now) (g.K.Sink.held c.write_view.new.sink) c.end.result) (sym c.in-Ok.ensures.exact) (c.end.ensures.answer _ _ _ c.write_view.ensures.text)
 
 pub returns-in-Err-clause-answer : goal.returns-in-Err-clause-answer
-returns-in-Err-clause-answer g c = refused_is (asked_text c.args.view) c.in-Err.fault _ _ _ _ c.in-Err.ensures.exact c.refuse.ensures.answer
+returns-in-Err-clause-answer g c = refused_is (asked_text c.args.view (rules_of c.args.handlers.now)) c.in-Err.fault _ _ _ _ c.in-Err.ensures.exact c.refuse.ensures.answer

@@ -1,10 +1,11 @@
 use Rattle.std.proofs.Common.{subst}
 use Rattle.lapi_report.specs.SinkWrites.{WritesWithMemory}
 use Rattle.lapi_tool.proofs.WorldTexts.{world_texts}
+use Rattle.lapi_handlers.specs.Handlers.{rules_of}
 use Rattle.lapi_tool.proofs.views.write_performed.Goals as goal
 
 pub returns : goal.returns
 returns g c =
     subst (λ text. WritesWithMemory g.K.Sink.held g.K.Sink.faults g.K.Sink.room c.args.sink.now c.write_world.new.sink text c.write_world.result)
-    (world_texts c.args.view c.args.input c.in_ok-world.world c.in_ok-world.ensures c.lines_are_taken.ensures.whole)
+    (world_texts c.args.view (rules_of c.args.handlers.now) c.args.input c.in_ok-world.world c.in_ok-world.ensures c.lines_are_taken.ensures.whole)
     c.write_world.ensures
