@@ -1,6 +1,6 @@
 -- What the delivery of a packet writes and announces, by its head and the packets before it.
 use Rattle.std.proofs.Common.{◌≡◌, ℕ, ◌+◌, add-zero, ◌==◌, Bool, true, false, cond, ◌&&◌, not, List, [], ◌∷◌, ◌++◌, Option, Some, None, refl, sym, ap, ◌∙◌, arith}
-use Rattle.std.specs.Prelude.{slice_get, is_some}
+use Rattle.std.specs.Prelude.{is_some}
 use Rattle.std.specs.List.{AllByRecursion}
 use Rattle.std.proofs.lemmas.Bool.{false≢true, and_parts, cond_both, cond-true}
 use Rattle.lapi_base.specs.declared.script.Script.{Script}
@@ -23,13 +23,14 @@ use Rattle.lapi_base.specs.Record.Values.{Values, values, Write, gathered, scatt
 use Rattle.lapi_base.specs.Record.Counters.{is_counter, land_tells, tells, count}
 use Rattle.lapi_base.specs.Record.Refusals.{option_any}
 use Rattle.lapi_base.specs.Record.Packets.{head_by}
-use Rattle.lapi_base.specs.Record.Wires.{Run, is_delivered}
+use Rattle.lapi_base.specs.Record.Wires.{Run, is_delivered, IsEntry}
 use Rattle.lapi_base.specs.Record.Acts.{followed, first_delivery, after_land, note_of, hand_over, deliver_entry, deliver, perform}
 use Rattle.lapi_base.specs.Record.Atomic.{Atomic}
 use Rattle.lapi_base.specs.Record.WorldView.{performed, IsRecord, HoldsOfRecords}
 use Rattle.lapi_base.specs.Laws.Entries.{carried}
-use Rattle.lapi_base.specs.Record.Arrived.{has_some, whole_by, is_whole, assembled, count_of, is_active, follows, comes}
-use Rattle.lapi_base.specs.Laws.Landing.{announces, lands, DeliveriesWrite, DeliveriesAnnounce}
+use Rattle.lapi_base.specs.Record.Arrived.{has_some, whole_by, is_whole, assembled, count_of, comes}
+use Rattle.lapi_base.specs.Record.HeadSays.{announces, lands, is_active, follows}
+use Rattle.lapi_base.specs.Laws.Landing.{DeliveriesWrite, DeliveriesAnnounce}
 use Rattle.lapi_base.proofs.ListLaws.{all-get}
 use Rattle.lapi_base.proofs.TestLaws.{eqb-refl}
 use Rattle.lapi_laws.proofs.Out.{numbered-copied}
@@ -241,7 +242,7 @@ module _ (script : Script) (rules : Rules) where
 
   -- ---- a delivery
 
-  delivered : (r : Run) (a b k : ℕ) (p : DataPacket) → slice_get (r.wire a b) k ≡ Some (Data p) → (performed script rules r (Deliver a b k)).journal ≡ followed r.journal (cond (is_delivered r a b p.seq) [] (first_delivery script rules r a b p.name p.seq))
+  delivered : (r : Run) (a b k : ℕ) (p : DataPacket) → IsEntry r a b k (Data p) → (performed script rules r (Deliver a b k)).journal ≡ followed r.journal (cond (is_delivered r a b p.seq) [] (first_delivery script rules r a b p.name p.seq))
   unfolding performed perform deliver hand_over
   delivered r a b k p at = ap (λ o. (deliver_entry script rules r a b o).journal) at
 
@@ -312,7 +313,7 @@ module _ (script : Script) (rules : Rules) where
       ∙ elim whole as (λ w. n + cond w (named (announces p.head hc) c) 0 ≡ n + cond (w && option_any (λ d. d == c) (announces p.head hc)) 1 0) [ true ↦ refl | false ↦ refl ]
 
 -- the laws
-facts : (script : Script) (rules : Rules) (r : Run) → IsRecord script rules r → (a b k : ℕ) (p : DataPacket) → slice_get (r.wire a b) k ≡ Some (Data p) → Facts script rules r a b p
+facts : (script : Script) (rules : Rules) (r : Run) → IsRecord script rules r → (a b k : ℕ) (p : DataPacket) → IsEntry r a b k (Data p) → Facts script rules r a b p
 facts script rules r is a b k p at =
     let s = record-sound script rules r is in
     let x = record-exact script rules r is in

@@ -15,7 +15,7 @@ use Rattle.lapi_base.specs.Packet.Layout.{unit_of, window_of}
 use Rattle.lapi_base.specs.Record.Names.{name_eq, Landed, happened}
 use Rattle.lapi_base.specs.Record.Operations.{statements}
 use Rattle.lapi_base.specs.Record.Counters.{count}
-use Rattle.lapi_base.specs.Record.Wires.{Run, covers, is_sent, is_delivered, packets, ack}
+use Rattle.lapi_base.specs.Record.Wires.{Run, covers, is_sent, is_delivered, packets, ack, IsEntry}
 use Rattle.lapi_base.specs.Record.Acts.{first_delivery, with_handed}
 use Rattle.lapi_base.specs.Record.Valid.{ValidScript, ValidRules}
 use Rattle.lapi_base.specs.Record.Arrived.{has_some, has_fragment, count_of, is_whole, least_number, ack_of, comes, IsKnown}
@@ -63,19 +63,19 @@ module _ (script : Script) (rules : Rules) where
   AcksAreTold r = (a b : ℕ) → ack script rules r a b ≡ ack_of script (r.handed a b) a b
 
   abbrev pub NextAcksAreTold : Run → Type 0
-  NextAcksAreTold r = (a b k : ℕ) (p : DataPacket) → slice_get (r.wire a b) k ≡ Some (Data p) → ack script rules (with_handed script rules r a b (Data p)) a b ≡ ack_of script (Data p ∷ r.handed a b) a b
+  NextAcksAreTold r = (a b k : ℕ) (p : DataPacket) → IsEntry r a b k (Data p) → ack script rules (with_handed script rules r a b (Data p)) a b ≡ ack_of script (Data p ∷ r.handed a b) a b
 
   -- so are the events of a packet with a new number, with the packet itself;
   abbrev pub ArrivalsAreTold : Run → Type 0
-  ArrivalsAreTold r = (a b k : ℕ) (p : DataPacket) → slice_get (r.wire a b) k ≡ Some (Data p) → first_delivery script rules r a b p.name p.seq ≡ comes script rules (r.handed a b) p
+  ArrivalsAreTold r = (a b k : ℕ) (p : DataPacket) → IsEntry r a b k (Data p) → first_delivery script rules r a b p.name p.seq ≡ comes script rules (r.handed a b) p
 
   -- and a packet whose number was handed over was itself handed over.
   abbrev pub RepeatsAreKnown : Run → Type 0
-  RepeatsAreKnown r = (a b k : ℕ) (p : DataPacket) → slice_get (r.wire a b) k ≡ Some (Data p) → IsKnown p (r.handed a b)
+  RepeatsAreKnown r = (a b k : ℕ) (p : DataPacket) → IsEntry r a b k (Data p) → IsKnown p (r.handed a b)
 
   -- The number of a packet on a wire is below the least that wasn't handed over, plus the window;
   abbrev pub PacketsAreInReach : Run → Type 0
-  PacketsAreInReach r = (a b k : ℕ) (p : DataPacket) → slice_get (r.wire a b) k ≡ Some (Data p) → p.seq < least_number (r.handed a b) + window_of script
+  PacketsAreInReach r = (a b k : ℕ) (p : DataPacket) → IsEntry r a b k (Data p) → p.seq < least_number (r.handed a b) + window_of script
 
   -- and at most as many different messages as the window has numbers are there in part: some packet of each, and not all.
   abbrev pub IsThereInPart : List Packet → MsgName → Type 0
@@ -86,7 +86,7 @@ module _ (script : Script) (rules : Rules) where
 
   -- An acknowledgement covers numbers alone that were sent.
   abbrev pub AcksCoverSent : Run → Type 0
-  AcksCoverSent r = (a b k n : ℕ) (p : Packet) → slice_get (r.wire a b) k ≡ Some p → covers n p ≡ true → is_sent r b a n ≡ true
+  AcksCoverSent r = (a b k n : ℕ) (p : Packet) → IsEntry r a b k p → covers n p ≡ true → is_sent r b a n ≡ true
 
   -- A packet names a message of the script between its tasks, its head keeps to the script, and it has the fragment's bytes.
   pub record FitsScript (p : DataPacket) : Type 0 where
@@ -98,16 +98,16 @@ module _ (script : Script) (rules : Rules) where
     pub payload : IsPayload (unit_of script) p.length p.fragment p.payload
 
   abbrev pub PacketsFitScript : Run → Type 0
-  PacketsFitScript r = ValidScript script → ValidRules rules → (a b k : ℕ) (p : DataPacket) → slice_get (r.wire a b) k ≡ Some (Data p) → FitsScript p
+  PacketsFitScript r = ValidScript script → ValidRules rules → (a b k : ℕ) (p : DataPacket) → IsEntry r a b k (Data p) → FitsScript p
 
   -- Its head and length are those of all packets of its message that were handed over.
   abbrev pub HeadsAgree : Run → Type 0
-  HeadsAgree r = (a b k j : ℕ) (p q : DataPacket) → slice_get (r.wire a b) k ≡ Some (Data p) → slice_get (r.handed a b) j ≡ Some (Data q) → q.name ≡ p.name → (q.head ≡ p.head) × (q.length ≡ p.length)
+  HeadsAgree r = (a b k j : ℕ) (p q : DataPacket) → IsEntry r a b k (Data p) → slice_get (r.handed a b) j ≡ Some (Data q) → q.name ≡ p.name → (q.head ≡ p.head) × (q.length ≡ p.length)
 
   -- Where its number wasn't handed over, its message hasn't landed and its fragment isn't there;
   abbrev pub NewAreOpen : Run → Type 0
-  NewAreOpen r = (a b k : ℕ) (p : DataPacket) → slice_get (r.wire a b) k ≡ Some (Data p) → is_delivered r a b p.seq ≡ false → (happened (Landed p.name) r.journal ≡ false) × (has_fragment (r.handed a b) p.name p.fragment ≡ false)
+  NewAreOpen r = (a b k : ℕ) (p : DataPacket) → IsEntry r a b k (Data p) → is_delivered r a b p.seq ≡ false → (happened (Landed p.name) r.journal ≡ false) × (has_fragment (r.handed a b) p.name p.fragment ≡ false)
 
   -- and where nothing of its message is there, fewer messages than the window has numbers are there in part.
   abbrev pub NewHaveRoom : Run → Type 0
-  NewHaveRoom r = (a b k : ℕ) (p : DataPacket) (ms : List MsgName) → slice_get (r.wire a b) k ≡ Some (Data p) → is_delivered r a b p.seq ≡ false → has_some (r.handed a b) p.name ≡ false → IsDistinct name_eq ms → AllByRecursion (IsThereInPart (r.handed a b)) ms → length ms < window_of script
+  NewHaveRoom r = (a b k : ℕ) (p : DataPacket) (ms : List MsgName) → IsEntry r a b k (Data p) → is_delivered r a b p.seq ≡ false → has_some (r.handed a b) p.name ≡ false → IsDistinct name_eq ms → AllByRecursion (IsThereInPart (r.handed a b)) ms → length ms < window_of script
