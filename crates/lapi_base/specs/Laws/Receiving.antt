@@ -1,5 +1,5 @@
 -- What a task may rely on of a packet that comes in. These are words of this project for its laws.
-use Rattle.std.specs.Prelude.{◌≡◌, ℕ, ◌+◌, ◌%◌, ◌^◌, ◌<◌, ◌≤◌, true, false, List, length, slice_get, Option, Some, None, ◌∷◌}
+use Rattle.std.specs.Prelude.{◌≡◌, ℕ, ◌+◌, ◌%◌, ◌^◌, ◌<◌, ◌≤◌, true, false, List, length, slice_get, Option, Some, None, ◌∷◌, cond}
 use Rattle.std.specs.List.{AllByRecursion, IsDistinct, sum_by}
 use Rattle.lapi_base.specs.declared.script.Script.{Script}
 use Rattle.lapi_base.specs.declared.rule.Rules.{Rules}
@@ -11,7 +11,7 @@ use Rattle.lapi_base.specs.declared.packet.Packet.{Packet}
 use Rattle.lapi_base.specs.declared.packet.Packet.TheVariants.{Data}
 use Rattle.lapi_base.specs.declared.packet.DataPacket.{DataPacket}
 use Rattle.lapi_base.specs.Record.Fragments.{IsPayload}
-use Rattle.lapi_base.specs.Packet.Layout.{unit_of, window_of}
+use Rattle.lapi_base.specs.Packet.Layout.{unit_of, window_of, longest_of, longest_active_of}
 use Rattle.lapi_base.specs.Record.Names.{name_eq, Landed, happened}
 use Rattle.lapi_base.specs.Record.Operations.{statements}
 use Rattle.lapi_base.specs.Record.Counters.{count}
@@ -19,6 +19,7 @@ use Rattle.lapi_base.specs.Record.Wires.{Run, covers, is_sent, is_delivered, pac
 use Rattle.lapi_base.specs.Record.Acts.{first_delivery, with_handed}
 use Rattle.lapi_base.specs.Record.Valid.{ValidScript, ValidRules}
 use Rattle.lapi_base.specs.Record.Arrived.{has_some, has_fragment, count_of, is_whole, least_number, ack_of, comes, IsKnown}
+use Rattle.lapi_base.specs.Record.HeadSays.{is_active}
 
 -- how many bytes spans have together
 abbrev pub bytes_in : List Span → ℕ
@@ -57,6 +58,10 @@ module _ (script : Script) where
   HeadFits rules n (heads.Gfence round) = round ≤ 511
   HeadFits rules n (heads.Addr round address) = (round ≤ 511) × (address ≤ script.memory)
 
+-- how long a message with this head may be
+abbrev pub longest_with : Script → Head → ℕ
+longest_with script head = cond (is_active head) (longest_active_of script) (longest_of script)
+
 module _ (script : Script) (rules : Rules) where
   -- The acknowledgement on a link, now and with one packet more, is told by the packets handed over;
   abbrev pub AcksAreTold : Run → Type 0
@@ -88,12 +93,13 @@ module _ (script : Script) (rules : Rules) where
   abbrev pub AcksCoverSent : Run → Type 0
   AcksCoverSent r = (a b k n : ℕ) (p : Packet) → IsEntry r a b k p → covers n p ≡ true → is_sent r b a n ≡ true
 
-  -- A packet names a message of the script between its tasks, its head keeps to the script, and it has the fragment's bytes.
+  -- A packet names a message of the script between its tasks, which is not too long, its head keeps to the script, and it has the fragment's bytes.
   pub record FitsScript (p : DataPacket) : Type 0 where
     pub number : p.seq < 2 ^ 22
     pub origin : p.name.origin < script.tasks
     pub statement : p.name.statement < length (statements script p.name.origin)
     pub head : HeadFits script rules p.length p.head
+    pub short : p.length ≤ longest_with script p.head
     pub fragment : p.fragment < count_of script p.length
     pub payload : IsPayload (unit_of script) p.length p.fragment p.payload
 
