@@ -26,3 +26,5 @@ pub mod Receivable
 pub mod SentFront
 pub mod Deliveries
 pub mod PartRows
+pub mod LineEvents
+pub mod QueuedJobs

@@ -10,6 +10,7 @@ mod receiving;
 mod sending;
 mod spelled;
 mod takes;
+mod working;
 
 pub use arrival::{arrivals_are_told, arrivals_stay_in_reach, deliveries_are_told};
 pub use exact::packets_are_exact;
@@ -19,3 +20,4 @@ pub use receiving::{arrivals_fit, new_arrivals_have_room};
 pub use sending::{numbers_go_out_in_order, polls_send_the_next_numbers};
 pub use spelled::packets_are_spelled;
 pub use takes::{lines_are_taken, records_go_on};
+pub use working::{jobs_are_begun_in_turn, jobs_run_undisturbed};
