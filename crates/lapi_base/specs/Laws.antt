@@ -7,3 +7,4 @@ pub mod Sending
 pub mod Landing
 pub mod LinesTaken
 pub mod Working
+pub mod Answering

@@ -28,3 +28,4 @@ pub mod Deliveries
 pub mod PartRows
 pub mod LineEvents
 pub mod QueuedJobs
+pub mod HeadAnswers

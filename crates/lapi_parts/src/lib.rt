@@ -2,6 +2,7 @@
 //! of it. Each law is the contract of a function without a body.
 #![tactic(auto)]
 
+mod answering;
 mod arrival;
 mod exact;
 mod memory;
@@ -12,6 +13,7 @@ mod spelled;
 mod takes;
 mod working;
 
+pub use answering::{backs_are_told, handlers_are_told, notes_are_told};
 pub use arrival::{arrivals_are_told, arrivals_stay_in_reach, deliveries_are_told};
 pub use exact::packets_are_exact;
 pub use memory::{bytes_stay_bytes, memories_are_written, messages_come_whole};

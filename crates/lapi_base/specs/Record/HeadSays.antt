@@ -1,6 +1,6 @@
 -- What the head of a packet says of the landing of its message: whether a header handler is called, where the bytes
--- go, which counter is announced, and what follows. These are words of this project.
-use Rattle.std.specs.Prelude.{ℕ, Bool, true, false, cond, List, [], ◌∷◌, Option, Some, None, is_some}
+-- go, which counter is announced, which message follows and with which head. These are words of this project.
+use Rattle.std.specs.Prelude.{ℕ, Bool, true, false, cond, List, [], ◌∷◌, Option, Some, None, is_some, option_map}
 use Rattle.lapi_base.specs.declared.span.Span.{Span}
 use Rattle.lapi_base.specs.declared.script.Script.{Script}
 use Rattle.lapi_base.specs.declared.rule.Rules.{Rules}
@@ -9,6 +9,7 @@ use Rattle.lapi_base.specs.declared.message.MsgName.{MsgName}
 use Rattle.lapi_base.specs.declared.event.Event.{Event}
 use Rattle.lapi_base.specs.declared.event.Event.TheVariants.{Copy}
 use Rattle.lapi_base.specs.declared.head.Head.{Head}
+use Rattle.lapi_base.specs.declared.head.NoteOp.{NoteOp}
 use Rattle.lapi_base.specs.declared.head.Head.TheVariants as heads
 use Rattle.lapi_base.specs.Record.Names.{message}
 use Rattle.lapi_base.specs.Record.Operations.{one_span}
@@ -59,6 +60,27 @@ follows (heads.GetGo asked source dest tgt org) completion m = answered m
 follows (heads.GetvGo tgt org source dest) completion m = answered m
 follows (heads.RmwGo op at in1 in2 prev org) completion m = answered m
 follows _ completion m = []
+
+-- the head of the Back that answers it, if one does,
+abbrev pub back_head : Head → Option Head
+back_head (heads.GetGo asked source dest tgt org) = Some (heads.GetBack dest org)
+back_head (heads.GetvGo tgt org source dest) = Some (heads.GetvBack org dest)
+back_head (heads.RmwGo op at in1 in2 prev org) = Some (heads.RmwBack prev org)
+back_head _ = None
+
+-- and the pieces at the target whose bytes that brings
+abbrev pub asked_pieces : Head → List Span
+asked_pieces (heads.GetGo asked source dest tgt org) = one_span source asked
+asked_pieces (heads.GetvGo tgt org source dest) = source
+asked_pieces (heads.RmwGo op at in1 in2 prev org) = one_span at 4
+asked_pieces _ = []
+
+-- the head of the Note that tells of it, where it names a counter
+abbrev pub note_head : Head → Option Head
+note_head (heads.Put at tgt cmpl) = option_map (heads.Note NoteOp.Put) cmpl
+note_head (heads.Putv tgt cmpl pieces) = option_map (heads.Note NoteOp.Putv) cmpl
+note_head (heads.Am handler tgt cmpl header) = option_map (heads.Note NoteOp.Am) cmpl
+note_head _ = None
 
 module _ (script : Script) (rules : Rules) where
   -- what the landing of message m with this head and these bytes writes at a task, whose memory was so before
