@@ -8,3 +8,4 @@ pub mod Landing
 pub mod LinesTaken
 pub mod Working
 pub mod Answering
+pub mod Copying
