@@ -29,3 +29,4 @@ pub mod PartRows
 pub mod LineEvents
 pub mod QueuedJobs
 pub mod HeadAnswers
+pub mod CopiedJoins

@@ -32,6 +32,8 @@ use Rattle.lapi_base.specs.Laws.Working.{works_at, WorkersStay, HeldStay}
 use Rattle.lapi_base.proofs.ListLaws.{all-any, all-append, all-flat_map, all-map}
 use Rattle.lapi_base.proofs.NameLaws.{name_eq-true}
 use Rattle.lapi_laws.proofs.Workers.{Waiting, queue-waiting}
+use Rattle.lapi_base.specs.declared.reply.Bad.{Bad}
+use Rattle.lapi_base.specs.Packet.Spelling.{refusal}
 
 -- more events, all of a kind
 abbrev pub Grows : (Event → Type 0) → List Event → List Event → Type 0
@@ -59,14 +61,14 @@ module _ (script : Script) (rules : Rules) where
   IsCopyBy act a Note = Unit {0}
   IsCopyBy act a Echo = Unit {0}
 
-  -- and a job begins, as one that was not begun, and ends by its worker's own lines.
+  -- a statement is entered by a Step of its task, and a job begins, as one that was not begun, and ends by its worker's own lines.
   abbrev pub IsBy : Run → Act → Event → Type 0
   IsBy r act (Begin m t w) = (act ≡ Act.Begin t w) × (happened (Begun m) r.journal ≡ false)
   IsBy r act (End m t w) = act ≡ Act.End t w
   IsBy r act (Copy m) = IsCopyBy act m.origin m.leg
   IsBy r act (Issue a i) = Unit {0}
   IsBy r act (Refuse a i why) = Unit {0}
-  IsBy r act (Enter a i) = Unit {0}
+  IsBy r act (Enter a i) = act ≡ Step a
   IsBy r act (Pass a i) = Unit {0}
   IsBy r act (Head m) = Unit {0}
   IsBy r act (Land m) = Unit {0}
@@ -94,19 +96,19 @@ module _ (script : Script) (rules : Rules) where
   if-by r act true e h = h
   if-by r act false e h = tt
 
-  proposed-by : (r : Run) (act : Act) (t i : ℕ) (s : Statement) → ByOption r act (proposed script rules r t i s)
-  proposed-by r act t i (Wait counter value) = if-by r act _ (Pass t i) tt
-  proposed-by r act t i Fence = if-by r act _ (Pass t i) tt
-  proposed-by r act t i Gfence =
-      cond_both (happened (Entered t i) r.journal) (event_if script rules (joined script r.journal t i) (Pass t i)) (event_if script rules (data_clear script r t i) (Enter t i)) (ByOption r act)
-      (λ _. if-by r act _ (Pass t i) tt)
-      (λ _. if-by r act _ (Enter t i) tt)
-  proposed-by r act t i (Statement.Addr at) = cond_both (happened (Entered t i) r.journal) (event_if script rules (joined script r.journal t i) (Pass t i)) (Some (Enter t i)) (ByOption r act) (λ _. if-by r act _ (Pass t i) tt) (λ _. tt)
-  proposed-by r act t i _ = tt
+  proposed-by : (r : Run) (t i : ℕ) (s : Statement) → ByOption r (Step t) (proposed script rules r t i s)
+  proposed-by r t i (Wait counter value) = if-by r (Step t) _ (Pass t i) tt
+  proposed-by r t i Fence = if-by r (Step t) _ (Pass t i) tt
+  proposed-by r t i Gfence =
+      cond_both (happened (Entered t i) r.journal) (event_if script rules (joined script r.journal t i) (Pass t i)) (event_if script rules (data_clear script r t i) (Enter t i)) (ByOption r (Step t))
+      (λ _. if-by r (Step t) _ (Pass t i) tt)
+      (λ _. if-by r (Step t) _ (Enter t i) refl)
+  proposed-by r t i (Statement.Addr at) = cond_both (happened (Entered t i) r.journal) (event_if script rules (joined script r.journal t i) (Pass t i)) (Some (Enter t i)) (ByOption r (Step t)) (λ _. if-by r (Step t) _ (Pass t i) tt) (λ _. refl)
+  proposed-by r t i _ = tt
 
-  unless-by : (r : Run) (act : Act) (t i : ℕ) (o : Option Refusal) → ByOption r act (unless_refused script rules r t i o)
-  unless-by r act t i (Some reason) = tt
-  unless-by r act t i None = proposed-by r act t i (statement script t i)
+  unless-by : (r : Run) (t i : ℕ) (o : Option Refusal) → ByOption r (Step t) (unless_refused script rules r t i o)
+  unless-by r t i (Some reason) = tt
+  unless-by r t i None = proposed-by r t i (statement script t i)
 
   add-by : (r : Run) (act : Act) (o : Option Event) → ByOption r act o → Adds r act (add_event script rules r o)
   add-by r act None h = ([], refl, tt)
@@ -118,7 +120,7 @@ module _ (script : Script) (rules : Rules) where
       let i = next r.journal t in
       let o = unless_refused script rules r t i (refusal_of script rules r.journal t i) in
       cond_both (nat_lt i (length (statements script t))) (add_event script rules r o) (reply_with script rules r Idle) (Adds r (Step t))
-      (λ _. add-by r (Step t) o (unless-by r (Step t) t i (refusal_of script rules r.journal t i)))
+      (λ _. add-by r (Step t) o (unless-by r t i (refusal_of script rules r.journal t i)))
       (λ _. ([], refl, tt))
 
   -- a delivery
@@ -174,16 +176,17 @@ module _ (script : Script) (rules : Rules) where
             (refl, cond_both (answers script rules m.origin m.statement) (Copy (message m.origin m.statement Echo) ∷ []) (note_of script rules m) (AllByRecursion (IsBy r (Act.End t w))) (λ _. (tt, tt)) (λ _. note-by r (Act.End t w) m))
       ]
 
-  pub line-adds : (r : Run) (act : Act) → Adds r act (performed script rules r act)
-  unfolding performed perform poll tick
-  line-adds r (Step t) = step-adds r t
-  line-adds r (Poll t) = grows-copied (IsBy r (Poll t)) (ready script r.journal t) r.journal (ready-by r r.journal t)
-  line-adds r (Tick t) = ([], refl, tt)
-  line-adds r (Deliver a b k) = deliver-adds r a b k
-  line-adds r (Cut a b k n) = elim (slice_get (r.wire a b) k) as (λ o. Adds r (Cut a b k n) (cut_entry script rules packet_size r n o)) [ Some p ↦ ([], refl, tt) | None ↦ ([], refl, tt) ]
-  line-adds r (Inject a b bytes) = ([], refl, tt)
-  line-adds r (Act.Begin t w) = begin-adds r t w
-  line-adds r (Act.End t w) = end-adds r t w
+  module _ (size : Packet → ℕ) (refusal : List ℕ → Bad) where
+    pub line-adds : (r : Run) (act : Act) → Adds r act (perform script rules size refusal r act)
+    unfolding perform poll tick
+    line-adds r (Step t) = step-adds r t
+    line-adds r (Poll t) = grows-copied (IsBy r (Poll t)) (ready script r.journal t) r.journal (ready-by r r.journal t)
+    line-adds r (Tick t) = ([], refl, tt)
+    line-adds r (Deliver a b k) = deliver-adds r a b k
+    line-adds r (Cut a b k n) = elim (slice_get (r.wire a b) k) as (λ o. Adds r (Cut a b k n) (cut_entry script rules size r n o)) [ Some p ↦ ([], refl, tt) | None ↦ ([], refl, tt) ]
+    line-adds r (Inject a b bytes) = ([], refl, tt)
+    line-adds r (Act.Begin t w) = begin-adds r t w
+    line-adds r (Act.End t w) = end-adds r t w
 
   -- ---- workers and buffers
 
@@ -217,7 +220,9 @@ module _ (script : Script) (rules : Rules) where
 
 -- the laws
 pub workers-stay : HoldsOfRecords WorkersStay
-workers-stay script rules r is = λ act t w h. let g = line-adds script rules r act in ap (λ J. runs J t w) g.1 ∙ runs-stay script rules r act t w h g.0 g.2
+unfolding performed
+workers-stay script rules r is = λ act t w h. let g = line-adds script rules packet_size refusal r act in ap (λ J. runs J t w) g.1 ∙ runs-stay script rules r act t w h g.0 g.2
 
 pub held-stay : HoldsOfRecords HeldStay
-held-stay script rules r is = λ act m d. let g = line-adds script rules r act in ap (λ J. (values script rules J).held m) g.1 ∙ held-stays script rules r act m d g.0 g.2
+unfolding performed
+held-stay script rules r is = λ act m d. let g = line-adds script rules packet_size refusal r act in ap (λ J. (values script rules J).held m) g.1 ∙ held-stays script rules r act m d g.0 g.2
