@@ -9,3 +9,4 @@ pub mod LinesTaken
 pub mod Working
 pub mod Answering
 pub mod Copying
+pub mod Rounds

@@ -29,8 +29,9 @@ use Rattle.lapi_laws.proofs.Sound.{landed-copied}
 use Rattle.lapi_parts.proofs.ExactBytes.{stays}
 use Rattle.lapi_epochs.specs.Epochs.{epoch, Has, IsOver}
 use Rattle.lapi_epochs.specs.Stages.{is_store, goes, comes, written_pieces, covers, reads_from, reads_at, writes_to, writes_at, is_written, write_deed, AreStages, IsAtStage, BytesAreStages, EndsAreStages}
-use Rattle.lapi_epochs.proofs.EpochOrder.{has-of, issue-turn, taken, kind, epochs-wait}
+use Rattle.lapi_epochs.proofs.EpochOrder.{has-of, issue-turn, epochs-wait}
 use Rattle.lapi_epochs.proofs.GatheredPieces.{covers-none, gathered-agree, scatter-gathered}
+use Rattle.lapi_laws.proofs.TakenStatements.{taken, kind}
 
 -- ---- kinds of statements
 

@@ -30,3 +30,4 @@ pub mod LineEvents
 pub mod QueuedJobs
 pub mod HeadAnswers
 pub mod CopiedJoins
+pub mod RoundOrder
