@@ -30,4 +30,6 @@ pub mod LineEvents
 pub mod QueuedJobs
 pub mod HeadAnswers
 pub mod CopiedJoins
+pub mod UnackedCounts
+pub mod CopiedCounts
 pub mod RoundOrder

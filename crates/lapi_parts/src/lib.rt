@@ -17,7 +17,7 @@ mod working;
 
 pub use answering::{backs_are_told, handlers_are_told, notes_are_told};
 pub use arrival::{arrivals_are_told, arrivals_stay_in_reach, deliveries_are_told};
-pub use copying::{copied_are_accepted, joins_are_copied_together};
+pub use copying::{copied_are_accepted, done_by_count, joins_are_copied_together};
 pub use exact::packets_are_exact;
 pub use memory::{bytes_stay_bytes, memories_are_written, messages_come_whole};
 pub use part::{parts_are_apart, parts_decide, parts_go_on_alike};
