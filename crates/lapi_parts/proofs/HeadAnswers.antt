@@ -1,7 +1,7 @@
 -- What follows a landing, and what handlers answer, by the head of the packet that came.
-use Rattle.std.proofs.Common.{◌≡◌, ℕ, ◌+◌, ◌==◌, Bool, true, false, cond, ◌&&◌, not, List, [], ◌∷◌, length, Option, Some, None, refl, sym, ap, ◌∙◌, arith}
+use Rattle.std.proofs.Common.{◌≡◌, ℕ, ◌+◌, ◌==◌, Bool, true, false, cond, ◌&&◌, not, List, [], ◌∷◌, length, Option, Some, None, refl, sym, ap, ◌∙◌, arith, unwrap_or}
 use Rattle.std.specs.Prelude.{is_some}
-use Rattle.std.proofs.lemmas.Bool.{false≢true, and_parts, cond-true, cond_both, not-true}
+use Rattle.std.proofs.lemmas.Bool.{false≢true, and_parts, cond-true, cond_both, not-true, eqb-true}
 use Rattle.std.proofs.lemmas.List.Sums.{sum_by-cons}
 use Rattle.lapi_base.specs.declared.script.Script.{Script}
 use Rattle.lapi_base.specs.declared.span.Span.{Span}
@@ -20,8 +20,8 @@ use Rattle.lapi_base.specs.declared.packet.Packet.TheVariants.{Data}
 use Rattle.lapi_base.specs.declared.packet.DataPacket.{DataPacket}
 use Rattle.lapi_base.specs.Packet.Layout.{unit_of}
 use Rattle.lapi_base.specs.Record.Fragments.{fragment_bytes}
-use Rattle.lapi_base.specs.Record.Names.{message, name_eq}
-use Rattle.lapi_base.specs.Record.Operations.{one_span, statement, target, target_pieces, pieces_of, spans, is_am, is_rmw, has_back, has_leg, length_by, message_length, to_by, from_by, sender, receiver, address}
+use Rattle.lapi_base.specs.Record.Names.{message, name_eq, leg_eq}
+use Rattle.lapi_base.specs.Record.Operations.{one_span, statement, target, target_pieces, pieces_of, spans, is_am, is_rmw, has_back, has_leg, length_by, message_length, to_by, from_by, sender, receiver, address, tgt_counter, cmpl_counter}
 use Rattle.lapi_base.specs.Record.Handlers.{handler_of, user_header, header_answer, header_rule, header_out, kept_choice, completion, has_completion, user, user_by, buffer, kept_place}
 use Rattle.lapi_base.specs.Record.Values.{Memories, Values, values, gathered, byte_after, at_target, with_bytes, source_by, land_writes}
 use Rattle.lapi_base.specs.Record.Packets.{head_by, data_packet}
@@ -33,12 +33,14 @@ use Rattle.lapi_base.specs.Record.WorldView.{HoldsOfRecords}
 use Rattle.lapi_base.specs.Laws.Entries.{carried}
 use Rattle.lapi_base.specs.Laws.Receiving.{bytes_in}
 use Rattle.lapi_base.specs.Laws.Landing.{completes}
-use Rattle.lapi_base.specs.Laws.Answering.{IsSentAs, BacksFollowHeads, BacksBringOld, NotesFollowHeads, IsAnswered, HandlersAnswerHeads}
+use Rattle.lapi_base.specs.Laws.Answering.{IsSentAs, BacksFollowHeads, BacksBringOld, NotesFollowHeads, IsAnswered, HandlersAnswerHeads, ActivesNameCounters, EndsFollowJobs, HoldsOfJobs}
 use Rattle.lapi_base.proofs.ListLaws.{some-same}
-use Rattle.lapi_base.proofs.NameLaws.{name_eq-refl}
+use Rattle.lapi_base.proofs.NameLaws.{name_eq-refl, leg_eq-true}
 use Rattle.lapi_parts.proofs.LocalQuestions.{by_points}
 use Rattle.lapi_parts.proofs.MessageHeads.{spans-total}
 use Rattle.lapi_parts.proofs.Deliveries.{Facts, facts, delivered, arriving, head-values}
+use Rattle.lapi_base.specs.declared.head.NoteOp.{NoteOp}
+use Rattle.lapi_base.specs.Record.Jobs.{is_job}
 
 one-total : (at n : ℕ) → n ≡ bytes_in (one_span at n)
 one-total at n = let e : n ≡ n + 0 = omega arith in e ∙ sym (sum_by-cons (λ (s : Span). s.len) (record { at = at; len = n }) [])
@@ -164,6 +166,37 @@ module _ (script : Script) (rules : Rules) where
   abbrev IsActiveOf : Leg → Statement → (handler : ℕ) → List ℕ → Type 0
   IsActiveOf leg s handler header = (leg ≡ Go) × (is_am s ≡ true) × (handler_of s ≡ handler) × (user_header s ≡ header)
 
+  tgt_in : PacketHead → Option ℕ
+  tgt_in (heads.Am handler tgt cmpl header) = tgt
+  tgt_in _ = None
+
+  cmpl_in : PacketHead → Option ℕ
+  cmpl_in (heads.Am handler tgt cmpl header) = cmpl
+  cmpl_in _ = None
+
+  active-counters : (m : MsgName) (s : Statement) (handler : ℕ) (tgt cmpl : Option ℕ) (header : List ℕ) → is_am s ≡ true → head_by script m Go s ≡ heads.Am handler tgt cmpl header → (tgt_counter s ≡ tgt) × (cmpl_counter s ≡ cmpl)
+  unfolding tgt_in cmpl_in
+  active-counters m (Am task named head from len t o c) handler tgt cmpl header h e = (ap tgt_in e, ap cmpl_in e)
+  active-counters m _ handler tgt cmpl header h e = absurd (false≢true h)
+
+  -- what goes out when a job ends
+  am-note : (m : MsgName) (s : Statement) (c : ℕ) → is_am s ≡ true → cmpl_counter s ≡ Some c → head_by script (message m.origin m.statement Note) Note s ≡ heads.Note NoteOp.Am c
+  am-note m (Am task handler header from len tgt org cmpl) c h e = ap (λ o. heads.Note NoteOp.Am (unwrap_or o 0)) e
+  am-note m _ c h e = absurd (false≢true h)
+
+  ends-follow : (t : ℕ) (m : MsgName) → EndsFollowJobs script rules t m
+  unfolding is_job has_completion message_length user
+  ends-follow t m = λ job.
+      let s = statement script m.origin m.statement in
+      let both = and_parts (leg_eq m.leg Go) (has_completion script rules m.origin m.statement && receiver script m == t) job in
+      let ends = and_parts (has_completion script rules m.origin m.statement) (receiver script m == t) both.1 in
+      let go = leg_eq-true m.leg Go both.0 in
+      let is = (and_parts _ _ ends.0).0 in
+      let at : target script m.origin m.statement ≡ t = ap (λ leg. to_by m.origin (target script m.origin m.statement) leg) (sym go) ∙ eqb-true (receiver script m) t ends.1 in (
+        λ c e. sent-as (message m.origin m.statement Note) t m.origin (heads.Note NoteOp.Am c) 0 at refl (am-note m s c is e) refl,
+        sent-as (message m.origin m.statement Echo) t m.origin (heads.Echo (user script m) (cmpl_counter s)) 4 at refl refl refl,
+      )
+
   handler_in : PacketHead → ℕ
   handler_in (heads.Am handler tgt cmpl header) = handler
   handler_in _ = 0
@@ -196,9 +229,9 @@ module _ (script : Script) (rules : Rules) where
       let s = statement script m.origin m.statement in
       let given = λ (bytes : List ℕ) (n : ℕ). let x : HeaderIn = record { origin = m.origin; header = bytes; length = n } in x in
       let out : header_out script rules m ≡ header_answer (header_rule rules handler) (given header len) =
-          ap (λ h. header_answer (header_rule rules h) (given (user_header s) (message_length script m))) is.2
-          ∙ ap (λ bytes. header_answer (header_rule rules handler) (given bytes (message_length script m))) is.3
-          ∙ ap (λ n. header_answer (header_rule rules handler) (given header n)) (sym size)
+      ap (λ h. header_answer (header_rule rules h) (given (user_header s) (message_length script m))) is.2
+      ∙ ap (λ bytes. header_answer (header_rule rules handler) (given bytes (message_length script m))) is.3
+      ∙ ap (λ n. header_answer (header_rule rules handler) (given header n)) (sym size)
       in
       let go : message m.origin m.statement Go ≡ m = λ i. record { origin = m.origin; statement = m.statement; leg = sym is.0 i } in
       let chosen : completion script rules m ≡ kept_choice (length rules.completions) (header_answer (header_rule rules handler) (given header len)).completion = ap (λ o. kept_choice (length rules.completions) o.completion) out in
@@ -269,3 +302,14 @@ pub handlers-answer : HoldsOfRecords HandlersAnswerHeads
 handlers-answer script rules r is = λ a b k handler p tgt cmpl header at e.
     let f = facts script rules r is a b k p at in
     answered-by script rules p.name p.length handler header (active-by script rules _ p.name p.name.leg (statement script p.name.origin p.name.statement) handler tgt cmpl header f.leg (sym f.head ∙ e)) f.size
+
+pub actives-name : HoldsOfRecords ActivesNameCounters
+actives-name script rules r is = λ a b k handler p tgt cmpl header at e.
+    let f = facts script rules r is a b k p at in
+    let s = statement script p.name.origin p.name.statement in
+    let x = active-by script rules _ p.name p.name.leg s handler tgt cmpl header f.leg (sym f.head ∙ e) in
+    let c = active-counters script rules p.name s handler tgt cmpl header x.1 (ap (λ leg. head_by script p.name leg s) (sym x.0) ∙ sym f.head ∙ e) in
+    (x.1, c.0, c.1)
+
+pub jobs-followed : HoldsOfJobs EndsFollowJobs
+jobs-followed script rules t m = ends-follow script rules t m

@@ -27,9 +27,12 @@ use Rattle.lapi_base.specs.Record.Arrived.{whole_by, assembled, count_of, is_who
 use Rattle.lapi_base.specs.Record.HeadSays.{announces, lands}
 
 module _ (script : Script) (rules : Rules) where
-  -- What a message carries, where all its fragments are among packets that are those of their numbers: their payloads in order.
+  -- What a message carries, where all its fragments are among packets that are those of their numbers: their payloads in
+  -- order.
   abbrev pub BytesComeWhole : List Event → Type 0
-  BytesComeWhole J = (m : MsgName) (a b : ℕ) (ps : List Packet) → Happened (Copied m) J → AllByRecursion (IsOfNumber script rules J a b) ps → is_whole script ps m ≡ true → assembled (fragment_count script m) ps m ≡ carried script rules J m
+  BytesComeWhole J = (m : MsgName) (a b : ℕ) (ps : List Packet) →
+      Happened (Copied m) J → AllByRecursion (IsOfNumber script rules J a b) ps → is_whole script ps m ≡ true →
+      assembled (fragment_count script m) ps m ≡ carried script rules J m
 
   -- what has landed came whole
   abbrev pub LandedAreWhole : Run → Type 0
@@ -40,22 +43,26 @@ module _ (script : Script) (rules : Rules) where
   memory_at J t x = (values script rules J).memory t x
 
   abbrev pub OthersWriteNothing : List Event → Type 0
-  OthersWriteNothing J = (t x : ℕ) (e : Event) (K : List Event) → J ≡ e ∷ K → (place_of script e == t) ≡ false → memory_at J t x ≡ memory_at K t x
+  OthersWriteNothing J = (t x : ℕ) (e : Event) (K : List Event) → J ≡ e ∷ K → (place_of script e == t) ≡ false →
+      memory_at J t x ≡ memory_at K t x
 
   -- a store writes its bytes,
   abbrev pub StoresWrite : List Event → Type 0
-  StoresWrite J = (a i x : ℕ) (K : List Event) → J ≡ Issue a i ∷ K → memory_at J a x ≡ byte_after (store_writes script rules (statement script a i)) x (memory_at K a x)
+  StoresWrite J = (a i x : ℕ) (K : List Event) → J ≡ Issue a i ∷ K →
+      memory_at J a x ≡ byte_after (store_writes script rules (statement script a i)) x (memory_at K a x)
 
   -- a landing writes what came in, whatever the kind of message,
   abbrev pub LandingsWrite : List Event → Type 0
-  LandingsWrite J = (m : MsgName) (a b x : ℕ) (ps : List Packet) (K : List Event) → J ≡ Land m ∷ K → AllByRecursion (IsOfNumber script rules K a b) ps → is_whole script ps m ≡ true →
+  LandingsWrite J = (m : MsgName) (a b x : ℕ) (ps : List Packet) (K : List Event) →
+      J ≡ Land m ∷ K → AllByRecursion (IsOfNumber script rules K a b) ps → is_whole script ps m ≡ true →
       let t = receiver script m in
       let came = record (values script rules K) { bytes = λ n. assembled (fragment_count script m) ps m } in
       memory_at J t x ≡ byte_after (land_writes script rules came m m.leg (statement script m.origin m.statement)) x (memory_at K t x)
 
   -- and the end of a job its effect on the buffer as it stood when the job began.
   abbrev pub EndsWrite : List Event → Type 0
-  EndsWrite J = (m : MsgName) (t w x : ℕ) (K : List Event) → J ≡ End m t w ∷ K → memory_at J t x ≡ byte_after (writes script rules (values script rules K) (End m t w)) x (memory_at K t x)
+  EndsWrite J = (m : MsgName) (t w x : ℕ) (K : List Event) → J ≡ End m t w ∷ K →
+      memory_at J t x ≡ byte_after (writes script rules (values script rules K) (End m t w)) x (memory_at K t x)
 
   -- What a message carries is as long as its statement says;
   abbrev pub CarriedHaveLength : List Event → Type 0
@@ -70,7 +77,8 @@ module _ (script : Script) (rules : Rules) where
 
   -- and a job holds its buffer as it stood when the job began.
   abbrev pub BuffersAreHeld : List Event → Type 0
-  BuffersAreHeld J = (m : MsgName) (t w : ℕ) (later before : List Event) → J ≡ later ++ Begin m t w ∷ before → (values script rules J).held m ≡ gathered (values script rules before).memory t (buffer script rules m)
+  BuffersAreHeld J = (m : MsgName) (t w : ℕ) (later before : List Event) → J ≡ later ++ Begin m t w ∷ before →
+      (values script rules J).held m ≡ gathered (values script rules before).memory t (buffer script rules m)
 
   -- a packet makes its message whole: its number is new, and with it all fragments are there
   abbrev pub completes : Run → (from to : ℕ) → DataPacket → Bool

@@ -68,11 +68,13 @@ module _ (script : Script) (rules : Rules) where
   AcksAreTold r = (a b : ℕ) → ack script rules r a b ≡ ack_of script (r.handed a b) a b
 
   abbrev pub NextAcksAreTold : Run → Type 0
-  NextAcksAreTold r = (a b k : ℕ) (p : DataPacket) → IsEntry r a b k (Data p) → ack script rules (with_handed script rules r a b (Data p)) a b ≡ ack_of script (Data p ∷ r.handed a b) a b
+  NextAcksAreTold r = (a b k : ℕ) (p : DataPacket) → IsEntry r a b k (Data p) →
+      ack script rules (with_handed script rules r a b (Data p)) a b ≡ ack_of script (Data p ∷ r.handed a b) a b
 
   -- so are the events of a packet with a new number, with the packet itself;
   abbrev pub ArrivalsAreTold : Run → Type 0
-  ArrivalsAreTold r = (a b k : ℕ) (p : DataPacket) → IsEntry r a b k (Data p) → first_delivery script rules r a b p.name p.seq ≡ comes script rules (r.handed a b) p
+  ArrivalsAreTold r = (a b k : ℕ) (p : DataPacket) → IsEntry r a b k (Data p) →
+      first_delivery script rules r a b p.name p.seq ≡ comes script rules (r.handed a b) p
 
   -- and a packet whose number was handed over was itself handed over.
   abbrev pub RepeatsAreKnown : Run → Type 0
@@ -87,13 +89,15 @@ module _ (script : Script) (rules : Rules) where
   IsThereInPart packets m = (has_some packets m ≡ true) × (is_whole script packets m ≡ false)
 
   abbrev pub FewAreThereInPart : Run → Type 0
-  FewAreThereInPart r = (a b : ℕ) (ms : List MsgName) → IsDistinct name_eq ms → AllByRecursion (IsThereInPart (r.handed a b)) ms → length ms ≤ window_of script
+  FewAreThereInPart r = (a b : ℕ) (ms : List MsgName) →
+      IsDistinct name_eq ms → AllByRecursion (IsThereInPart (r.handed a b)) ms → length ms ≤ window_of script
 
   -- An acknowledgement covers numbers alone that were sent.
   abbrev pub AcksCoverSent : Run → Type 0
   AcksCoverSent r = (a b k n : ℕ) (p : Packet) → IsEntry r a b k p → covers n p ≡ true → is_sent r b a n ≡ true
 
-  -- A packet names a message of the script between its tasks, which is not too long, its head keeps to the script, and it has the fragment's bytes.
+  -- A packet names a message of the script between its tasks, which is not too long, its head keeps to the script, and it
+  -- has the fragment's bytes.
   pub record FitsScript (p : DataPacket) : Type 0 where
     pub number : p.seq < 2 ^ 22
     pub origin : p.name.origin < script.tasks
@@ -108,12 +112,16 @@ module _ (script : Script) (rules : Rules) where
 
   -- Its head and length are those of all packets of its message that were handed over.
   abbrev pub HeadsAgree : Run → Type 0
-  HeadsAgree r = (a b k j : ℕ) (p q : DataPacket) → IsEntry r a b k (Data p) → slice_get (r.handed a b) j ≡ Some (Data q) → q.name ≡ p.name → (q.head ≡ p.head) × (q.length ≡ p.length)
+  HeadsAgree r = (a b k j : ℕ) (p q : DataPacket) →
+      IsEntry r a b k (Data p) → slice_get (r.handed a b) j ≡ Some (Data q) → q.name ≡ p.name → (q.head ≡ p.head) × (q.length ≡ p.length)
 
   -- Where its number wasn't handed over, its message hasn't landed and its fragment isn't there;
   abbrev pub NewAreOpen : Run → Type 0
-  NewAreOpen r = (a b k : ℕ) (p : DataPacket) → IsEntry r a b k (Data p) → is_delivered r a b p.seq ≡ false → (happened (Landed p.name) r.journal ≡ false) × (has_fragment (r.handed a b) p.name p.fragment ≡ false)
+  NewAreOpen r = (a b k : ℕ) (p : DataPacket) → IsEntry r a b k (Data p) → is_delivered r a b p.seq ≡ false →
+      (happened (Landed p.name) r.journal ≡ false) × (has_fragment (r.handed a b) p.name p.fragment ≡ false)
 
   -- and where nothing of its message is there, fewer messages than the window has numbers are there in part.
   abbrev pub NewHaveRoom : Run → Type 0
-  NewHaveRoom r = (a b k : ℕ) (p : DataPacket) (ms : List MsgName) → IsEntry r a b k (Data p) → is_delivered r a b p.seq ≡ false → has_some (r.handed a b) p.name ≡ false → IsDistinct name_eq ms → AllByRecursion (IsThereInPart (r.handed a b)) ms → length ms < window_of script
+  NewHaveRoom r = (a b k : ℕ) (p : DataPacket) (ms : List MsgName) →
+      IsEntry r a b k (Data p) → is_delivered r a b p.seq ≡ false → has_some (r.handed a b) p.name ≡ false →
+      IsDistinct name_eq ms → AllByRecursion (IsThereInPart (r.handed a b)) ms → length ms < window_of script
