@@ -33,7 +33,7 @@ use Rattle.lapi_laws.proofs.Runs.{start-sound, perform-sound}
 use Rattle.lapi_parts.proofs.Records.{of-runs}
 use Rattle.lapi_parts.proofs.LineEvents.{IsBy, Adds, line-adds}
 use Rattle.lapi_base.proofs.ListLaws.{some-same}
-use Rattle.lapi_base.proofs.TestLaws.{eqb-refl}
+use Rattle.lapi_base.proofs.TestLaws.{eqb-refl, same_tests}
 
 -- ---- what holds of a list holds of what it was made of
 
@@ -75,8 +75,8 @@ module _ (script : Script) (rules : Rules) where
       let own = in-flat_map P (to_copy_of script J t) (numbers_below (length (statements script t))) i i (all-copied (ready script J t) J) (numbers_below-get (length (statements script t)) i room) in
       let s = statement script t i in
       let list : to_copy_of script J t i ≡ joins script t i =
-          cond-false (is_data s && happened (Issued t i) J) (message t i Go ∷ []) (cond (has_join s && happened (Entered t i) J) (joins script t i) []) (ap (λ b. b && happened (Issued t i) J) (not-data s kind))
-          ∙ cond-true (has_join s && happened (Entered t i) J) (joins script t i) [] (and_from _ _ kind entered)
+      cond-false (is_data s && happened (Issued t i) J) (message t i Go ∷ []) (cond (has_join s && happened (Entered t i) J) (joins script t i) []) (ap (λ b. b && happened (Issued t i) J) (not-data s kind))
+      ∙ cond-true (has_join s && happened (Entered t i) J) (joins script t i) [] (and_from _ _ kind entered)
       in
       in-map P (λ x. message t i (Join x)) (λ x. not (x == t)) (numbers_below script.tasks) d d (subst (AllByRecursion P) list own) (numbers_below-get script.tasks d task) (ap not apart)
 
@@ -181,13 +181,7 @@ module _ (script : Script) (rules : Rules) where
     unfolding run_of
     run-together acts v = after-keeps script rules size refusal (ValidAct script spells) Both perform-together acts start v (start-sound script rules, λ a i d e l apart c. absurd (both_ways _ (happened-nil (Copied (message a i (Join d)))) c))
 
-  -- of two truths that each follow from the other
-  same-truth : (x y : Bool) → (x ≡ true → y ≡ true) → (y ≡ true → x ≡ true) → x ≡ y
-  same-truth true y f g = sym (f refl)
-  same-truth false true f g = g refl
-  same-truth false false f g = refl
-
 pub joins-together : HoldsOfRecords JoinsAreCopiedTogether
 joins-together = of-runs JoinsAreCopiedTogether (λ script rules spells size refusal acts v. λ a i d e ld le apart-d apart-e.
     let h = (run-together script rules spells size refusal acts v).1 in
-    same-truth script rules _ _ (h a i d e le apart-e) (h a i e d ld apart-d))
+    same_tests _ _ (h a i d e le apart-e) (h a i e d ld apart-d))

@@ -33,3 +33,4 @@ pub mod CopiedJoins
 pub mod UnackedCounts
 pub mod CopiedCounts
 pub mod RoundOrder
+pub mod JoinedRounds

@@ -152,8 +152,7 @@ module _ (script : Script) (rules : Rules) where
         let x = table-by _ p.name p.name.leg own round at f.leg (sym f.head ∙ e) in
         let o = from-a x.0.0.0 x.0.0.1 in
         let t = table-of (target script p.name.origin p.name.statement) own x.1 (copied-accepted script rules r.journal p.name f.atomic f.copied) in
-        let place = subst (λ q. slice_get (table_rounds script q) round ≡ Some p.name.statement) o (table-place p.name.origin p.name.statement round within x.1 t x.0.1) in
-        (
+        let place = subst (λ q. slice_get (table_rounds script q) round ≡ Some p.name.statement) o (table-place p.name.origin p.name.statement round within x.1 t x.0.1) in (
           p.name.statement,
           join-of x.0.0.0 x.0.0.1,
           place,

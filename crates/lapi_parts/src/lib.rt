@@ -22,7 +22,7 @@ pub use exact::packets_are_exact;
 pub use memory::{bytes_stay_bytes, memories_are_written, messages_come_whole};
 pub use part::{parts_are_apart, parts_decide, parts_go_on_alike};
 pub use receiving::{arrivals_fit, new_arrivals_have_room};
-pub use rounds::{known_rounds_are_passed, rounds_are_in_order};
+pub use rounds::{joins_join_once, known_rounds_are_passed, rounds_are_in_order};
 pub use sending::{numbers_go_out_in_order, polls_send_the_next_numbers};
 pub use spelled::packets_are_spelled;
 pub use takes::{lines_are_taken, records_go_on};

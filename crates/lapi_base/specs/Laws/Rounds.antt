@@ -1,6 +1,6 @@
 -- What holds of the rounds of collective calls: the fences over all tasks, and the rounds that give an address. These are
 -- words of this project for its laws.
-use Rattle.std.specs.Prelude.{◌≡◌, ◌↔◌, ℕ, ◌<◌, ◌||◌, true, List, length, filter, nat_lt, slice_get, Some}
+use Rattle.std.specs.Prelude.{◌≡◌, ◌↔◌, ℕ, ◌<◌, ◌||◌, true, List, length, filter, nat_lt, slice_get, Some, Bool, false, ◌∷◌, ◌==◌, ◌&&◌, not}
 use Rattle.lapi_base.specs.declared.script.Script.{Script}
 use Rattle.lapi_base.specs.declared.rule.Rules.{Rules}
 use Rattle.lapi_base.specs.declared.address.Addr.TheVariants.{Table}
@@ -10,10 +10,12 @@ use Rattle.lapi_base.specs.declared.head.Head.TheVariants as heads
 use Rattle.lapi_base.specs.declared.packet.Packet.TheVariants.{Data}
 use Rattle.lapi_base.specs.declared.packet.DataPacket.{DataPacket}
 use Rattle.lapi_base.specs.Record.Names.{message, Passed}
-use Rattle.lapi_base.specs.Record.Operations.{statements, statement, is_gfence, is_table, has_join, table_rounds, entry, is_addr}
-use Rattle.lapi_base.specs.Record.Refusals.{next, gfence_rounds, rounds_like, round_of, joined, is_known}
+use Rattle.lapi_base.specs.Record.Operations.{statements, statement, is_gfence, is_table, table_rounds, entry, is_addr}
+use Rattle.lapi_base.specs.Record.Refusals.{next, gfence_rounds, rounds_like, round_of, joined, is_known, join_landed}
 use Rattle.lapi_base.specs.Record.Wires.{Run, IsEntry}
 use Rattle.lapi_base.specs.Laws.Headline.{Happened}
+use Rattle.lapi_base.specs.declared.statement.Statement.{Statement}
+use Rattle.lapi_base.specs.declared.event.Event.TheVariants.{Land}
 
 -- statement a.i is one of the task's rounds
 abbrev pub HasRound : Script → (task statement : ℕ) → Type 0
@@ -38,6 +40,26 @@ module _ (script : Script) (rules : Rules) where
   abbrev pub TablesAreJoined : Run → Type 0
   TablesAreJoined r = (a b k round at : ℕ) (p : DataPacket) → IsEntry r a b k (Data p) → p.head ≡ heads.Addr round at →
       (i : ℕ) × IsJoinOf p i a b × (slice_get (table_rounds script a) round ≡ Some i) × (at ≡ entry script round a)
+
+  -- the Join to task t of the round of task d, of this statement's kind, has landed
+  abbrev pub has_joined : List Event → Statement → (to from round : ℕ) → Bool
+  has_joined J s t d round = join_landed J t d (slice_get (rounds_like script s d) round)
+
+  -- A Join lands once for its round,
+  abbrev pub JoinsOnce : List Event → Type 0
+  JoinsOnce J = (a i b : ℕ) (K : List Event) → HasRound script a i → J ≡ Land (message a i (Join b)) ∷ K →
+      has_joined K (statement script a i) b a (round_of script a i) ≡ false
+
+  -- joins its origin to that round and nobody to another,
+  abbrev pub JoinsItsRound : List Event → Type 0
+  JoinsItsRound J = (a i b t d round : ℕ) (K : List Event) → HasRound script a i → J ≡ Land (message a i (Join b)) ∷ K →
+      let s = statement script a i in
+      has_joined J s t d round ≡ (has_joined K s t d round || ((t == b && d == a) && round == round_of script a i))
+
+  -- and nobody to a round of the other kind.
+  abbrev pub JoinsNoOther : List Event → Type 0
+  JoinsNoOther J = (a i b t d round : ℕ) (s : Statement) (K : List Event) → HasRound script a i → J ≡ Land (message a i (Join b)) ∷ K →
+      is_gfence s ≡ not (is_gfence (statement script a i)) → has_joined J s t d round ≡ has_joined K s t d round
 
   -- A round of addresses that a task has passed was joined by every other task,
   abbrev pub PassedAreJoined : List Event → Type 0
