@@ -1,12 +1,12 @@
 -- Numbers below a bound: those that pass a test, whether all pass, and the least that doesn't.
 use Rattle.std.proofs.Common.{◌≡◌, ℕ, zero, suc, ◌+◌, ◌<◌, ◌≤◌, ◌==◌, Bool, true, false, cond, [], ◌∷◌, ◌++◌, Some, refl, sym, ap, ◌∙◌, subst, ⊎_elim, arith, length, slice_get, length-append}
-use Rattle.std.specs.Prelude.{slice_get, is_some}
+use Rattle.std.specs.Prelude.{slice_get, is_some, nat_lt, filter}
 use Rattle.std.specs.List.{list_any, AllByRecursion}
-use Rattle.std.proofs.lemmas.Bool.{true≢false, false≢true, and_parts, and_from, and_cases, cases_lt, cond-true, cond-false, eq-eqb, cond_both, both_ways, or_left, or_right, false_from_ne_true}
+use Rattle.std.proofs.lemmas.Bool.{true≢false, false≢true, and_parts, and_from, and_cases, cases_lt, cond-true, cond-false, eq-eqb, cond_both, both_ways, or_left, or_right, false_from_ne_true, lt-ltb}
 use Rattle.std.proofs.lemmas.Option.{slice_get_within}
 use Rattle.std.proofs.lemmas.List.Folds.{list_any-append}
 use Rattle.lapi_base.specs.Record.Below.{every_below, below, least_missing}
-use Rattle.lapi_base.proofs.ListLaws.{get-before, get-push, all-weaker, all-append}
+use Rattle.lapi_base.proofs.ListLaws.{get-before, get-push, all-weaker, all-append, filter-push, filter-all}
 
 pub every_below-at : (n : ℕ) (p : ℕ → Bool) (k : ℕ) → every_below n p ≡ true → k < n → p k ≡ true
 unfolding every_below
@@ -276,3 +276,19 @@ every-not n p k l f = sym (false_from_ne_true (every_below n p) (λ yes. both_wa
 
 pub every-all : (n k : ℕ) (p : ℕ → Bool) → n ≡ k → every_below k p ≡ true → true ≡ every_below n p
 every-all n k p e h = sym (ap (λ m. every_below m p) e ∙ h)
+
+-- of the numbers that pass, those below a bound
+pub below-front : (n : ℕ) (p : ℕ → Bool) (i : ℕ) → i ≤ n → filter (λ j. nat_lt j i) (below n p) ≡ below i p
+unfolding below
+below-front zero p i l = let e : i ≡ 0 = omega arith in subst (λ k. filter (λ j. nat_lt j k) (below 0 p) ≡ below k p) (sym e) refl
+below-front (suc n) p i l =
+    ⊎_elim
+    (λ (lt : i < suc n).
+    let small : i ≤ n = omega arith in
+    cond_both (p n) (below n p ++ n ∷ []) (below n p) (λ xs. filter (λ j. nat_lt j i) xs ≡ below i p)
+    (λ _. filter-push i n (below n p) small ∙ below-front n p i small)
+    (λ _. below-front n p i small))
+    (λ (ge : suc n ≤ i).
+    let e : i ≡ suc n = omega arith in
+    subst (λ k. filter (λ j. nat_lt j k) (below (suc n) p) ≡ below k p) (sym e) (filter-all (λ j. nat_lt j (suc n)) (below (suc n) p) (all-weaker (λ k. (k < suc n) × (p k ≡ true)) (λ k. nat_lt k (suc n) ≡ true) (λ k h. lt-ltb k (suc n) h.0) (below (suc n) p) (below-all (suc n) p))))
+    (cases_lt i (suc n))

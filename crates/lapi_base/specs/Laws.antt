@@ -6,3 +6,7 @@ pub mod Receiving
 pub mod Sending
 pub mod Landing
 pub mod LinesTaken
+pub mod Working
+pub mod Answering
+pub mod Copying
+pub mod Rounds

@@ -14,5 +14,6 @@ pub mod Atomic
 pub mod Final
 pub mod Valid
 pub mod TaskPart
+pub mod HeadSays
 pub mod Arrived
 pub mod WorldView

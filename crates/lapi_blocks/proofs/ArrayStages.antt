@@ -5,9 +5,8 @@ use Rattle.std.proofs.lemmas.Bool.{false≢true, and_parts, and_from, cond-true,
 use Rattle.std.proofs.lemmas.Nat.{mul-le, mul-add-lt, div-mul-add, mod-mul-add, div_below, div-add-mod', mod_below}
 use Rattle.lapi_base.specs.declared.span.Span.{Span}
 use Rattle.lapi_base.specs.declared.statement.Statement.TheVariants.{Store, Gfence}
-use Rattle.lapi_base.specs.Record.Operations.{address, target_of, statement, spans, target, is_data}
+use Rattle.lapi_base.specs.Record.Operations.{address, target_of, statement, spans, target, is_data, one_span}
 use Rattle.lapi_base.specs.Record.Values.{Memories, gathered}
-use Rattle.lapi_base.specs.Laws.Landing.{one_span}
 use Rattle.lapi_base.proofs.TestLaws.{eqb-refl}
 use Rattle.lapi_base.proofs.ListLaws.{all-get}
 use Rattle.lapi_blocks.specs.declared.plan.Op.{Op}

@@ -8,9 +8,8 @@ use Rattle.std.proofs.lemmas.List.{map-append, append-nil, take_more}
 use Rattle.lapi_base.specs.declared.statement.Statement.{Statement}
 use Rattle.lapi_base.specs.declared.statement.Statement.TheVariants.{Store, Gfence}
 use Rattle.lapi_base.specs.Record.Below.{below}
-use Rattle.lapi_base.specs.Record.Operations.{numbers_below, statement, is_data}
+use Rattle.lapi_base.specs.Record.Operations.{numbers_below, statement, is_data, one_span}
 use Rattle.lapi_base.specs.Record.Values.{gathered}
-use Rattle.lapi_base.specs.Laws.Landing.{one_span}
 use Rattle.lapi_base.proofs.ListLaws.{some-same}
 use Rattle.lapi_blocks.specs.declared.plan.Op.{Op}
 use Rattle.lapi_blocks.specs.declared.plan.Op.TheVariants.{Set, Get}

@@ -8,10 +8,10 @@ use Rattle.lapi_base.specs.declared.event.Event.{Event}
 use Rattle.lapi_base.specs.declared.schedule.Act.{Act}
 use Rattle.lapi_base.specs.declared.reply.Bad.{Bad}
 use Rattle.lapi_base.specs.declared.packet.Packet.{Packet}
-use Rattle.lapi_base.specs.Record.Operations.{numbers_below, statements}
+use Rattle.lapi_base.specs.Record.Operations.{numbers_below, statements, one_span}
 use Rattle.lapi_base.specs.Record.Values.{gathered, values}
 use Rattle.lapi_base.specs.Record.Refusals.{next}
-use Rattle.lapi_base.specs.Laws.Landing.{one_span, memory_at}
+use Rattle.lapi_base.specs.Laws.Landing.{memory_at}
 use Rattle.lapi_base.specs.Record.Acts.{run_of}
 use Rattle.lapi_base.specs.Record.Atomic.{Atomic}
 use Rattle.lapi_base.specs.Record.Valid.{ValidAct}

@@ -1,28 +1,27 @@
 -- In an atomic journal the epochs of all tasks come one after another.
-use Rattle.std.proofs.Common.{◌≡◌, ◌⊎◌, ℕ, zero, suc, ◌+◌, ◌<◌, ◌≤◌, ◌==◌, Bool, true, false, cond, List, [], ◌∷◌, ◌++◌, length, Some, None, refl, sym, ap, ◌∙◌, subst, ⊎_elim, inl, inr, append_assoc, arith}
+use Rattle.std.proofs.Common.{◌≡◌, ◌⊎◌, ℕ, zero, suc, ◌+◌, ◌<◌, ◌≤◌, Bool, true, false, cond, List, [], ◌∷◌, ◌++◌, length, Some, None, refl, sym, ap, ◌∙◌, subst, ⊎_elim, append_assoc, arith}
 use Rattle.std.specs.Prelude.{nat_lt, filter}
-use Rattle.std.proofs.lemmas.Bool.{false≢true, and_parts, both_ways, cond_both, eqb-true, cases_lt, ltb-true, lt-ltb}
+use Rattle.std.proofs.lemmas.Bool.{false≢true, and_parts, both_ways, cond_both, cases_lt, ltb-true}
 use Rattle.std.proofs.lemmas.List.{length_push}
 use Rattle.lapi_base.specs.declared.script.Script.{Script}
 use Rattle.lapi_base.specs.declared.statement.Statement.{Statement}
 use Rattle.lapi_base.specs.declared.statement.Statement.TheVariants.{Gfence}
 use Rattle.lapi_base.specs.declared.rule.Rules.{Rules}
-use Rattle.lapi_base.specs.declared.refusal.Refusal.{Refusal}
 use Rattle.lapi_base.specs.declared.event.Event.{Event}
 use Rattle.lapi_base.specs.declared.event.Event.TheVariants.{Issue, Refuse, Enter, Pass, Copy, Head, Land, Begin, End}
 use Rattle.lapi_base.specs.Record.Below.{below}
 use Rattle.lapi_base.specs.Record.Names.{EventKey, Issued, Refused, Entered, Passed, key_of, happened}
 use Rattle.lapi_base.specs.Record.Operations.{statements, statement, is_data, is_gfence}
 use Rattle.lapi_base.specs.Record.Refusals.{next, gfence_rounds, round_of, first_reason, refusal_by, refusal_of}
-use Rattle.lapi_base.specs.Record.Atomic.{Atomic, Keeps, has_statement, is_issued, is_passed, data_landed}
+use Rattle.lapi_base.specs.Record.Atomic.{Atomic, Keeps, has_statement, is_issued, data_landed}
 use Rattle.lapi_base.specs.Laws.Headline.{StandsAfter, HoldsOfAtomic}
-use Rattle.lapi_base.proofs.ListLaws.{filter-push, filter-all, all-weaker}
-use Rattle.lapi_base.proofs.BelowLaws.{below-all}
-use Rattle.lapi_base.proofs.NameLaws.{happened-nil, happened-cases, happened-later, happened-head, happened-grown}
-use Rattle.lapi_laws.proofs.Backward.{Atomic-head, Atomic-tail, shown, there, behind, next-later}
+use Rattle.lapi_base.proofs.BelowLaws.{below-front}
+use Rattle.lapi_base.proofs.NameLaws.{happened-nil, happened-cases, happened-grown}
+use Rattle.lapi_laws.proofs.Backward.{Atomic-head, Atomic-tail, there, behind, next-later}
 use Rattle.lapi_laws.proofs.Once.{atomic-end}
 use Rattle.lapi_laws.proofs.Fences.{gfence-is, global-fences-wait}
 use Rattle.lapi_epochs.specs.Epochs.{epoch, Has, IsOver, EpochsWait}
+use Rattle.lapi_laws.proofs.TakenStatements.{taken, kind}
 
 -- ---- numbers
 
@@ -60,21 +59,6 @@ fence-between script a (suc j) r l =
     (cases_lt r (epoch script a j))
 
 -- the epoch of a statement is how many fences there are below it
-below-front : (n : ℕ) (p : ℕ → Bool) (i : ℕ) → i ≤ n → filter (λ j. nat_lt j i) (below n p) ≡ below i p
-unfolding below
-below-front zero p i l = let e : i ≡ 0 = omega arith in subst (λ k. filter (λ j. nat_lt j k) (below 0 p) ≡ below k p) (sym e) refl
-below-front (suc n) p i l =
-    ⊎_elim
-    (λ (lt : i < suc n).
-    let small : i ≤ n = omega arith in
-    cond_both (p n) (below n p ++ n ∷ []) (below n p) (λ xs. filter (λ j. nat_lt j i) xs ≡ below i p)
-    (λ _. filter-push i n (below n p) small ∙ below-front n p i small)
-    (λ _. below-front n p i small))
-    (λ (ge : suc n ≤ i).
-    let e : i ≡ suc n = omega arith in
-    subst (λ k. filter (λ j. nat_lt j k) (below (suc n) p) ≡ below k p) (sym e) (filter-all (λ j. nat_lt j (suc n)) (below (suc n) p) (all-weaker (λ k. (k < suc n) × (p k ≡ true)) (λ k. nat_lt k (suc n) ≡ true) (λ k h. lt-ltb k (suc n) h.0) (below (suc n) p) (below-all (suc n) p))))
-    (cases_lt i (suc n))
-
 one-fence : (b : Bool) (n e : ℕ) → b ≡ true → n ≡ e → n + 1 ≡ e + cond b 1 0
 one-fence true n e h q = omega arith
 one-fence false n e h q = absurd (false≢true h)
@@ -112,71 +96,6 @@ fence-not_data Gfence h = refl
 fence-not_data _ h = absurd (false≢true h)
 
 module _ (script : Script) (rules : Rules) where
-  abbrev pub Taken : List Event → (a i : ℕ) → Type 0
-  Taken J a i = (happened (Issued a i) J ≡ true) ⊎ (happened (Refused a i) J ≡ true) ⊎ (happened (Passed a i) J ≡ true)
-
-  taken-later : (e : Event) (J : List Event) (a i : ℕ) → Taken J a i → Taken (e ∷ J) a i
-  taken-later e J a i t =
-      ⊎_elim
-      (λ (x : happened (Issued a i) J ≡ true). inl (happened-later (Issued a i) e J x))
-      (λ (y : (happened (Refused a i) J ≡ true) ⊎ (happened (Passed a i) J ≡ true)).
-      ⊎_elim
-      (λ (x : happened (Refused a i) J ≡ true). inr (inl (happened-later (Refused a i) e J x)))
-      (λ (x : happened (Passed a i) J ≡ true). inr (inr (happened-later (Passed a i) e J x)))
-      y)
-      t
-
-  -- what counts one statement of task b more
-  one-taken : (e : Event) (J : List Event) (b k a i : ℕ) → k ≡ next J b → ((i : ℕ) → i < next J a → Taken J a i) → i < cond (a == b) (suc (next J a)) (next J a) → Taken (e ∷ J) b k → Taken (e ∷ J) a i
-  one-taken e J b k a i turn old l new =
-      elim (a == b) as (λ c. (a == b) ≡ c → i < cond c (suc (next J a)) (next J a) → Taken (e ∷ J) a i) [
-        | true ↦ λ same l'.
-            let ab = eqb-true a b same in
-            ⊎_elim
-            (λ (lt : i < next J a). taken-later e J a i (old i lt))
-            (λ (ge : next J a ≤ i).
-            let nn = ap (next J) ab in
-            let ki : k ≡ i = omega arith in
-            subst (λ x. Taken (e ∷ J) x i) (sym ab) (subst (λ y. Taken (e ∷ J) b y) ki new))
-            (cases_lt i (next J a))
-        | false ↦ λ _ l'. taken-later e J a i (old i l')
-      ] refl l
-
-  -- every statement below the next one was issued, refused or passed
-  pub taken : (J : List Event) → Atomic script rules J → (a i : ℕ) → i < next J a → Taken J a i
-  unfolding next
-  taken [] h a i l = absurd (omega arith)
-  taken (Issue b k ∷ J) h a i l = one-taken (Issue b k) J b k a i (Atomic-head script rules (Issue b k) J h).order.0 (taken J (Atomic-tail script rules (Issue b k) J h) a) l (inl (happened-head (Issue b k) J))
-  taken (Refuse b k refusal_of ∷ J) h a i l = one-taken (Refuse b k refusal_of) J b k a i (Atomic-head script rules (Refuse b k refusal_of) J h).order.0 (taken J (Atomic-tail script rules (Refuse b k refusal_of) J h) a) l (inr (inl (happened-head (Refuse b k refusal_of) J)))
-  taken (Pass b k ∷ J) h a i l = one-taken (Pass b k) J b k a i (Atomic-head script rules (Pass b k) J h).order.0 (taken J (Atomic-tail script rules (Pass b k) J h) a) l (inr (inr (happened-head (Pass b k) J)))
-  taken (Enter b k ∷ J) h a i l = taken-later (Enter b k) J a i (taken J (Atomic-tail script rules (Enter b k) J h) a i l)
-  taken (Copy m ∷ J) h a i l = taken-later (Copy m) J a i (taken J (Atomic-tail script rules (Copy m) J h) a i l)
-  taken (Head m ∷ J) h a i l = taken-later (Head m) J a i (taken J (Atomic-tail script rules (Head m) J h) a i l)
-  taken (Land m ∷ J) h a i l = taken-later (Land m) J a i (taken J (Atomic-tail script rules (Land m) J h) a i l)
-  taken (Begin m t w ∷ J) h a i l = taken-later (Begin m t w) J a i (taken J (Atomic-tail script rules (Begin m t w) J h) a i l)
-  taken (End m t w ∷ J) h a i l = taken-later (End m t w) J a i (taken J (Atomic-tail script rules (End m t w) J h) a i l)
-
-  -- what each key_of of a statement shows of its kind; a refusal is one that the table gives after some journal
-  abbrev pub OfKind : EventKey → Type 0
-  OfKind (Issued a i) = is_issued (statement script a i) ≡ true
-  OfKind (Refused a i) = (K : List Event) × (reason : Refusal) × (refusal_of script rules K a i ≡ Some reason)
-  OfKind (Passed a i) = is_passed (statement script a i) ≡ true
-  OfKind _ = Unit {0}
-
-  kind-now : (e : Event) (J : List Event) → Keeps script rules J e → OfKind (key_of e)
-  kind-now (Issue a i) J k = (and_parts _ _ k.there).1
-  kind-now (Refuse a i reason) J k = (J, reason, k.order.1)
-  kind-now (Enter a i) J k = tt
-  kind-now (Pass a i) J k = (and_parts _ _ k.there).1
-  kind-now (Copy m) J k = tt
-  kind-now (Head m) J k = tt
-  kind-now (Land m) J k = tt
-  kind-now (Begin m t w) J k = tt
-  kind-now (End m t w) J k = tt
-
-  pub kind : (d : EventKey) (J : List Event) → Atomic script rules J → happened d J ≡ true → OfKind d
-  kind = shown script rules OfKind kind-now
-
   -- no global fence is refused
   pub fence-kept : (J : List Event) (a g : ℕ) → is_gfence (statement script a g) ≡ true → refusal_of script rules J a g ≡ None
   unfolding refusal_of refusal_by first_reason
@@ -186,13 +105,13 @@ module _ (script : Script) (rules : Rules) where
   pub fence-passed : (J : List Event) (a g : ℕ) → Atomic script rules J → is_gfence (statement script a g) ≡ true → g < next J a → happened (Passed a g) J ≡ true
   fence-passed J a g h is l =
       ⊎_elim
-      (λ (x : happened (Issued a g) J ≡ true). absurd (fence-not_issued (statement script a g) is (kind (Issued a g) J h x)))
+      (λ (x : happened (Issued a g) J ≡ true). absurd (fence-not_issued (statement script a g) is (kind script rules (Issued a g) J h x)))
       (λ (y : (happened (Refused a g) J ≡ true) ⊎ (happened (Passed a g) J ≡ true)).
       ⊎_elim
-      (λ (x : happened (Refused a g) J ≡ true). let k = kind (Refused a g) J h x in absurd (let e : None ≡ Some k.1 = sym (fence-kept k.0 a g is) ∙ k.2 in cc))
+      (λ (x : happened (Refused a g) J ≡ true). let k = kind script rules (Refused a g) J h x in absurd (let e : None ≡ Some k.1 = sym (fence-kept k.0 a g is) ∙ k.2 in cc))
       (λ (x : happened (Passed a g) J ≡ true). x)
       y)
-      (taken J h a g l)
+      (taken script rules J h a g l)
 
   -- ---- what a passed fence shows
 

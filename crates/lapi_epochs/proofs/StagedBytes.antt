@@ -13,12 +13,11 @@ use Rattle.lapi_base.specs.declared.message.MsgName.{MsgName}
 use Rattle.lapi_base.specs.declared.event.Event.{Event}
 use Rattle.lapi_base.specs.declared.event.Event.TheVariants.{Issue, Refuse, Enter, Pass, Copy, Head, Land, Begin, End}
 use Rattle.lapi_base.specs.Record.Names.{message, name_eq, leg_eq, EventKey, Issued, Refused, Entered, Passed, Copied, Headed, Landed, Begun, Ended, key_of, happened}
-use Rattle.lapi_base.specs.Record.Operations.{statements, statement, address, spans, target_pieces, origin_pieces, target, is_data, is_am, is_rmw, has_back, is_gfence}
+use Rattle.lapi_base.specs.Record.Operations.{statements, statement, address, spans, target_pieces, origin_pieces, target, is_data, is_am, is_rmw, has_back, is_gfence, one_span}
 use Rattle.lapi_base.specs.Record.Handlers.{has_completion, answers, number_of}
 use Rattle.lapi_base.specs.Record.Values.{Memories, values, gathered, scattered, byte_after, at_target, at_origin, store_writes, writes, writer, source_by}
 use Rattle.lapi_base.specs.Record.Refusals.{next, refusal_of}
 use Rattle.lapi_base.specs.Record.Atomic.{Atomic, Keeps, needs, to_land, only_if, has_statement, has_message, is_passed, data_landed}
-use Rattle.lapi_base.specs.Laws.Landing.{one_span}
 use Rattle.lapi_base.specs.Laws.Entries.{carried}
 use Rattle.lapi_base.specs.Laws.Headline.{HoldsOfAtomic}
 use Rattle.lapi_laws.proofs.Lines.{answer-completion}
@@ -30,8 +29,9 @@ use Rattle.lapi_laws.proofs.Sound.{landed-copied}
 use Rattle.lapi_parts.proofs.ExactBytes.{stays}
 use Rattle.lapi_epochs.specs.Epochs.{epoch, Has, IsOver}
 use Rattle.lapi_epochs.specs.Stages.{is_store, goes, comes, written_pieces, covers, reads_from, reads_at, writes_to, writes_at, is_written, write_deed, AreStages, IsAtStage, BytesAreStages, EndsAreStages}
-use Rattle.lapi_epochs.proofs.EpochOrder.{has-of, issue-turn, taken, kind, epochs-wait}
+use Rattle.lapi_epochs.proofs.EpochOrder.{has-of, issue-turn, epochs-wait}
 use Rattle.lapi_epochs.proofs.GatheredPieces.{covers-none, gathered-agree, scatter-gathered}
+use Rattle.lapi_laws.proofs.TakenStatements.{taken, kind}
 
 -- ---- kinds of statements
 

@@ -13,10 +13,9 @@ use Rattle.lapi_base.specs.declared.rule.Rules.{Rules}
 use Rattle.lapi_base.specs.declared.message.Leg.TheVariants.{Go, Back}
 use Rattle.lapi_base.specs.declared.event.Event.{Event}
 use Rattle.lapi_base.specs.Record.Names.{message, EventKey, Issued, Landed, happened}
-use Rattle.lapi_base.specs.Record.Operations.{statements, statement, spans, target_pieces, origin_pieces, target, is_data, is_am, is_rmw}
+use Rattle.lapi_base.specs.Record.Operations.{statements, statement, spans, target_pieces, origin_pieces, target, is_data, is_am, is_rmw, one_span}
 use Rattle.lapi_base.specs.Record.Values.{Memories, gathered, values}
 use Rattle.lapi_base.specs.Record.Refusals.{next, refusal_of}
-use Rattle.lapi_base.specs.Laws.Landing.{one_span}
 use Rattle.lapi_epochs.specs.Epochs.{epoch, Has}
 
 -- it writes bytes of its own into its task's memory

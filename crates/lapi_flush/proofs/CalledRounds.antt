@@ -46,13 +46,14 @@ use Rattle.lapi_flush.specs.Served.{AddsEvents, AllNamed}
 use Rattle.lapi_flush.specs.Swept.{HasRoom}
 use Rattle.lapi_flush.specs.Settled.{IsSettled, two_sweeps}
 use Rattle.lapi_flush.specs.Rounds.{weigh, IsFenced, IsAtRound, steps_of, steps_to, calls_to, and_after, round_acts, RoundsGoOn}
-use Rattle.lapi_epochs.proofs.EpochOrder.{taken, kind, has-of, round-epoch}
+use Rattle.lapi_epochs.proofs.EpochOrder.{has-of, round-epoch}
 use Rattle.lapi_epochs.proofs.StagedBytes.{data-not_passed}
 use Rattle.lapi_flush.proofs.SettledRecords.{record-owes, growth, grows-on, ends-there, ready-go, ready-join, needed-go, settles}
 use Rattle.lapi_flush.proofs.NoneOwed.{IsPaid, after-paid, record-paid}
 use Rattle.lapi_flush.proofs.ServedParts.{named-append, after-more, place-below}
 use Rattle.lapi_flush.proofs.SweptTasks.{happened-before, same-next, same-entered, kept-done}
 use Rattle.lapi_flush.proofs.FlushedTasks.{after-join}
+use Rattle.lapi_laws.proofs.TakenStatements.{taken, kind}
 
 -- what two stretches of events add, one after the other
 regroup : (J K L : List Event) (ys xs : List Event) → L ≡ ys ++ K → K ≡ xs ++ J → L ≡ (ys ++ xs) ++ J

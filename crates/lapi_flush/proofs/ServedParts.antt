@@ -23,7 +23,7 @@ use Rattle.lapi_base.specs.Record.Names.{leg_eq, Copied, happened}
 use Rattle.lapi_base.specs.Record.Operations.{statement, is_am, has_back, cmpl_counter, receiver}
 use Rattle.lapi_base.specs.Packet.Spelling.{refusal}
 use Rattle.lapi_base.specs.Packet.PacketBytes.{packet_size}
-use Rattle.lapi_base.specs.Record.Wires.{Run, numbered, all_numbers, some_number, has_number, has_ack, covers, is_number, is_delivered, is_acked, ack}
+use Rattle.lapi_base.specs.Record.Wires.{Run, numbered, all_numbers, some_number, has_number, has_ack, covers, is_number, is_delivered, is_acked, ack, IsEntry}
 use Rattle.lapi_base.specs.Record.Acts.{followed, note_of, after_land, first_delivery, with_handed, hand_over, deliver_entry, deliver, reply_with, perform, after}
 use Rattle.lapi_base.specs.Record.WorldView.{HoldsOfRecords}
 use Rattle.lapi_base.proofs.BelowLaws.{least_missing-not}
@@ -149,7 +149,7 @@ module _ (script : Script) (rules : Rules) where
       events : AddsEvents r.journal s.journal
       stays : (x y m : ℕ) → is_acked r x y m ≡ true → is_acked s x y m ≡ true
       handed : (m : ℕ) → is_delivered r a b m ≡ true → is_delivered s a b m ≡ true
-      new : (j : ℕ) → j < i → (p : DataPacket) → slice_get (r.wire a b) (first + j) ≡ Some (Data p) → is_delivered s a b p.seq ≡ true
+      new : (j : ℕ) → j < i → (p : DataPacket) → IsEntry r a b (first + j) (Data p) → is_delivered s a b p.seq ≡ true
       size : length (s.wire b a) ≡ length (r.wire b a) + i
       told : (j : ℕ) → i ≡ suc j → (least : ℕ) × (bits : ℕ) × (slice_get (s.wire b a) (length (r.wire b a) + j) ≡ Some (Ack b a least bits)) × Tells (is_delivered s a b) (Ack b a least bits)
 
@@ -326,7 +326,7 @@ module _ (script : Script) (rules : Rules) where
     all-delivered s mid m l =
         ⊎_elim
         (λ (x : is_acked r a b m ≡ true). acked-delivered script rules s.journal s.wire s.handed mid.sound a b m (mid.stays a b m x))
-        (λ (x : (i : ℕ) × (i ≤ last) × (p : DataPacket) × (slice_get (r.wire a b) (first + i) ≡ Some (Data p)) × (p.seq ≡ m)). subst (λ n. is_delivered s a b n ≡ true) x.4 (mid.new x.0 (let q = x.1 in omega arith) x.2 x.3))
+        (λ (x : (i : ℕ) × (i ≤ last) × (p : DataPacket) × IsEntry r a b (first + i) (Data p) × (p.seq ≡ m)). subst (λ n. is_delivered s a b n ≡ true) x.4 (mid.new x.0 (let q = x.1 in omega arith) x.2 x.3))
         (part.numbers m l)
 
     ends : (s : Run) → Mid s (suc last) → IsServed script rules r (deliver script rules s b a (length (r.wire b a) + last)) a b

@@ -18,7 +18,7 @@ use Rattle.lapi_base.specs.Record.Refusals.{next}
 use Rattle.lapi_base.specs.Record.Wires.{Run, numbered}
 use Rattle.lapi_base.specs.Record.Acts.{joins, to_copy_of, ready, copy_each, perform, after}
 use Rattle.lapi_base.specs.Record.WorldView.{HoldsOfRecords}
-use Rattle.lapi_base.proofs.NameLaws.{happened-cases, happened-later, happened-head, happened-grown}
+use Rattle.lapi_base.proofs.NameLaws.{happened-cases, happened-grown}
 use Rattle.lapi_laws.proofs.Lines.{SoundRun}
 use Rattle.lapi_parts.proofs.Records.{record-sound}
 use Rattle.lapi_parts.proofs.LocalQuestions.{by_points}
@@ -28,6 +28,7 @@ use Rattle.lapi_flush.specs.Swept.{sweep_to, sweep, HasRoom, IsSweptAt, SweepsAr
 use Rattle.lapi_flush.proofs.NoneOwed.{IsPaid, after-paid, record-paid}
 use Rattle.lapi_flush.proofs.ServedParts.{named-append, events-on}
 use Rattle.lapi_flush.proofs.FlushedTasks.{flush-named, flushed, flush-sound, poll-atomic}
+use Rattle.lapi_base.proofs.CopyLaws.{all-copied}
 
 -- ---- events of messages change nothing of statements
 
@@ -94,17 +95,6 @@ unfolding IsOfStatement
 same-entered J K a i x = same-done J K (Entered a i) x tt
 
 -- ---- what a Poll copies
-
-copies-all : (ms : List MsgName) (J : List Event) (m : MsgName) → happened (Copied m) J ≡ true → happened (Copied m) (copy_each J ms) ≡ true
-unfolding copy_each
-copies-all [] J m h = h
-copies-all (n ∷ ms) J m h = copies-all ms (cond (happened (Copied n) J) J (Copy n ∷ J)) m (cond_both (happened (Copied n) J) J (Copy n ∷ J) (λ K. happened (Copied m) K ≡ true) (λ _. h) (λ _. happened-later (Copied m) (Copy n) J h))
-
-all-copied : (ms : List MsgName) (J : List Event) → AllByRecursion (λ m. happened (Copied m) (copy_each J ms) ≡ true) ms
-unfolding copy_each
-all-copied [] J = tt
-all-copied (m ∷ ms) J =
-    (copies-all ms (cond (happened (Copied m) J) J (Copy m ∷ J)) m (cond_both (happened (Copied m) J) J (Copy m ∷ J) (λ K. happened (Copied m) K ≡ true) (λ h. h) (λ _. happened-head (Copy m) J)), all-copied ms (cond (happened (Copied m) J) J (Copy m ∷ J)))
 
 module _ (script : Script) (rules : Rules) where
   copies-add : (ms : List MsgName) (J : List Event) → AddsEvents J (copy_each J ms)

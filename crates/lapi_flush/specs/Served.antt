@@ -17,7 +17,7 @@ use Rattle.lapi_base.specs.Record.Names.{Copied, Landed}
 use Rattle.lapi_base.specs.Record.Operations.{sender, receiver}
 use Rattle.lapi_base.specs.Packet.Spelling.{refusal}
 use Rattle.lapi_base.specs.Packet.PacketBytes.{packet_size}
-use Rattle.lapi_base.specs.Record.Wires.{Run, numbered, is_sent, is_acked}
+use Rattle.lapi_base.specs.Record.Wires.{Run, numbered, is_sent, is_acked, IsEntry}
 use Rattle.lapi_base.specs.Record.Acts.{perform, after}
 use Rattle.lapi_base.specs.Laws.Headline.{Happened}
 
@@ -54,10 +54,10 @@ AddsEvents old new = (later : List Event) × (new ≡ later ++ old) × AllByRecu
 -- Entries first to first + last of the wire from a to b are data packets; each number below `top`, and all that were
 -- sent are such, was acknowledged before or is one of theirs.
 pub record IsPart (r : Run) (a b first last top : ℕ) : Type 0 where
-  pub entries : (i : ℕ) → i ≤ last → (p : DataPacket) × (slice_get (r.wire a b) (first + i) ≡ Some (Data p))
+  pub entries : (i : ℕ) → i ≤ last → (p : DataPacket) × IsEntry r a b (first + i) (Data p)
   pub numbers : (m : ℕ) → m < top
       → (is_acked r a b m ≡ true)
-      ⊎ ((i : ℕ) × (i ≤ last) × (p : DataPacket) × (slice_get (r.wire a b) (first + i) ≡ Some (Data p)) × (p.seq ≡ m))
+      ⊎ ((i : ℕ) × (i ≤ last) × (p : DataPacket) × IsEntry r a b (first + i) (Data p) × (p.seq ≡ m))
   pub sent : (m : ℕ) → is_sent r a b m ≡ true → m < top
 
 module _ (script : Script) (rules : Rules) where

@@ -19,7 +19,7 @@ use Rattle.lapi_base.specs.declared.packet.Packet.TheVariants.{Data, Ack}
 use Rattle.lapi_base.specs.Packet.Layout.{holds_back}
 use Rattle.lapi_base.specs.Record.Refusals.{next, refusal_of}
 use Rattle.lapi_base.specs.Record.Jobs.{queue, runs}
-use Rattle.lapi_base.specs.Record.Wires.{Run, start, ack, packets, sends, to_resend}
+use Rattle.lapi_base.specs.Record.Wires.{Run, start, ack, packets, sends, to_resend, IsEntry}
 use Rattle.lapi_base.specs.Record.Acts.{reply_with, add_event, unless_refused, deliver_entry, begin_at, begin_first, end_at, cut_entry, hand_over, at_once, followed, with_handed, step, poll, tick, deliver, begin, end, perform, after, run_of, handed_by, deliveries, is_numbered, owes_by, owes, copy_each, ready}
 use Rattle.lapi_base.specs.Record.Operations.{statements}
 use Rattle.lapi_base.proofs.ListLaws.{all-append, get-front}
@@ -207,19 +207,19 @@ module _ (script : Script) (rules : Rules) where
   tick-adds r t = sending-adds r (Tick t) t r.journal r.owed (λ a b. packets script rules r.journal a b (to_resend script rules r a b)) (λ wire a b. refl) (λ a b before e. e)
 
   -- the entry that a line delivers, asked at the ends of its wire
-  at_ends : (r : Run) (x y k : ℕ) (p : Packet) (a b : ℕ) → slice_get (r.wire x y) k ≡ Some p → (a == x && b == y) ≡ true → slice_get (r.wire a b) k ≡ Some p
+  at_ends : (r : Run) (x y k : ℕ) (p : Packet) (a b : ℕ) → IsEntry r x y k p → (a == x && b == y) ≡ true → IsEntry r a b k p
   at_ends r x y k p a b e t =
       let both = and_parts _ _ t in
-      subst (λ v. slice_get (r.wire a v) k ≡ Some p) (sym (eqb-true b y both.1)) (subst (λ u. slice_get (r.wire u y) k ≡ Some p) (sym (eqb-true a x both.0)) e)
+      subst (λ v. IsEntry r a v k p) (sym (eqb-true b y both.1)) (subst (λ u. IsEntry r u y k p) (sym (eqb-true a x both.0)) e)
 
-  found-fixed : (r : Run) (x y k : ℕ) (p : Packet) → slice_get (r.wire x y) k ≡ Some p → (a b : ℕ) → IsFixed (r.wire a b) a b (Deliver x y k) Did
+  found-fixed : (r : Run) (x y k : ℕ) (p : Packet) → IsEntry r x y k p → (a b : ℕ) → IsFixed (r.wire a b) a b (Deliver x y k) Did
   found-fixed r x y k p e a b more =
       elim (a == x && b == y) as (λ c. (a == x && b == y) ≡ c → cond c (option_to_list (slice_get (r.wire a b ++ more) k)) [] ≡ cond c (option_to_list (slice_get (r.wire a b) k)) []) [
         | true ↦ λ t. let here = at_ends r x y k p a b e t in ap option_to_list (get-front (r.wire a b) more k p here ∙ sym here)
         | false ↦ λ t. refl
       ] refl
 
-  found-handed : (r : Run) (x y k : ℕ) (p : Packet) → slice_get (r.wire x y) k ≡ Some p → (a b : ℕ)
+  found-handed : (r : Run) (x y k : ℕ) (p : Packet) → IsEntry r x y k p → (a b : ℕ)
       → cond (a == x && b == y) (p ∷ r.handed a b) (r.handed a b) ≡ reverse (handed_by (r.wire a b) a b (Deliver x y k) Did) ++ r.handed a b
   found-handed r x y k p e a b =
       elim (a == x && b == y) as (λ c. (a == x && b == y) ≡ c → cond c (p ∷ r.handed a b) (r.handed a b) ≡ reverse (cond c (option_to_list (slice_get (r.wire a b) k)) []) ++ r.handed a b) [
@@ -228,14 +228,14 @@ module _ (script : Script) (rules : Rules) where
       ] refl
 
   -- whether it is a data packet
-  found-any : (r : Run) (x y k : ℕ) (p : Packet) → slice_get (r.wire x y) k ≡ Some p → (a b : ℕ) → list_any is_numbered (handed_by (r.wire a b) a b (Deliver x y k) Did) ≡ ((a == x && b == y) && is_numbered p)
+  found-any : (r : Run) (x y k : ℕ) (p : Packet) → IsEntry r x y k p → (a b : ℕ) → list_any is_numbered (handed_by (r.wire a b) a b (Deliver x y k) Did) ≡ ((a == x && b == y) && is_numbered p)
   found-any r x y k p e a b =
       elim (a == x && b == y) as (λ c. (a == x && b == y) ≡ c → list_any is_numbered (cond c (option_to_list (slice_get (r.wire a b) k)) []) ≡ (c && is_numbered p)) [
         | true ↦ λ t. ap (λ o. list_any is_numbered (option_to_list o)) (at_ends r x y k p a b e t) ∙ or-none (is_numbered p)
         | false ↦ λ t. refl
       ] refl
 
-  hand-adds : (r : Run) (x y k : ℕ) (p : Packet) → slice_get (r.wire x y) k ≡ Some p → Adds script r (Deliver x y k) (reply_with script rules (hand_over script rules r x y p) Did)
+  hand-adds : (r : Run) (x y k : ℕ) (p : Packet) → IsEntry r x y k p → Adds script r (Deliver x y k) (reply_with script rules (hand_over script rules r x y p) Did)
   unfolding hand_over
   hand-adds r x y k (Ack from to least bits) e = record {
     reply = Did;

@@ -30,3 +30,4 @@ pub mod WorkedRunsForMistakes
 pub mod WorkedRunsOfSecondLayout
 pub mod TextRows
 pub mod CellLaws
+pub mod TakenStatements

@@ -8,7 +8,7 @@ use Rattle.lapi_base.specs.declared.message.MsgName.{MsgName}
 use Rattle.lapi_base.specs.Record.Below.{below}
 use Rattle.lapi_base.specs.Record.Operations.{numbers_below, fragment_count, fragments}
 use Rattle.lapi_base.proofs.BelowLaws.{below-all}
-use Rattle.lapi_base.proofs.ListLaws.{get-places, get-right, all-get, all-weaker, filter-all, filter-push, some-same}
+use Rattle.lapi_base.proofs.ListLaws.{get-places, all-get, all-weaker, filter-all, filter-push, some-same}
 use Rattle.lapi_base.proofs.UptoLaws.{numbers_below-length, numbers_below-at, numbers_below-get}
 
 -- what stands in a list of pairs with one name

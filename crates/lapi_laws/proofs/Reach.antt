@@ -16,7 +16,7 @@ use Rattle.lapi_base.specs.Record.Operations.{statements}
 use Rattle.lapi_base.specs.Record.Refusals.{next, refusal_of}
 use Rattle.lapi_base.specs.Record.Jobs.{queue, runs}
 use Rattle.lapi_base.specs.Record.Valid.{ValidAct}
-use Rattle.lapi_base.specs.Record.Wires.{Run, start, numbered, is_number, has_number, is_delivered, is_acked, packets, sends, to_resend, least_undelivered}
+use Rattle.lapi_base.specs.Record.Wires.{Run, start, numbered, is_number, has_number, is_delivered, is_acked, packets, sends, to_resend, least_undelivered, IsEntry}
 use Rattle.lapi_base.specs.Record.Acts.{ready, copy_each, poll, tick, with_handed, hand_over, deliver, deliver_entry, unless_refused, add_event, reply_with, step, begin_first, begin_at, begin, end_at, end, cut_entry, perform, run_of}
 use Rattle.lapi_base.specs.Laws.Headline.{HoldsOfRuns}
 use Rattle.lapi_base.specs.Packet.Layout.{window_of}
@@ -54,7 +54,7 @@ module _ (script : Script) (rules : Rules) where
   more-sent wire handed t new h a b n d = cond_both (a == t) (wire a b ++ new a b) (wire a b) (λ ps. has_number ps n ≡ true) (λ _. number-front (wire a b) (new a b) n (h a b n d)) (λ _. h a b n d)
 
   -- an entry of the wire that is handed over
-  handed-sent : (r : Run) (a b k : ℕ) (p : Packet) → slice_get (r.wire a b) k ≡ Some p → SentRun r → SentRun (with_handed script rules r a b p)
+  handed-sent : (r : Run) (a b k : ℕ) (p : Packet) → IsEntry r a b k p → SentRun r → SentRun (with_handed script rules r a b p)
   unfolding has_number
   handed-sent r a b k p e h x y n =
       cond_both (x == a && y == b) (p ∷ r.handed x y) (r.handed x y) (λ ps. list_any (is_number n) ps ≡ true → list_any (is_number n) (r.wire x y) ≡ true)
@@ -68,7 +68,7 @@ module _ (script : Script) (rules : Rules) where
       (λ _ d. h x y n d)
 
   -- and the acknowledgement of it
-  hand_over-sent : (r : Run) (a b k : ℕ) (p : Packet) → slice_get (r.wire a b) k ≡ Some p → SentRun r → SentRun (hand_over script rules r a b p)
+  hand_over-sent : (r : Run) (a b k : ℕ) (p : Packet) → IsEntry r a b k p → SentRun r → SentRun (hand_over script rules r a b p)
   unfolding hand_over
   hand_over-sent r a b k (Ack from to base bits) e h x y n d = handed-sent r a b k (Ack from to base bits) e h x y n d
   hand_over-sent r a b k (Data p) e h x y n d =

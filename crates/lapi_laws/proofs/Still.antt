@@ -26,7 +26,7 @@ use Rattle.lapi_base.specs.Record.Below.{least_missing}
 use Rattle.lapi_base.specs.Record.Names.{EventKey, Issued, Entered, Copied, Landed, happened, message}
 use Rattle.lapi_base.specs.Record.Operations.{statement, is_data, is_am, has_back, has_leg, cmpl_counter, target, from_by, to_by, sender, receiver}
 use Rattle.lapi_base.specs.Record.Handlers.{has_completion, answers}
-use Rattle.lapi_base.specs.Record.Wires.{Run, numbered, is_number, has_number, has_ack, is_sent, is_acked, base, packets, to_send, ack, sends, to_resend}
+use Rattle.lapi_base.specs.Record.Wires.{Run, numbered, is_number, has_number, has_ack, is_sent, is_acked, base, packets, to_send, ack, sends, to_resend, IsEntry}
 use Rattle.lapi_base.specs.Record.Acts.{ready, copy_each, followed, poll, tick, first_delivery, at_once, reply_with, with_handed, hand_over, deliver, deliver_entry, begin_first, begin_at, begin, end_at, end, cut_entry, perform, after}
 use Rattle.lapi_base.specs.Record.Valid.{ValidAct, IsNoStep}
 use Rattle.lapi_base.specs.Record.Atomic.{Atomic, needs, copy_needs, only_if, to_land, to_follow}
@@ -165,7 +165,7 @@ module _ (script : Script) (rules : Rules) where
   more-acks : (r : Run) (a b : ℕ) (p : Packet) → (x y n : ℕ) → has_ack (r.handed x y) n ≡ true → has_ack ((with_handed script rules r a b p).handed x y) n ≡ true
   more-acks r a b p = handed-acks script rules r a b p
 
-  hand-still : (r : Run) (a b k : ℕ) (p : Packet) → slice_get (r.wire a b) k ≡ Some p → SoundRun script rules r → Calm script rules r → Kept r (reply_with script rules (hand_over script rules r a b p) Did)
+  hand-still : (r : Run) (a b k : ℕ) (p : Packet) → IsEntry r a b k p → SoundRun script rules r → Calm script rules r → Kept r (reply_with script rules (hand_over script rules r a b p) Did)
   unfolding hand_over followed has_number
   hand-still r a b k (Ack from to least bits) e s q = (refl, still r (r.replies ++ Did ∷ []) r.wire (with_handed script rules r a b (Ack from to least bits)).handed r.owed s q (λ x y n. refl) (more-acks r a b (Ack from to least bits)))
   hand-still r a b k (Data p) e s q =

@@ -1,8 +1,8 @@
 -- What was issued or entered was accepted: no test of the refusals holds of it, and so of all whose messages were copied.
-use Rattle.std.proofs.Common.{◌≡◌, ℕ, ◌+◌, ◌%◌, ◌<◌, ◌≤◌, ◌==◌, Bool, true, false, ◌&&◌, not, List, [], ◌∷◌, ◌++◌, length, Option, Some, None, refl}
+use Rattle.std.proofs.Common.{◌≡◌, ℕ, ◌+◌, ◌%◌, ◌<◌, ◌≤◌, ◌==◌, Bool, true, false, ◌&&◌, not, List, [], ◌∷◌, ◌++◌, length, Option, Some, None, refl, ◌||◌, ap, ◌∙◌}
 use Rattle.std.specs.Prelude.{nat_lt, unwrap_or, option_to_list}
 use Rattle.std.specs.List.{AllByRecursion, list_any, zip}
-use Rattle.std.proofs.lemmas.Bool.{true≢false, and_parts, or_parts, eqb-true, leb-true, ltb-true, ltb-false}
+use Rattle.std.proofs.lemmas.Bool.{true≢false, and_parts, or_parts, eqb-true, leb-true, ltb-true, ltb-false, cond-false}
 use Rattle.lapi_base.specs.declared.script.Script.{Script}
 use Rattle.lapi_base.specs.declared.address.Addr.{Addr}
 use Rattle.lapi_base.specs.declared.piece.Piece.{Piece}
@@ -16,12 +16,15 @@ use Rattle.lapi_base.specs.declared.event.Event.TheVariants.{Issue, Enter}
 use Rattle.lapi_base.specs.Record.Names.{EventKey, Issued, Entered, Copied, Landed, Begun, Ended, key_of, happened, message}
 use Rattle.lapi_base.specs.Record.Operations.{statements, statement, address, target_pieces, origin_pieces, is_rmw, target_of, target, own_counter, tgt_counter, org_counter, cmpl_counter, is_am}
 use Rattle.lapi_base.specs.Record.Handlers.{handler_of, user_header, has_completion}
-use Rattle.lapi_base.specs.Record.Refusals.{option_any, is_known, lies_within, counters_of, is_vector, too_long, is_misaligned, refusal_by, refusal_of}
+use Rattle.lapi_base.specs.Record.Refusals.{option_any, is_known, lies_within, counters_of, is_vector, too_long, is_misaligned, refusal_by, refusal_of, first_reason}
 use Rattle.lapi_base.specs.Record.Atomic.{Atomic, Keeps, needs, copy_needs, only_if, to_land, has_statement}
 use Rattle.lapi_base.specs.Laws.Receiving.{NamesCounter}
 use Rattle.lapi_base.proofs.ListLaws.{all-weaker}
 use Rattle.lapi_laws.proofs.Backward.{closed, shown}
 use Rattle.lapi_laws.proofs.Shorts.{none-tests, last-of}
+use Rattle.lapi_base.specs.declared.refusal.Refusal.{Refusal}
+use Rattle.lapi_base.specs.Laws.Headline.{HoldsOfAtomic}
+use Rattle.lapi_base.specs.Laws.Copying.{CopiedAreAccepted}
 
 -- what no element passes
 any-none : {X : Type 0} (t : X → Bool) (xs : List X) → list_any t xs ≡ false → AllByRecursion (λ x. t x ≡ false) xs
@@ -36,6 +39,16 @@ not-false false h = absurd (true≢false h)
 not-both : (a b : Bool) → a ≡ true → (a && b) ≡ false → b ≡ false
 not-both true b h e = e
 not-both false b h e = absurd (true≢false (let x : true ≡ false = cc in x))
+
+-- reasons of which none applies
+no-tests : (lines : List (Bool × Refusal)) → AllByRecursion (λ line. line.0 ≡ false) lines → first_reason lines ≡ None
+unfolding first_reason
+no-tests [] h = refl
+no-tests (line ∷ lines) h = cond-false line.0 (Some line.1) (first_reason lines) h.0 ∙ no-tests lines h.1
+
+none-unknown : (ps : List Piece) → list_any (λ (p : Piece). not true) ps ≡ false
+none-unknown [] = refl
+none-unknown (p ∷ ps) = none-unknown ps
 
 split-all : {X : Type 0} (P : X → Type 0) (xs ys : List X) → AllByRecursion P (xs ++ ys) → AllByRecursion P xs × AllByRecursion P ys
 split-all P [] ys h = (tt, h)
@@ -66,6 +79,13 @@ module _ (script : Script) where
       let x = or_parts (known p.at && not (lies_within script d p)) (list_any (λ (p : Piece). known p.at && not (lies_within script d p)) ps) h in
       let y = or_parts (not (known p.at)) (list_any (λ (p : Piece). not (known p.at)) ps) k in
       (within d p (not-both (known p.at) (not (lies_within script d p)) (not-false (known p.at) y.0) x.0), known-within known d ps x.1 y.1)
+
+  outside-known : (known : Addr → Bool) (d : ℕ) (ps : List Piece) → list_any (λ (p : Piece). known p.at && not (lies_within script d p)) ps ≡ false → list_any (λ (p : Piece). not (known p.at)) ps ≡ false → list_any (λ (p : Piece). true && not (lies_within script d p)) ps ≡ false
+  outside-known known d [] h k = refl
+  outside-known known d (p ∷ ps) h k =
+      let x = or_parts (known p.at && not (lies_within script d p)) (list_any (λ (q : Piece). known q.at && not (lies_within script d q)) ps) h in
+      let y = or_parts (not (known p.at)) (list_any (λ (q : Piece). not (known q.at)) ps) k in
+      ap (λ b. b || list_any (λ (q : Piece). true && not (lies_within script d q)) ps) (not-both (known p.at) (not (lies_within script d p)) (not-false (known p.at) y.0) x.0) ∙ outside-known known d ps x.1 y.1
 
   target-is : (o : Option ℕ) (a : ℕ) → a < script.tasks → option_any (λ t. not (nat_lt t script.tasks)) o ≡ false → unwrap_or o a < script.tasks
   target-is None a l h = l
@@ -132,22 +152,34 @@ module _ (script : Script) where
               );
         }
 
-    -- of what was issued or entered
-    abbrev WasAccepted : EventKey → Type 0
-    WasAccepted (Issued a i) = Accepted (target script a i) (statement script a i)
-    WasAccepted (Entered a i) = Accepted (target script a i) (statement script a i)
-    WasAccepted _ = Unit {0}
+    -- what no reason is found for has none where every address is known
+    always-known : (known : Addr → Bool) (a i : ℕ) → refusal_by script rules known a i ≡ None → refusal_by script rules (λ _. true) a i ≡ None
+    unfolding refusal_by
+    always-known known a i h =
+        let t = none-tests _ h in
+        let to = target_pieces (statement script a i) in
+        let d = target script a i in
+        no-tests _ (t.0, (outside-known known d to t.1.0 t.1.1.1.1.1.0, (t.1.1.0, (t.1.1.1.0, (t.1.1.1.1.0, (none-unknown to, t.1.1.1.1.1.1))))))
 
     is-task : (a i : ℕ) → has_statement script rules a i ≡ true → a < script.tasks
     is-task a i h = ltb-true a script.tasks (and_parts (nat_lt a script.tasks) (nat_lt i (length (statements script a))) h).0
 
+    -- of what was issued or entered
+    abbrev IsUnrefused : (task statement : ℕ) → Type 0
+    IsUnrefused a i = (a < script.tasks) × (refusal_by script rules (λ _. true) a i ≡ None)
+
+    abbrev WasAccepted : EventKey → Type 0
+    WasAccepted (Issued a i) = IsUnrefused a i
+    WasAccepted (Entered a i) = IsUnrefused a i
+    WasAccepted _ = Unit {0}
+
     accepted-now : (e : Event) (J : List Event) → Keeps script rules J e → WasAccepted (key_of e)
     unfolding refusal_of
-    accepted-now (Issue a i) J k = accepted (is_known script J a) a i (is-task a i (and_parts _ _ k.there).0) k.order.1
-    accepted-now (Enter a i) J k = accepted (is_known script J a) a i (is-task a i (and_parts _ _ k.there).0) k.order.1
+    accepted-now (Issue a i) J k = (is-task a i (and_parts _ _ k.there).0, always-known (is_known script J a) a i k.order.1)
+    accepted-now (Enter a i) J k = (is-task a i (and_parts _ _ k.there).0, always-known (is_known script J a) a i k.order.1)
     accepted-now e J k = tt
 
-    needs-accepted : (J : List Event) (a i : ℕ) (leg : Leg) → Atomic script rules J → AllByRecursion (λ d. happened d J ≡ true) (copy_needs script rules a i leg) → Accepted (target script a i) (statement script a i)
+    needs-accepted : (J : List Event) (a i : ℕ) (leg : Leg) → Atomic script rules J → AllByRecursion (λ d. happened d J ≡ true) (copy_needs script rules a i leg) → IsUnrefused a i
     needs-accepted J a i Go h n = shown script rules WasAccepted accepted-now (Issued a i) J h n.0
     needs-accepted J a i (Join d) h n = shown script rules WasAccepted accepted-now (Entered a i) J h n.0
     needs-accepted J a i _ h n =
@@ -155,6 +187,16 @@ module _ (script : Script) where
         shown script rules WasAccepted accepted-now (Issued a i) J h rest.1.0
 
     -- and so of each message that was copied
-    pub copied-accepted : (J : List Event) (m : MsgName) → Atomic script rules J → happened (Copied m) J ≡ true → Accepted (target script m.origin m.statement) (statement script m.origin m.statement)
+    copied-unrefused : (J : List Event) (m : MsgName) → Atomic script rules J → happened (Copied m) J ≡ true → IsUnrefused m.origin m.statement
     unfolding needs
-    copied-accepted J m h d = needs-accepted J m.origin m.statement m.leg h (closed script rules (Copied m) J h d)
+    copied-unrefused J m h d = needs-accepted J m.origin m.statement m.leg h (closed script rules (Copied m) J h d)
+
+    pub copied-accepted : (J : List Event) (m : MsgName) → Atomic script rules J → happened (Copied m) J ≡ true → Accepted (target script m.origin m.statement) (statement script m.origin m.statement)
+    copied-accepted J m h d = let u = copied-unrefused J m h d in accepted (λ _. true) m.origin m.statement u.0 u.1
+
+    -- and of each statement that was entered
+    pub entered-accepted : (J : List Event) (a i : ℕ) → Atomic script rules J → happened (Entered a i) J ≡ true → Accepted (target script a i) (statement script a i)
+    entered-accepted J a i h d = let u = shown script rules WasAccepted accepted-now (Entered a i) J h d in accepted (λ _. true) a i u.0 u.1
+
+pub all-accepted : HoldsOfAtomic CopiedAreAccepted
+all-accepted script rules J h = λ m d. (copied-unrefused script rules J m h d).1

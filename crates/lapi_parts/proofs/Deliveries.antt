@@ -1,6 +1,6 @@
 -- What the delivery of a packet writes and announces, by its head and the packets before it.
 use Rattle.std.proofs.Common.{◌≡◌, ℕ, ◌+◌, add-zero, ◌==◌, Bool, true, false, cond, ◌&&◌, not, List, [], ◌∷◌, ◌++◌, Option, Some, None, refl, sym, ap, ◌∙◌, arith}
-use Rattle.std.specs.Prelude.{slice_get, is_some}
+use Rattle.std.specs.Prelude.{is_some}
 use Rattle.std.specs.List.{AllByRecursion}
 use Rattle.std.proofs.lemmas.Bool.{false≢true, and_parts, cond_both, cond-true}
 use Rattle.lapi_base.specs.declared.script.Script.{Script}
@@ -17,19 +17,20 @@ use Rattle.lapi_base.specs.declared.packet.Packet.{Packet}
 use Rattle.lapi_base.specs.declared.packet.Packet.TheVariants.{Data}
 use Rattle.lapi_base.specs.declared.packet.DataPacket.{DataPacket}
 use Rattle.lapi_base.specs.Record.Names.{message, leg_eq, Copied, happened}
-use Rattle.lapi_base.specs.Record.Operations.{statement, target, target_pieces, origin_pieces, spans, is_rmw, address, to_by, receiver, is_am, has_back, has_leg, tgt_counter, cmpl_counter, length_by, message_length}
+use Rattle.lapi_base.specs.Record.Operations.{statement, target, target_pieces, origin_pieces, spans, is_rmw, address, to_by, receiver, is_am, has_back, has_leg, tgt_counter, cmpl_counter, length_by, message_length, sender}
 use Rattle.lapi_base.specs.Record.Handlers.{number_of, word_bytes, buffer, has_completion, answers, answer_pieces}
 use Rattle.lapi_base.specs.Record.Values.{Values, values, Write, gathered, scattered, new_word, byte_after, land_writes}
 use Rattle.lapi_base.specs.Record.Counters.{is_counter, land_tells, tells, count}
 use Rattle.lapi_base.specs.Record.Refusals.{option_any}
 use Rattle.lapi_base.specs.Record.Packets.{head_by}
-use Rattle.lapi_base.specs.Record.Wires.{Run, is_delivered}
+use Rattle.lapi_base.specs.Record.Wires.{Run, is_delivered, IsEntry}
 use Rattle.lapi_base.specs.Record.Acts.{followed, first_delivery, after_land, note_of, hand_over, deliver_entry, deliver, perform}
 use Rattle.lapi_base.specs.Record.Atomic.{Atomic}
 use Rattle.lapi_base.specs.Record.WorldView.{performed, IsRecord, HoldsOfRecords}
 use Rattle.lapi_base.specs.Laws.Entries.{carried}
-use Rattle.lapi_base.specs.Record.Arrived.{has_some, whole_by, is_whole, assembled, count_of, is_active, follows, comes}
-use Rattle.lapi_base.specs.Laws.Landing.{announces, lands, DeliveriesWrite, DeliveriesAnnounce}
+use Rattle.lapi_base.specs.Record.Arrived.{has_some, whole_by, is_whole, assembled, count_of, comes}
+use Rattle.lapi_base.specs.Record.HeadSays.{announces, lands, is_active, follows}
+use Rattle.lapi_base.specs.Laws.Landing.{DeliveriesWrite, DeliveriesAnnounce}
 use Rattle.lapi_base.proofs.ListLaws.{all-get}
 use Rattle.lapi_base.proofs.TestLaws.{eqb-refl}
 use Rattle.lapi_laws.proofs.Out.{numbered-copied}
@@ -153,7 +154,7 @@ module _ (script : Script) (rules : Rules) where
   quiet-all (e ∷ es) J q = quiet-all es (e ∷ J) q.1 ∙ quiet-memory e J q.0
 
   -- a Head changes nothing at all
-  head-values : (m : MsgName) (J : List Event) → values script rules (Head m ∷ J) ≡ values script rules J
+  pub head-values : (m : MsgName) (J : List Event) → values script rules (Head m ∷ J) ≡ values script rules J
   unfolding values byte_after
   head-values m J =
       let e = quiet-memory (Head m) J tt in
@@ -164,7 +165,7 @@ module _ (script : Script) (rules : Rules) where
   land-memory J m x = cond-true (receiver script m == receiver script m) _ _ (eqb-refl (receiver script m))
 
   -- the events of an first_delivery
-  abbrev arriving : (first whole : Bool) → MsgName → List Event → List Event
+  abbrev pub arriving : (first whole : Bool) → MsgName → List Event → List Event
   arriving first whole m after = cond first (Head m ∷ []) [] ++ cond whole (Land m ∷ after) []
 
   arrive-memory : (J : List Event) (first whole : Bool) (m : MsgName) (after : List Event) (x : ℕ) → AllByRecursion IsQuiet after →
@@ -241,7 +242,7 @@ module _ (script : Script) (rules : Rules) where
 
   -- ---- a delivery
 
-  delivered : (r : Run) (a b k : ℕ) (p : DataPacket) → slice_get (r.wire a b) k ≡ Some (Data p) → (performed script rules r (Deliver a b k)).journal ≡ followed r.journal (cond (is_delivered r a b p.seq) [] (first_delivery script rules r a b p.name p.seq))
+  pub delivered : (r : Run) (a b k : ℕ) (p : DataPacket) → IsEntry r a b k (Data p) → (performed script rules r (Deliver a b k)).journal ≡ followed r.journal (cond (is_delivered r a b p.seq) [] (first_delivery script rules r a b p.name p.seq))
   unfolding performed perform deliver hand_over
   delivered r a b k p at = ap (λ o. (deliver_entry script rules r a b o).journal) at
 
@@ -259,6 +260,7 @@ module _ (script : Script) (rules : Rules) where
     pub atomic : Atomic script rules r.journal
     pub copied : happened (Copied p.name) r.journal ≡ true
     pub leg : has_leg script (answers script rules p.name.origin p.name.statement) p.name.origin p.name.leg (statement script p.name.origin p.name.statement) ≡ true
+    pub sent : sender script p.name ≡ a
     pub place : receiver script p.name ≡ b
     pub head : p.head ≡ head_by script p.name p.name.leg (statement script p.name.origin p.name.statement)
     pub size : p.length ≡ message_length script p.name
@@ -312,7 +314,7 @@ module _ (script : Script) (rules : Rules) where
       ∙ elim whole as (λ w. n + cond w (named (announces p.head hc) c) 0 ≡ n + cond (w && option_any (λ d. d == c) (announces p.head hc)) 1 0) [ true ↦ refl | false ↦ refl ]
 
 -- the laws
-facts : (script : Script) (rules : Rules) (r : Run) → IsRecord script rules r → (a b k : ℕ) (p : DataPacket) → slice_get (r.wire a b) k ≡ Some (Data p) → Facts script rules r a b p
+pub facts : (script : Script) (rules : Rules) (r : Run) → IsRecord script rules r → (a b k : ℕ) (p : DataPacket) → IsEntry r a b k (Data p) → Facts script rules r a b p
 facts script rules r is a b k p at =
     let s = record-sound script rules r is in
     let x = record-exact script rules r is in
@@ -325,6 +327,7 @@ facts script rules r is a b k p at =
       atomic = s.atomic;
       copied = out.0;
       leg = leg;
+      sent = out.1;
       place = out.2;
       head = head;
       size = length-is script rules r.journal p exact;

@@ -9,7 +9,7 @@ use Rattle.lapi_base.specs.declared.packet.Packet.TheVariants.{Data}
 use Rattle.lapi_base.specs.declared.packet.DataPacket.{DataPacket}
 use Rattle.lapi_base.specs.Packet.Layout.{window_of}
 use Rattle.lapi_base.specs.Record.Operations.{sender, fragment_count}
-use Rattle.lapi_base.specs.Record.Wires.{Run, numbered, is_number, has_number, is_delivered}
+use Rattle.lapi_base.specs.Record.Wires.{Run, numbered, is_number, has_number, is_delivered, IsEntry}
 use Rattle.lapi_base.specs.Laws.Links.{IsPartlyDelivered, StaysInWindow, FewArePartial}
 use Rattle.lapi_base.specs.Record.WorldView.{HoldsOfRecords}
 use Rattle.lapi_base.specs.Record.Arrived.{is_part_of, is_fragment, has_some, has_fragment, whole_by, is_whole}
@@ -27,7 +27,7 @@ use Rattle.lapi_parts.proofs.HandedPackets.{of-fit, fit-fragment, numbered-has, 
 
 module _ (script : Script) (rules : Rules) (r : Run) (s : SoundRun script rules r) where
   -- a packet of the wire has its number there
-  sent-at : (a b k : ℕ) (p : DataPacket) → slice_get (r.wire a b) k ≡ Some (Data p) → has_number (r.wire a b) p.seq ≡ true
+  sent-at : (a b k : ℕ) (p : DataPacket) → IsEntry r a b k (Data p) → has_number (r.wire a b) p.seq ≡ true
   unfolding has_number
   sent-at a b k p at = any-get (is_number p.seq) (r.wire a b) k (Data p) at (eqb-refl p.seq)
 

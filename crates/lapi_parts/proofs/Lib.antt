@@ -26,3 +26,11 @@ pub mod Receivable
 pub mod SentFront
 pub mod Deliveries
 pub mod PartRows
+pub mod LineEvents
+pub mod QueuedJobs
+pub mod HeadAnswers
+pub mod CopiedJoins
+pub mod UnackedCounts
+pub mod CopiedCounts
+pub mod RoundOrder
+pub mod JoinedRounds

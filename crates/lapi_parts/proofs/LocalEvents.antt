@@ -15,12 +15,13 @@ use Rattle.lapi_base.specs.Record.Names.{leg_eq, EventKey, Issued, Refused, Ente
 use Rattle.lapi_base.specs.Record.Operations.{statement, sender, receiver, fragments}
 use Rattle.lapi_base.specs.Record.Handlers.{has_completion}
 use Rattle.lapi_base.specs.Record.Counters.{is_counter, tells, count, issued_count, passed_count, read_by, reads}
-use Rattle.lapi_base.specs.Record.Refusals.{next}
+use Rattle.lapi_base.specs.Record.Refusals.{next, refusals}
 use Rattle.lapi_base.specs.Record.Jobs.{is_job, landed_jobs, runs}
 use Rattle.lapi_base.specs.Record.Wires.{numbered}
 use Rattle.lapi_base.specs.Record.TaskPart.{is_at, events_at}
 use Rattle.lapi_base.proofs.NameLaws.{deed_eq-true, happened-cons}
 use Rattle.lapi_base.proofs.TestLaws.{eqb-refl}
+use Rattle.lapi_base.specs.declared.refusal.Refusal.{Refusal}
 
 -- an event that stands at the task, or one that doesn't
 pub events-here : (script : Script) (t : ℕ) (e : Event) (J : List Event) → is_at script t e ≡ true → events_at script t (e ∷ J) ≡ e ∷ events_at script t J
@@ -302,3 +303,35 @@ module _ (script : Script) (t : ℕ) where
 
   pub runs-local : (J : List Event) (w : ℕ) → runs (events_at script t J) t w ≡ runs J t w
   runs-local J w = folds script t (λ K. runs K t w) (runs-step w) (runs-steps w) (runs-others w) J
+
+  -- What was refused.
+  refusals-step : Event → List (ℕ × Refusal) → List (ℕ × Refusal)
+  refusals-step (Refuse a i why) xs = xs ++ cond (a == t) ((i, why) ∷ []) []
+  refusals-step _ xs = xs
+
+  refusals-steps : (e : Event) (J : List Event) → refusals (e ∷ J) t ≡ refusals-step e (refusals J t)
+  unfolding refusals refusals-step
+  refusals-steps (Refuse a i why) J = refl
+  refusals-steps (Issue a i) J = refl
+  refusals-steps (Enter a i) J = refl
+  refusals-steps (Pass a i) J = refl
+  refusals-steps (Copy m) J = refl
+  refusals-steps (Head m) J = refl
+  refusals-steps (Land m) J = refl
+  refusals-steps (Begin m a w) J = refl
+  refusals-steps (End m a w) J = refl
+
+  refusals-others : (e : Event) (xs : List (ℕ × Refusal)) → is_at script t e ≡ false → refusals-step e xs ≡ xs
+  unfolding refusals-step
+  refusals-others (Refuse a i why) xs h = ap (λ b. xs ++ cond b ((i, why) ∷ []) []) h ∙ append-nil xs
+  refusals-others (Issue a i) xs h = refl
+  refusals-others (Enter a i) xs h = refl
+  refusals-others (Pass a i) xs h = refl
+  refusals-others (Copy m) xs h = refl
+  refusals-others (Head m) xs h = refl
+  refusals-others (Land m) xs h = refl
+  refusals-others (Begin m a w) xs h = refl
+  refusals-others (End m a w) xs h = refl
+
+  pub refusals-local : (J : List Event) → refusals (events_at script t J) t ≡ refusals J t
+  refusals-local J = folds script t (λ K. refusals K t) refusals-step refusals-steps refusals-others J

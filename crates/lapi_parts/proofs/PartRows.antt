@@ -15,8 +15,8 @@ use Rattle.lapi_base.specs.Record.Values.{scattered}
 use Rattle.lapi_base.specs.Record.Wires.{has_number}
 use Rattle.lapi_base.specs.Packet.PacketBytes as written
 use Rattle.lapi_base.specs.Record.TaskPart.{events_at, part_at}
-use Rattle.lapi_base.specs.Record.Arrived.{has_fragment, has_some, whole_by, payload_of, assembled, number_bound, least_number, ack_of, count_of, follows, comes}
-use Rattle.lapi_base.specs.Laws.Landing.{announces, lands}
+use Rattle.lapi_base.specs.Record.Arrived.{has_fragment, has_some, whole_by, payload_of, assembled, number_bound, least_number, ack_of, count_of, comes}
+use Rattle.lapi_base.specs.Record.HeadSays.{announces, lands, follows}
 use Rattle.lapi_laws.proofs.WorkedRuns.{builtin, run, wire_of, smallest_run, no_bytes_three_counters}
 
 -- Eight bytes that are put: the packet, and the acknowledgement.

@@ -1,8 +1,8 @@
 -- What comes in fits the script and what came before it.
 use Rattle.std.proofs.Common.{◌≡◌, ℕ, ◌+◌, ◌-◌, ◌*◌, ◌<◌, ◌≤◌, eqb, min, true, false, List, [], ◌∷◌, length, take, drop, Some, refl, sym, ap, ◌∙◌, subst, ⊎_elim, arith, Bool}
-use Rattle.std.specs.Prelude.{slice_get, is_some, nat_lt}
+use Rattle.std.specs.Prelude.{slice_get, is_some, nat_lt, ◌==◌}
 use Rattle.std.specs.List.{AllByRecursion, IsDistinct, list_any}
-use Rattle.std.proofs.lemmas.Bool.{false≢true, both_ways, and_parts, eqb-true, ltb-true, false_from_ne_true, cases_lt, leb-true}
+use Rattle.std.proofs.lemmas.Bool.{false≢true, both_ways, and_parts, eqb-true, ltb-true, false_from_ne_true, cases_lt, leb-true, ltb-false, or_parts, cond_both}
 use Rattle.std.proofs.lemmas.List.{length-take, length-drop}
 use Rattle.std.proofs.lemmas.Option.{slice_get_within}
 use Rattle.std.proofs.lemmas.Map.Steps.{length-le_from_distinct_below}
@@ -18,11 +18,11 @@ use Rattle.lapi_base.specs.declared.event.Event.{Event}
 use Rattle.lapi_base.specs.declared.packet.Packet.{Packet}
 use Rattle.lapi_base.specs.declared.packet.Packet.TheVariants.{Data, Ack}
 use Rattle.lapi_base.specs.declared.packet.DataPacket.{DataPacket}
-use Rattle.lapi_base.specs.Packet.Layout.{unit_of, window_of}
+use Rattle.lapi_base.specs.Packet.Layout.{unit_of, window_of, longest_of, longest_active_of, First, Second, longest as most}
 use Rattle.lapi_base.specs.Record.Below.{least_missing}
 use Rattle.lapi_base.specs.Record.Names.{name_eq, Copied}
-use Rattle.lapi_base.specs.Record.Operations.{statements, statement, target, address, spans, pieces_of, sender, receiver, has_leg, length_by, message_length, cmpl_counter, is_am}
-use Rattle.lapi_base.specs.Record.Refusals.{round_of}
+use Rattle.lapi_base.specs.Record.Operations.{statements, statement, target, address, spans, pieces_of, sender, receiver, has_leg, length_by, message_length, cmpl_counter, is_am, total}
+use Rattle.lapi_base.specs.Record.Refusals.{round_of, is_long}
 use Rattle.lapi_base.specs.Record.Packets.{head_by, data_packet}
 use Rattle.lapi_base.specs.Record.Wires.{Run, numbered, covers, is_number, has_number, is_sent, is_delivered, least_undelivered}
 use Rattle.lapi_base.specs.Record.Atomic.{Atomic}
@@ -31,7 +31,7 @@ use Rattle.lapi_base.specs.Laws.Links.{IsPartlyDelivered, StaysInWindow}
 use Rattle.lapi_base.specs.Record.WorldView.{HoldsOfRecords}
 use Rattle.lapi_base.specs.Laws.Entries.{carried}
 use Rattle.lapi_base.specs.Record.Arrived.{is_fragment, has_some, has_fragment, count_of}
-use Rattle.lapi_base.specs.Laws.Receiving.{IsWord, IsThereInPart, SpansAreInMemory, HeadFits, AcksCoverSent, FitsScript, PacketsFitScript, HeadsAgree, NewAreOpen, NewHaveRoom}
+use Rattle.lapi_base.specs.Laws.Receiving.{IsWord, IsThereInPart, SpansAreInMemory, HeadFits, AcksCoverSent, FitsScript, PacketsFitScript, HeadsAgree, NewAreOpen, NewHaveRoom, longest_with}
 use Rattle.lapi_base.specs.Laws.Sending.{SentAreNumbers, AckedAreSent}
 use Rattle.lapi_base.specs.Record.Handlers.{answers, has_completion, user}
 use Rattle.lapi_base.proofs.BelowLaws.{least_missing-below}
@@ -59,6 +59,10 @@ use Rattle.lapi_parts.proofs.InReach.{part-delivered}
 spans-inside : (script : Script) (d : ℕ) (ps : List Piece) → AllByRecursion (LiesWithin script d) ps → SpansAreInMemory script (spans script d ps)
 spans-inside script d [] h = tt
 spans-inside script d (p ∷ ps) h = (h.0, spans-inside script d ps h.1)
+
+word-short : (script : Script) → 4 ≤ longest_of script
+unfolding longest_of
+word-short script = cond_both (script.layout == 2) Second First (λ l. 4 ≤ most l) (λ _. omega arith) (λ _. omega arith)
 
 module _ (script : Script) (rules : Rules) (m : MsgName) where
   note-fits : (s : Statement) → is_some (cmpl_counter s) ≡ true → Accepted script rules (target script m.origin m.statement) s → HeadFits script rules 0 (head_by script m Note s)
@@ -98,6 +102,22 @@ module _ (script : Script) (rules : Rules) (m : MsgName) where
   head-fits ans (Join d) (Statement.Addr at) w g h r = let within : at + 0 ≤ script.memory = h.from.0 in (r, omega arith)
   head-fits ans _ s w g h r = absurd (false≢true g)
 
+  -- and no message is too long for it
+  head-short : (answers : Bool) (leg : Leg) (s : Statement) → has_leg script answers m.origin leg s ≡ true → Accepted script rules (target script m.origin m.statement) s → length_by leg s ≤ longest_with script (head_by script m leg s)
+  head-short ans Go (Put task to from len tgt org cmpl) g h = ltb-false (longest_of script) len h.short
+  head-short ans Go (Get task from to len tgt org) g h = omega arith
+  head-short ans Go (Putv task to from tgt org cmpl) g h = ltb-false (longest_of script) (total (pieces_of from)) (or_parts (is_long script (pieces_of to)) (is_long script (pieces_of from)) h.short).1
+  head-short ans Go (Getv task from to tgt org) g h = omega arith
+  head-short ans Go (Rmw task op at in1 in2 prev org) g h = omega arith
+  head-short ans Go (Am task handler header from len tgt org cmpl) g h = ltb-false (longest_active_of script) len h.short
+  head-short ans Back (Get task from to len tgt org) g h = ltb-false (longest_of script) len h.short
+  head-short ans Back (Getv task from to tgt org) g h = ltb-false (longest_of script) (total (pieces_of from)) (or_parts (is_long script (pieces_of from)) (is_long script (pieces_of to)) h.short).0
+  head-short ans Back (Rmw task op at in1 in2 prev org) g h = word-short script
+  head-short ans Note s g h = omega arith
+  head-short ans Echo s g h = word-short script
+  head-short ans (Join d) s g h = omega arith
+  head-short ans _ s g h = absurd (false≢true g)
+
 -- ---- packets
 
 payload_in : Packet → List ℕ
@@ -117,6 +137,10 @@ module _ (script : Script) (rules : Rules) where
   unfolding message_length
   head-keeps m g h r = head-fits script rules m (answers script rules m.origin m.statement) m.leg (statement script m.origin m.statement) (answer-word m) g h r
 
+  keeps-short : (m : MsgName) → has_leg script (answers script rules m.origin m.statement) m.origin m.leg (statement script m.origin m.statement) ≡ true → Accepted script rules (target script m.origin m.statement) (statement script m.origin m.statement) → message_length script m ≤ longest_with script (head_by script m m.leg (statement script m.origin m.statement))
+  unfolding message_length
+  keeps-short m g h = head-short script rules m (answers script rules m.origin m.statement) m.leg (statement script m.origin m.statement) g h
+
   payload-is : (J : List Event) (p : DataPacket) → Exact script rules J (Data p) → p.payload ≡ take (unit_of script) (drop (unit_of script * p.fragment) (carried script rules J p.name))
   unfolding data_packet payload_in
   payload-is J p x = ap payload_in x
@@ -133,13 +157,15 @@ module _ (script : Script) (rules : Rules) where
       let at = ltb-true m.statement (length (statements script m.origin)) place.1 in
       let most = statements-few script rules valid m.origin in
       let size = length-is script rules J p x in
-      let keeps = head-keeps m is.1 (copied-accepted script rules J m h copied) (round-small script m.origin m.statement (omega (arith, at, most))) in
+      let fine = copied-accepted script rules J m h copied in
+      let keeps = head-keeps m is.1 fine (round-small script m.origin m.statement (omega (arith, at, most))) in
       let bytes = carried script rules J m in
       record {
         number = omega (arith, room, few);
         origin = ltb-true m.origin script.tasks place.0;
         statement = at;
         head = subst (λ k. HeadFits script rules p.length k) (sym (head-is script rules J p x)) (subst (λ n. HeadFits script rules n (head_by script m m.leg (statement script m.origin m.statement))) (sym size) keeps);
+        short = subst (λ k. p.length ≤ longest_with script k) (sym (head-is script rules J p x)) (subst (λ n. n ≤ longest_with script (head_by script m m.leg (statement script m.origin m.statement))) (sym size) (keeps-short m is.1 fine));
         fragment = subst (λ (n : ℕ). p.fragment < n) (counts-is script rules m ∙ ap (count_of script) (sym size)) (numbered-below script J a b p.seq (m, p.fragment) f);
         payload =
             ap length (payload-is J p x)

@@ -14,7 +14,7 @@ use Rattle.lapi_base.specs.Record.Names.{EventKey, Issued, Copied, Landed, messa
 use Rattle.lapi_base.specs.Record.Operations.{statement, sender, receiver, is_data, has_back, fragment_count}
 use Rattle.lapi_base.specs.Record.Values.{Values, values}
 use Rattle.lapi_base.specs.Record.Counters.{count, reads}
-use Rattle.lapi_base.specs.Record.Refusals.{next, joined, refusal_of}
+use Rattle.lapi_base.specs.Record.Refusals.{next, joined, refusal_of, refusals}
 use Rattle.lapi_base.specs.Record.Jobs.{queue, runs}
 use Rattle.lapi_base.specs.Record.Packets.{data_packet}
 use Rattle.lapi_base.specs.Record.Wires.{Run, numbered, has_number, has_ack, all_numbers, base, data_done, data_clear, packet_of, packets, to_send, ack, owed_ack, to_resend}
@@ -28,7 +28,7 @@ use Rattle.lapi_laws.proofs.Sound.{Sound, add_entries}
 use Rattle.lapi_laws.proofs.Lines.{SoundRun, poll-sound}
 use Rattle.lapi_parts.proofs.Records.{record-sound}
 use Rattle.lapi_parts.proofs.ExactBytes.{ExactRun, poll-exact, record-exact}
-use Rattle.lapi_parts.proofs.LocalEvents.{next-local, numbered-local, LiesAt, happened-local, count-local, reads-local, runs-local}
+use Rattle.lapi_parts.proofs.LocalEvents.{next-local, numbered-local, LiesAt, happened-local, count-local, reads-local, runs-local, refusals-local}
 use Rattle.lapi_parts.proofs.LocalQuestions.{by_points, joined-local, why-local, ready-local, copy_each-local, data_done-local}
 use Rattle.lapi_parts.proofs.LineFrames.{ready-own}
 use Rattle.lapi_parts.proofs.HandedPackets.{ack-local}
@@ -78,6 +78,7 @@ module _ (script : Script) (rules : Rules) (t : ℕ) where
       same_events = λ d at. sym (happens-local script rules t d r.journal ar at) ∙ ap (happened d) same.events ∙ happens-local script rules t d s.journal as' at;
       next = by-events (λ K. next K t) (next-local script t);
       refused = λ i. by-events (λ K. refusal_of script rules K t i) (λ K. why-local script t rules K i);
+      refusals = by-events (λ K. refusals K t) (refusals-local script t);
       counters = λ c. by-events (λ K. count script rules K t c) (λ K. count-local script t rules K c);
       reads = by-events (λ K. reads script rules K t) (reads-local script t rules);
       joined = λ i. by-events (λ K. joined script K t i) (λ K. joined-local script t K i);

@@ -37,37 +37,6 @@ use Rattle.lapi_task.specs.Sends.{SendsFor, packet_at, spelled}
 use Rattle.lapi_task.specs.StandsFor.{is_uncopied, SenderAt, ReceiverAt, HoldsFor, StandsFor}
 
 module _ (script : Script) (rules : Rules) (t : ℕ) where
-  refusals-step : Event → List (ℕ × Refusal) → List (ℕ × Refusal)
-  refusals-step (Refuse a i why) xs = xs ++ cond (a == t) ((i, why) ∷ []) []
-  refusals-step _ xs = xs
-
-  refusals-steps : (e : Event) (J : List Event) → refusals (e ∷ J) t ≡ refusals-step e (refusals J t)
-  unfolding refusals refusals-step
-  refusals-steps (Issue a i) J = refl
-  refusals-steps (Refuse a i why) J = refl
-  refusals-steps (Enter a i) J = refl
-  refusals-steps (Pass a i) J = refl
-  refusals-steps (Copy m) J = refl
-  refusals-steps (Head m) J = refl
-  refusals-steps (Land m) J = refl
-  refusals-steps (Begin m a w) J = refl
-  refusals-steps (End m a w) J = refl
-
-  refusals-others : (e : Event) (xs : List (ℕ × Refusal)) → is_at script t e ≡ false → refusals-step e xs ≡ xs
-  unfolding refusals-step
-  refusals-others (Refuse a i why) xs h = ap (λ b. xs ++ cond b ((i, why) ∷ []) []) h ∙ append-nil xs
-  refusals-others (Issue a i) xs h = refl
-  refusals-others (Enter a i) xs h = refl
-  refusals-others (Pass a i) xs h = refl
-  refusals-others (Copy m) xs h = refl
-  refusals-others (Head m) xs h = refl
-  refusals-others (Land m) xs h = refl
-  refusals-others (Begin m a w) xs h = refl
-  refusals-others (End m a w) xs h = refl
-
-  refusals-local : (J : List Event) → refusals (events_at script t J) t ≡ refusals J t
-  refusals-local J = folds script t (λ K. refusals K t) refusals-step refusals-steps refusals-others J
-
   -- Two records with the same part at the task.
   module _ (r s : Run) (ir : IsRecord script rules r) (is : IsRecord script rules s) (e : part_at script t r ≡ part_at script t s) where
     same : SamePart script rules t r s
@@ -78,9 +47,6 @@ module _ (script : Script) (rules : Rules) (t : ℕ) where
 
     links : SameLinks script rules t r s
     links = told-links script rules t r s ir is e
-
-    refusals-same : refusals r.journal t ≡ refusals s.journal t
-    refusals-same = sym (refusals-local r.journal) ∙ ap (λ K. refusals K t) same.events ∙ refusals-local s.journal
 
     uncopied-same : is_uncopied script r.journal t ≡ is_uncopied script s.journal t
     uncopied-same =
@@ -98,7 +64,7 @@ module _ (script : Script) (rules : Rules) (t : ℕ) where
       next = h.next ∙ acts.next;
       ahead = λ i le. sym (acts.same_events (Issued t i) refl) ∙ h.ahead i le;
       reads = h.reads ∙ acts.reads;
-      refusals = h.refusals ∙ refusals-same;
+      refusals = h.refusals ∙ acts.refusals;
       memory = h.memory ∙ memory-same;
       counter_count = h.counter_count;
       counters = λ c lt. h.counters c lt ∙ acts.counters c;

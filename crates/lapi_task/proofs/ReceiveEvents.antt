@@ -14,7 +14,8 @@ use Rattle.lapi_base.specs.declared.message.MsgName.{MsgName}
 use Rattle.lapi_base.specs.declared.packet.Packet.{Packet}
 use Rattle.lapi_base.specs.declared.packet.DataPacket.{DataPacket}
 use Rattle.lapi_base.specs.declared.packet.Packet.TheVariants.{Data}
-use Rattle.lapi_base.specs.Record.Arrived.{count_of, has_some, whole_by, assembled, is_active, noted, follows, comes}
+use Rattle.lapi_base.specs.Record.HeadSays.{is_active, noted, follows}
+use Rattle.lapi_base.specs.Record.Arrived.{count_of, has_some, whole_by, assembled, comes}
 use Rattle.lapi_base.specs.Record.Counters.{reads}
 use Rattle.lapi_base.specs.Record.Handlers.{has_completion}
 use Rattle.lapi_base.specs.Record.Jobs.{runs}

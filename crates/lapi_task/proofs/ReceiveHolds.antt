@@ -13,8 +13,8 @@ use Rattle.lapi_base.specs.declared.packet.DataPacket.{DataPacket}
 use Rattle.lapi_base.specs.Record.Arrived.{whole_by, is_whole, assembled, count_of}
 use Rattle.lapi_base.specs.Record.Counters.{count}
 use Rattle.lapi_base.specs.Record.Handlers.{has_completion}
-use Rattle.lapi_base.specs.Laws.Landing.{announces, lands, one_span}
-use Rattle.lapi_base.specs.Record.Operations.{statements, fragment_count}
+use Rattle.lapi_base.specs.Record.HeadSays.{announces, lands}
+use Rattle.lapi_base.specs.Record.Operations.{statements, fragment_count, one_span}
 use Rattle.lapi_base.specs.Record.Wires.{Run, is_delivered}
 use Rattle.lapi_base.specs.Record.Acts.{deliver, perform}
 use Rattle.lapi_base.specs.declared.schedule.Act.TheVariants.{Deliver}

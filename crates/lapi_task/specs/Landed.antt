@@ -11,7 +11,7 @@ use Rattle.lapi_base.specs.declared.packet.DataPacket.{DataPacket}
 use Rattle.lapi_base.specs.declared.packet.Packet.{Packet}
 use Rattle.lapi_base.specs.declared.packet.Packet.TheVariants.{Data}
 use Rattle.lapi_base.specs.declared.script.Script.{Script}
-use Rattle.lapi_base.specs.Record.Arrived.{noted}
+use Rattle.lapi_base.specs.Record.HeadSays.{noted}
 use Rattle.lapi_base.specs.Record.Names.{message}
 use Rattle.lapi_base.specs.Packet.Spelling.{HasSpelling}
 use Rattle.lapi_base.specs.Packet.PacketBytes as written

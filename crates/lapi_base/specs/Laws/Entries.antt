@@ -13,7 +13,7 @@ use Rattle.lapi_base.specs.Packet.PacketBytes as written
 use Rattle.lapi_base.specs.Record.Names.{Copied}
 use Rattle.lapi_base.specs.Record.Values.{values}
 use Rattle.lapi_base.specs.Record.Packets.{data_packet}
-use Rattle.lapi_base.specs.Record.Wires.{Run, numbered}
+use Rattle.lapi_base.specs.Record.Wires.{Run, numbered, IsEntry}
 use Rattle.lapi_base.specs.Record.Valid.{ValidScript, ValidRules}
 use Rattle.lapi_base.specs.Laws.Headline.{Happened}
 
@@ -45,12 +45,12 @@ module _ (script : Script) (rules : Rules) where
 
   -- every packet on a wire goes between tasks that there are, and from the wire's one end to its other
   abbrev pub PacketsArePlaced : Run → Type 0
-  PacketsArePlaced r = (a b k : ℕ) (p : Packet) → slice_get (r.wire a b) k ≡ Some p → (a < script.tasks) × (b < script.tasks) × GoesFrom a b p
+  PacketsArePlaced r = (a b k : ℕ) (p : Packet) → IsEntry r a b k p → (a < script.tasks) × (b < script.tasks) × GoesFrom a b p
 
   -- every packet on a wire has a spelling
   abbrev pub PacketsAreSpelled : Run → Type 0
-  PacketsAreSpelled r = ValidScript script → ValidRules rules → (a b k : ℕ) (p : Packet) → slice_get (r.wire a b) k ≡ Some p → HasSpelling p
+  PacketsAreSpelled r = ValidScript script → ValidRules rules → (a b k : ℕ) (p : Packet) → IsEntry r a b k p → HasSpelling p
 
   -- and it is what is written for it
   abbrev pub PacketsAreWritten : Run → Type 0
-  PacketsAreWritten r = ValidScript script → ValidRules rules → (a b k : ℕ) (p : Packet) → slice_get (r.wire a b) k ≡ Some p → Spells p (written.packet p)
+  PacketsAreWritten r = ValidScript script → ValidRules rules → (a b k : ℕ) (p : Packet) → IsEntry r a b k p → Spells p (written.packet p)

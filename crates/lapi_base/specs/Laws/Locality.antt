@@ -14,7 +14,7 @@ use Rattle.lapi_base.specs.Record.Names.{EventKey, happened}
 use Rattle.lapi_base.specs.Record.Operations.{receiver}
 use Rattle.lapi_base.specs.Record.Values.{values}
 use Rattle.lapi_base.specs.Record.Counters.{count, reads}
-use Rattle.lapi_base.specs.Record.Refusals.{next, joined, refusal_of}
+use Rattle.lapi_base.specs.Record.Refusals.{next, joined, refusal_of, refusals}
 use Rattle.lapi_base.specs.Record.Jobs.{queue, runs}
 use Rattle.lapi_base.specs.Record.Wires.{Run, numbered, base, data_done, data_clear, packets, to_resend, sends}
 use Rattle.lapi_base.specs.Record.Acts.{ready, copy_each}
@@ -38,6 +38,7 @@ module _ (script : Script) (rules : Rules) where
     pub same_events : (d : EventKey) → place_of_key script d ≡ t → happened d r.journal ≡ happened d s.journal
     pub next : next r.journal t ≡ next s.journal t
     pub refused : (i : ℕ) → refusal_of script rules r.journal t i ≡ refusal_of script rules s.journal t i
+    pub refusals : refusals r.journal t ≡ refusals s.journal t
     pub counters : (c : ℕ) → count script rules r.journal t c ≡ count script rules s.journal t c
     pub reads : reads script rules r.journal t ≡ reads script rules s.journal t
     pub joined : (i : ℕ) → joined script r.journal t i ≡ joined script s.journal t i

@@ -1,26 +1,25 @@
 -- What the packets that were handed over on a link tell, without the journal: which fragments are there, the
 -- acknowledgement, the events of the next packet, and the bytes of a message. These are words of this project.
-use Rattle.std.specs.Prelude.{◌≡◌, ℕ, suc, ◌+◌, max, ◌==◌, Bool, true, false, cond, ◌&&◌, not, List, [], ◌∷◌, ◌++◌, slice_get, Option, Some, is_some}
+use Rattle.std.specs.Prelude.{◌≡◌, ℕ, suc, ◌+◌, max, ◌==◌, Bool, true, false, cond, ◌&&◌, not, List, [], ◌∷◌, ◌++◌, slice_get, Some}
 use Rattle.std.specs.List.{list_any, flat_map}
 use Rattle.lapi_base.specs.declared.script.Script.{Script}
 use Rattle.lapi_base.specs.declared.rule.Rules.{Rules}
-use Rattle.lapi_base.specs.declared.message.Leg.TheVariants.{Go, Back, Note}
+use Rattle.lapi_base.specs.declared.message.Leg.TheVariants.{Go}
 use Rattle.lapi_base.specs.declared.message.MsgName.{MsgName}
 use Rattle.lapi_base.specs.declared.event.Event.{Event}
-use Rattle.lapi_base.specs.declared.event.Event.TheVariants.{Copy, Head, Land}
-use Rattle.lapi_base.specs.declared.head.Head.{Head as PacketHead}
-use Rattle.lapi_base.specs.declared.head.Head.TheVariants as heads
+use Rattle.lapi_base.specs.declared.event.Event.TheVariants.{Head, Land}
 use Rattle.lapi_base.specs.declared.packet.Packet.{Packet}
 use Rattle.lapi_base.specs.declared.packet.Packet.TheVariants.{Data, Ack}
 use Rattle.lapi_base.specs.declared.packet.DataPacket.{DataPacket}
 use Rattle.lapi_base.specs.Record.Fragments.{fragments_in}
 use Rattle.lapi_base.specs.Packet.Layout.{unit_of, window_of}
 use Rattle.lapi_base.specs.Record.Below.{every_below, least_missing, bits_of}
-use Rattle.lapi_base.specs.Record.Names.{message, name_eq, leg_eq}
+use Rattle.lapi_base.specs.Record.Names.{name_eq, leg_eq}
 use Rattle.lapi_base.specs.Record.Operations.{numbers_below, statement, is_am, fragment_count}
 use Rattle.lapi_base.specs.Record.Handlers.{has_completion}
 use Rattle.lapi_base.specs.Record.Wires.{has_number}
 use Rattle.lapi_base.specs.Record.Acts.{after_land}
+use Rattle.lapi_base.specs.Record.HeadSays.{is_active, follows}
 
 -- Fragments.
 abbrev pub is_fragment : MsgName → ℕ → Packet → Bool
@@ -79,26 +78,6 @@ arrival_of script rules packets p m =
 -- the fragments of a message with so many bytes
 unfoldable pub count_of : Script → (length : ℕ) → ℕ
 count_of script length = fragments_in (unit_of script) length
-
-abbrev pub is_active : PacketHead → Bool
-is_active (heads.Am handler tgt cmpl header) = true
-is_active _ = false
-
-abbrev pub noted : MsgName → Option ℕ → List Event
-noted m cmpl = cond (is_some cmpl) (Copy (message m.origin m.statement Note) ∷ []) []
-
-abbrev pub answered : MsgName → List Event
-answered m = Copy (message m.origin m.statement Back) ∷ []
-
--- what follows the landing of a message with this head; an active message with a completion has its notice later
-unfoldable pub follows : PacketHead → (completion : Bool) → MsgName → List Event
-follows (heads.Put at tgt cmpl) completion m = noted m cmpl
-follows (heads.Putv tgt cmpl pieces) completion m = noted m cmpl
-follows (heads.Am handler tgt cmpl header) completion m = cond completion [] (noted m cmpl)
-follows (heads.GetGo asked source dest tgt org) completion m = answered m
-follows (heads.GetvGo tgt org source dest) completion m = answered m
-follows (heads.RmwGo op at in1 in2 prev org) completion m = answered m
-follows _ completion m = []
 
 -- the events of a packet with a new number, which comes to these
 unfoldable pub comes : Script → Rules → List Packet → DataPacket → List Event

@@ -91,6 +91,9 @@ origin_pieces (Am target handler header from len tgt org cmpl) = one_piece (Plai
 origin_pieces (Statement.Addr at) = one_piece (Plain at) 0
 origin_pieces _ = []
 
+abbrev pub one_span : (at len : ℕ) → List Span
+one_span at len = record { at = at; len = len } ∷ []
+
 abbrev pub spans : Script → (target : ℕ) → List Piece → List Span
 spans script d pieces = map (λ p. record { at = address script d p.at; len = p.len }) pieces
 

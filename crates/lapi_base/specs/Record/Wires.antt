@@ -1,6 +1,6 @@
 -- What a record has on its wires: the entries, the numbers of each link, which were sent, delivered and
 -- acknowledged, and what a task would send. This is the project's own.
-use Rattle.std.specs.Prelude.{ℕ, ◌+◌, ◌-◌, ◌==◌, nat_lt, Bool, false, cond, ◌&&◌, ◌||◌, not, List, [], ◌∷◌, ◌++◌, length, slice_get, Option, Some, None}
+use Rattle.std.specs.Prelude.{◌≡◌, ℕ, ◌+◌, ◌-◌, ◌==◌, nat_lt, Bool, false, cond, ◌&&◌, ◌||◌, not, List, [], ◌∷◌, ◌++◌, length, slice_get, Option, Some, None}
 use Rattle.std.specs.List.{list_any, flat_map}
 use Rattle.lapi_base.specs.declared.script.Script.{Script}
 use Rattle.lapi_base.specs.declared.rule.Rules.{Rules}
@@ -28,6 +28,10 @@ pub record Run : Type 0 where
 
 abbrev pub start : Run
 start = record { replies = []; wire = λ a b. []; handed = λ a b. []; owed = λ a b. false; journal = [] }
+
+-- the packet is the entry of this place of the wire from a to b
+abbrev pub IsEntry : Run → (from to place : ℕ) → Packet → Type 0
+IsEntry r a b k p = slice_get (r.wire a b) k ≡ Some p
 
 -- Numbers on a link.
 

@@ -5,7 +5,7 @@ ghost use Rattle.lapi_base.specs.declared.script.Script.{Script};
 ghost use Rattle.lapi_base.specs.declared.packet.Packet.{Packet as ThePacket};
 ghost use Rattle.lapi_base.specs.declared.packet.Packet.TheVariants.{Data};
 ghost use Rattle.lapi_base.specs.declared.reply.Bad.{Bad};
-ghost use Rattle.lapi_base.specs.Record.Arrived.{noted};
+ghost use Rattle.lapi_base.specs.Record.HeadSays.{noted};
 ghost use Rattle.lapi_base.specs.Record.Wires.{Run};
 ghost use Rattle.lapi_base.specs.Record.Acts.{deliver};
 ghost use Rattle.lapi_base.specs.Packet.Spelling.{Spells, decoded};
