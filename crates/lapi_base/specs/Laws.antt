@@ -6,3 +6,4 @@ pub mod Receiving
 pub mod Sending
 pub mod Landing
 pub mod LinesTaken
+pub mod Rising

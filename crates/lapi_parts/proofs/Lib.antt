@@ -26,3 +26,4 @@ pub mod Receivable
 pub mod SentFront
 pub mod Deliveries
 pub mod PartRows
+pub mod RisingStatements
