@@ -34,7 +34,7 @@ impl From<ReadStatement> for TaskLine {
     }
 }
 
-#[tactic(auto, unfolding(lapi_base::specs::Input::Forms::task_line_form), using(lapi_base::proofs::Runs::run_does, crate::proofs::TaskLineSteps::does))]
+#[tactic(auto, unfolding(lapi_base::specs::Input::Forms::task_line_form), using(lapi_base::proofs::Runs::run_statement, crate::proofs::TaskLineSteps::does))]
 pub(crate) fn task_line(alloc: Global, words: &mut Words) -> Result<TaskLine, LineFault>
     ensures { HoldsTaskLine result (run task_line_form words.old) }
 {
