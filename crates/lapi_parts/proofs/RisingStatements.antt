@@ -49,7 +49,7 @@ module _ (script : Script) (rules : Rules) (t : ℕ) where
   added {X = X} J a i to xs more turn le past last h = elim (a == t) as (λ b. (a == t) ≡ b → RiseBetween 0 to (xs ++ cond b more [])) [
     | true ↦ λ e. let own = eqb-true a t e in between-more 0 (suc (next J t)) to (xs ++ more) (past own) (last (next J t) (turn ∙ ap (next J) own) h)
     | false ↦ λ e. between-none 0 to xs (between-more 0 (next J t) to xs le h)
-    ] refl
+  ] refl
 
   refused-last : {X : Type 0} (i : ℕ) (v : X) (xs : List (ℕ × X)) (n : ℕ) → i ≡ n → RiseBetween 0 n xs → RiseBetween 0 (suc n) (xs ++ (i, v) ∷ [])
   refused-last i v xs n e h = subst (λ k. RiseBetween 0 (suc n) (xs ++ (k, v) ∷ [])) (sym e) (between-last 0 n xs v h)
