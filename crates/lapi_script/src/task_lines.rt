@@ -6,7 +6,7 @@ ghost use Rattle.lapi_script.specs.TaskLines.{HoldsTaskLine};
 
 use crate::fault::LineFault;
 use crate::fields::{end, number, word};
-use crate::statements::{ReadStatement, statement};
+use crate::statements::{self, ReadStatement};
 use crate::words::{Words, is_text};
 use lapi_base::Statement;
 use std::alloc::Global;
@@ -47,6 +47,6 @@ pub(crate) fn task_line(alloc: Global, words: &mut Words) -> Result<TaskLine, Li
         end(words)?;
         Ok(TaskLine::Schedule)
     } else {
-        Ok(TaskLine::from(statement(alloc, first, words)?))
+        Ok(TaskLine::from(statements::read(alloc, first, words)?))
     }
 }
