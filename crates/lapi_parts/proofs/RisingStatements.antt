@@ -11,7 +11,7 @@ use Rattle.lapi_base.specs.declared.event.Event.TheVariants.{Issue, Refuse, Ente
 use Rattle.lapi_base.specs.Record.Operations.{statement}
 use Rattle.lapi_base.specs.Record.Counters.{count, read_by, reads}
 use Rattle.lapi_base.specs.Record.Refusals.{next, refusals}
-use Rattle.lapi_base.specs.Record.Atomic.{Atomic, Keeps}
+use Rattle.lapi_base.specs.Record.Atomic.{Atomic}
 use Rattle.lapi_base.specs.Record.WorldView.{HoldsOfRecords}
 use Rattle.lapi_base.specs.Laws.Rising.{RiseFrom, StatementsRise}
 use Rattle.lapi_laws.proofs.Backward.{Atomic-head, Atomic-tail, next-later}
