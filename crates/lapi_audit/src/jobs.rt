@@ -1,11 +1,10 @@
 //! The jobs that wait for a worker, and those that run.
 ghost use Rattle.std.specs.Prelude.{◌≡◌, ◌<◌, ◌&&◌, ◌∷◌, [], ◌++◌, true, ℕ, List, length, drop, map, replicate, None, slice_get, slice_index_or, slice_set, IfOk, OnOk};
-ghost use Rattle.lapi_base.specs.Record.Names as names;
 ghost use Rattle.lapi_base.specs.Record.Valid.{ValidScript};
 ghost use Rattle.lapi_audit.specs.Jobs as jobs;
 ghost use Rattle.lapi_calls.specs.Setting.{rules_of};
 
-use lapi_base::{Event, Leg, Memory, MsgName, Script, Statement};
+use lapi_base::{Event, Memory, MsgName, Script, Statement};
 use lapi_calls::{Setting, is_go, receiver};
 use std::alloc::Global;
 use std::collections::VecDeque;
@@ -187,31 +186,7 @@ fn is_name(name: MsgName, other: Option<MsgName>) -> bool
     ensures { result ≡ jobs.is_name name other }
 {
     match other {
-        Some(other) => same_name(name, other),
+        Some(other) => name.is_same(other),
         None => false,
-    }
-}
-
-/// Whether two names are of one message.
-#[tactic(auto, unfolding(lapi_base::specs::Record::Names::name_eq))]
-fn same_name(a: MsgName, b: MsgName) -> bool
-    ensures { result ≡ names.name_eq a b }
-{
-    a.origin == b.origin && a.statement == b.statement && same_leg(a.leg, b.leg)
-}
-
-/// Whether two legs are the same.
-fn same_leg(a: Leg, b: Leg) -> bool
-    ensures { result ≡ names.leg_eq a b }
-{
-    match a {
-        Leg::Go => is_go(b),
-        Leg::Back => matches!(b, Leg::Back),
-        Leg::Note => matches!(b, Leg::Note),
-        Leg::Echo => matches!(b, Leg::Echo),
-        Leg::Join(a) => match b {
-            Leg::Join(b) => a == b,
-            Leg::Go | Leg::Back | Leg::Note | Leg::Echo => false,
-        },
     }
 }

@@ -4,7 +4,7 @@ use Rattle.lapi_base.specs.declared.input.LineError.{LineError}
 use Rattle.lapi_base.specs.declared.schedule.Act.{Act}
 use Rattle.lapi_base.specs.declared.schedule.Line.{Line}
 use Rattle.lapi_base.specs.Input.Tokens.{Number}
-use Rattle.lapi_base.specs.Input.Forms.{Form, End, Wrong, Next, Take, run, and_then, word_at, value_at, end_at, ◌>>=◌, Does, statement_form, act_form, line_form}
+use Rattle.lapi_base.specs.Input.Forms.{Form, End, Wrong, Next, Take, run, and_then, word_at, value_at, end_at, ◌>>=◌, StatementLine, statement_form, act_form, line_form}
 
 then_ok : {A B C : Type 0} (r : Result A LineError) (f : A → Result B LineError) (g : B → C) → and_then (and_then r f) (λ b. Ok (g b)) ≡ and_then r (λ a. and_then (f a) (λ b. Ok (g b)))
 then_ok (Ok x) f g = refl
@@ -24,8 +24,8 @@ run_then Wrong f words = refl
 run_then (Next more) f words = then_same (word_at words) _ _ (λ x. run_then (more x.0) f x.1) ∙ sym (then_ok (word_at words) (λ x. run (more x.0) x.1) f)
 run_then (Take kind more) f words = then_same (value_at kind words) _ _ (λ x. run_then (more x.0) f x.1) ∙ sym (then_ok (value_at kind words) (λ x. run (more x.0) x.1) f)
 
-pub run_does : (word : List ℕ) (words : List (List ℕ)) → run (statement_form word >>= λ s. End (Does s)) words ≡ and_then (run (statement_form word) words) (λ s. Ok (Does s))
-run_does word words = run_then (statement_form word) (λ s. Does s) words
+pub run_statement : (word : List ℕ) (words : List (List ℕ)) → run (statement_form word >>= λ s. End (StatementLine s)) words ≡ and_then (run (statement_form word) words) (λ s. Ok (StatementLine s))
+run_statement word words = run_then (statement_form word) (λ s. StatementLine s) words
 
 -- a schedule's line, part by part
 pub run_line : (words : List (List ℕ)) → run line_form words

@@ -10,3 +10,4 @@ pub mod Working
 pub mod Answering
 pub mod Copying
 pub mod Rounds
+pub mod Rising

@@ -1,6 +1,7 @@
 //! The types of a run: scripts and schedules, events, packets, and the small lists they stand in.
 #![tactic(auto)]
 
+mod act_row;
 mod address;
 mod bytes;
 mod command;
@@ -30,6 +31,7 @@ mod user_header;
 mod vector;
 mod wire;
 
+pub use act_row::ActRow;
 pub use address::Addr;
 pub use bytes::Bytes;
 pub use command::{Command, View};

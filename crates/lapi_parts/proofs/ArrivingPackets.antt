@@ -27,7 +27,7 @@ use Rattle.lapi_base.specs.Record.Acts.{after_land, with_handed}
 use Rattle.lapi_base.specs.Record.WorldView.{HoldsOfRecords}
 use Rattle.lapi_base.specs.Laws.Entries.{carried}
 use Rattle.lapi_base.specs.Record.HeadSays.{is_active, noted, answered, follows}
-use Rattle.lapi_base.specs.Record.Arrived.{IsKnown, ack_of, arrival_of, has_some, whole_by, is_whole, count_of, comes}
+use Rattle.lapi_base.specs.Record.Arrived.{IsKnown, ack_of, has_some, whole_by, is_whole, count_of, comes, is_active, noted, answered, follows}
 use Rattle.lapi_base.specs.Laws.Receiving.{AcksAreTold, NextAcksAreTold, ArrivalsAreTold, RepeatsAreKnown}
 use Rattle.lapi_base.proofs.ListLaws.{all-get, some-same}
 use Rattle.lapi_base.proofs.TestLaws.{eqb-refl}
@@ -36,7 +36,7 @@ use Rattle.lapi_laws.proofs.Backward.{there}
 use Rattle.lapi_laws.proofs.Sound.{Fits}
 use Rattle.lapi_parts.proofs.Records.{record-sound}
 use Rattle.lapi_parts.proofs.ExactBytes.{Exact, record-exact}
-use Rattle.lapi_parts.proofs.HandedPackets.{least-local, ack-local, arrival-local}
+use Rattle.lapi_parts.proofs.HandedPackets.{arrival_of, least-local, ack-local, arrival-local}
 
 and-none : (x : Bool) → (x && false) ≡ false
 and-none true = refl

@@ -20,7 +20,7 @@ use Rattle.lapi_base.specs.Record.Operations.{statement, is_am, sender, receiver
 use Rattle.lapi_base.specs.Record.Wires.{Run, numbered, is_number, has_number, all_numbers, some_number, ack}
 use Rattle.lapi_base.specs.Record.Acts.{first_delivery, after_land}
 use Rattle.lapi_base.specs.Record.Atomic.{Atomic}
-use Rattle.lapi_base.specs.Record.Arrived.{is_fragment, is_part_of, has_fragment, has_some, whole_by, is_whole, number_bound, least_number, ack_of, arrival_of}
+use Rattle.lapi_base.specs.Record.Arrived.{is_fragment, is_part_of, has_fragment, has_some, whole_by, is_whole, number_bound, least_number, ack_of}
 use Rattle.lapi_base.proofs.BelowLaws.{every_below-at, every_below-from, least_missing-same}
 use Rattle.lapi_base.proofs.ListLaws.{any-find, get-front, get-places, get-right, some-same}
 use Rattle.lapi_base.proofs.NameLaws.{happened-cases, happened-nil, name_eq-refl, name_eq-true}
@@ -31,6 +31,12 @@ use Rattle.lapi_laws.proofs.Backward.{Atomic-head, Atomic-tail}
 use Rattle.lapi_laws.proofs.Sound.{Lists, Fits}
 use Rattle.lapi_laws.proofs.Arrival.{all_numbers-at, all_numbers-from, some_number-at, some_number-from}
 use Rattle.lapi_laws.proofs.Places.{fragments-at, fragments-get}
+
+-- the events of a packet of message m with a new number, which comes to these
+unfoldable pub arrival_of : Script → Rules → List Packet → Packet → MsgName → List Event
+arrival_of script rules packets p m =
+    cond (is_am (statement script m.origin m.statement) && leg_eq m.leg Go && not (has_some packets m)) (Head m ∷ []) []
+    ++ cond (is_whole script (p ∷ packets) m) (Land m ∷ after_land script rules m) []
 
 not-here : (e : Event) (J : List Event) (m : MsgName) → (Copied m ≡ key_of e → ⊥) → happened (Copied m) (e ∷ J) ≡ true → happened (Copied m) J ≡ true
 not-here e J m apart d = ⊎_elim (λ (x : Copied m ≡ key_of e). absurd (apart x)) (λ (x : happened (Copied m) J ≡ true). x) (happened-cases (Copied m) e J d)

@@ -34,3 +34,4 @@ pub mod UnackedCounts
 pub mod CopiedCounts
 pub mod RoundOrder
 pub mod JoinedRounds
+pub mod RisingStatements

@@ -4,7 +4,7 @@ ghost use Rattle.lapi_reassembly.specs.Partial.{IsPartial, nothing_of, with_frag
 
 use crate::head_copy::copy_of;
 use crate::message::Message;
-use lapi_base::{Bytes, Head, HeaderOut, Leg, Memory, MsgName};
+use lapi_base::{Bytes, Head, HeaderOut, Memory, MsgName};
 use std::alloc::Global;
 use std::marker::Model;
 
@@ -60,7 +60,7 @@ impl Partial {
     pub(crate) fn is_of(&self, name: MsgName) -> bool
         ensures { IsTrue result ↔ (self.now.name ≡ name) }
     {
-        same_name(self.name, name)
+        self.name.is_same(name)
     }
 
     /// Puts a fragment's payload to its place.
@@ -110,18 +110,6 @@ impl Partial {
             out,
         }
     }
-}
-
-fn same_name(a: MsgName, b: MsgName) -> bool
-    ensures { IsTrue result ↔ (a ≡ b) }
-{
-    a.origin == b.origin && a.statement == b.statement && same_leg(a.leg, b.leg)
-}
-
-fn same_leg(a: Leg, b: Leg) -> bool
-    ensures { IsTrue result ↔ (a ≡ b) }
-{
-    a == b
 }
 
 // Writes bytes over those from `at` on.

@@ -1,6 +1,7 @@
 pub mod Digits
 pub mod Entries
 pub mod Numbers
+pub mod OfStatements
 pub mod Pairs
 pub mod Progress
 pub mod ScheduleLines

@@ -1,1 +1,2 @@
 pub mod SinkWrites
+pub mod OfStatements

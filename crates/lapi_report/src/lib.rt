@@ -9,6 +9,7 @@ mod memory;
 mod packet;
 mod parts;
 mod report;
+mod rising;
 mod task;
 mod text_line;
 mod trace;

@@ -9,12 +9,16 @@ use crate::text_line::TextLine;
 use lapi_io::{Failed, Sink};
 
 /// A line for each 16 bytes that aren't all zero; the last of them may be fewer.
-pub(crate) fn write_memory<K: Sink>(t: u32, bytes: &[u8], sink: &mut K) -> Result<(), Failed>
+pub(crate) fn write_memory<K: Sink>(
+    t: u32,
+    bytes: &[u8],
+    line: &mut TextLine,
+    sink: &mut K,
+) -> Result<(), Failed>
     ensures { Writes K.held K.faults K.room sink.old sink.new (memory_text t bytes.now) result }
 {
-    let mut line = TextLine::new();
     for k in 0..bytes.len().div_ceil(16) {
-        write_row(t, 16 * k, row_at(bytes, 16 * k), &mut line, sink)?;
+        write_row(t, 16 * k, row_at(bytes, 16 * k), line, sink)?;
     }
     Ok(())
 }

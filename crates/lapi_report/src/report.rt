@@ -29,17 +29,17 @@ fn write_parts<K: Sink>(world: &World, sink: &mut K) -> Result<(), Failed>
     ensures { Writes K.held K.faults K.room sink.old sink.new
         (report_text world.now.script world.now.rules (view_record world.now) (length world.now.taken)) result }
 {
-    write_totals(world, sink)?;
-    write_tasks(world, sink)?;
-    write_quiet(world.quiet(), sink)
+    let mut line = TextLine::new();
+    write_totals(world, &mut line, sink)?;
+    write_tasks(world, &mut line, sink)?;
+    write_quiet(world.quiet(), &mut line, sink)
 }
 
-fn write_totals<K: Sink>(world: &World, sink: &mut K) -> Result<(), Failed>
+fn write_totals<K: Sink>(world: &World, line: &mut TextLine, sink: &mut K) -> Result<(), Failed>
     requires { world.now.spent ≡ false }
     ensures { Writes K.held K.faults K.room sink.old sink.new
         (totals_text (length world.now.taken) (length (view_record world.now).journal)) result }
 {
-    let mut line = TextLine::new();
     line.begin("lines ");
     line.number(world.taken().len() as u64);
     line.text("\nevents ");
@@ -48,22 +48,21 @@ fn write_totals<K: Sink>(world: &World, sink: &mut K) -> Result<(), Failed>
     line.write(sink)
 }
 
-fn write_tasks<K: Sink>(world: &World, sink: &mut K) -> Result<(), Failed>
+fn write_tasks<K: Sink>(world: &World, line: &mut TextLine, sink: &mut K) -> Result<(), Failed>
     requires { world.now.spent ≡ false }
     ensures { Writes K.held K.faults K.room sink.old sink.new
-        (flat_map (task_text world.now.script world.now.rules (view_record world.now)) (numbers_below world.now.script.tasks))
-        result }
+        (flat_map (task_text world.now.script world.now.rules (view_record world.now))
+        (numbers_below world.now.script.tasks)) result }
 {
     for t in 0..world.script().tasks {
-        write_task(world, t, sink)?;
+        write_task(world, t, line, sink)?;
     }
     Ok(())
 }
 
-fn write_quiet<K: Sink>(quiet: bool, sink: &mut K) -> Result<(), Failed>
+fn write_quiet<K: Sink>(quiet: bool, line: &mut TextLine, sink: &mut K) -> Result<(), Failed>
     ensures { Writes K.held K.faults K.room sink.old sink.new (quiet_line quiet) result }
 {
-    let mut line = TextLine::new();
     line.begin("quiet ");
     line.text(if quiet { "yes" } else { "no" });
     line.text("\n");

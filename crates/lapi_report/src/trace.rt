@@ -17,10 +17,8 @@ pub fn write_trace<K: Sink>(world: &World, sink: &mut K) -> Result<(), WriteFaul
         (trace_text world.now.schedule world.now.taken (view_record world.now).replies) result }
     ensures only_failed { IfErr result (λ fault. fault ≡ WriteFault.Failed) }
 {
-    match write_lines(world.schedule(), world.taken(), world.replies(), sink) {
-        Ok(()) => Ok(()),
-        Err(Failed) => Err(WriteFault::Failed),
-    }
+    write_lines(world.schedule(), world.taken(), world.replies(), sink)?;
+    Ok(())
 }
 
 #[tactic(auto, unfolding(lapi_base::specs::Output::TraceText::trace_text))]

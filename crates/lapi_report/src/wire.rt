@@ -26,20 +26,26 @@ fn write_wires<K: Sink>(world: &World, sink: &mut K) -> Result<(), Failed>
     ensures { Writes K.held K.faults K.room sink.old sink.new
         (wire_text world.now.script (view_record world.now)) result }
 {
+    let mut line = TextLine::new();
     for a in 0..world.script().tasks {
-        write_wires_from(world, a, sink)?;
+        write_wires_from(world, a, &mut line, sink)?;
     }
     Ok(())
 }
 
-fn write_wires_from<K: Sink>(world: &World, a: u32, sink: &mut K) -> Result<(), Failed>
+fn write_wires_from<K: Sink>(
+    world: &World,
+    a: u32,
+    line: &mut TextLine,
+    sink: &mut K,
+) -> Result<(), Failed>
     requires spent { world.now.spent ≡ false }
     requires task { a < world.now.script.tasks }
     ensures { Writes K.held K.faults K.room sink.old sink.new
         (wires_from_text world.now.script (view_record world.now) a) result }
 {
     for b in 0..world.script().tasks {
-        write_entries(a, b, world.wire(a, b), sink)?;
+        write_entries(a, b, world.wire(a, b), line, sink)?;
     }
     Ok(())
 }
@@ -48,13 +54,13 @@ pub(crate) fn write_entries<K: Sink>(
     a: u32,
     b: u32,
     entries: &[Bytes],
+    line: &mut TextLine,
     sink: &mut K,
 ) -> Result<(), Failed>
     ensures { Writes K.held K.faults K.room sink.old sink.new (entry_lines a b 0 entries.now) result }
 {
-    let mut line = TextLine::new();
     for (k, entry) in entries.iter().enumerate() {
-        write_entry(a, b, k, entry.as_slice(), &mut line, sink)?;
+        write_entry(a, b, k, entry.as_slice(), line, sink)?;
     }
     Ok(())
 }
@@ -77,7 +83,8 @@ fn write_entry<K: Sink>(
 
 /// Leaves in `line` what stands before the bytes of entry `k` from task `a` to task `b`.
 fn begin_entry(a: u32, b: u32, k: usize, line: &mut TextLine)
-    ensures text { line.new ≡ (codes "wire " ++ decimal a ++ codes " " ++ decimal b ++ codes " " ++ decimal k ++ codes " ") }
+    ensures text { line.new ≡ (codes "wire " ++ decimal a ++ codes " " ++ decimal b
+        ++ codes " " ++ decimal k ++ codes " ") }
     ensures short { length line.new ≤ 100 }
 {
     line.begin("wire ");

@@ -4,3 +4,4 @@ pub mod PieceLists
 pub mod TaskLineSteps
 pub mod Onward
 pub mod Texts
+pub mod FirstWords

@@ -34,7 +34,7 @@ cut_there p bytes place e =
     let first = slice_split_first p bytes 0 (ltb-true _ _ found.0) in
     rw (drop-drop 1 place bytes, ← found.1) first
 
-some_parts : (p : ℕ → Bool) (bytes : List ℕ) → (first : List ℕ) × (more : List (List ℕ)) × (slice_split p bytes ≡ first ∷ more)
+pub some_parts : (p : ℕ → Bool) (bytes : List ℕ) → (first : List ℕ) × (more : List (List ℕ)) × (slice_split p bytes ≡ first ∷ more)
 some_parts p [] = ([], [], refl)
 some_parts p (b ∷ bytes) =
     let rest = some_parts p bytes in

@@ -19,7 +19,7 @@ use Rattle.lapi_script.specs.TaskLines.{HoldsTaskLine, IsDone, LineHasTooManyPie
 
 -- the line of a statement that is held, or has too many pieces
 pub does : (read : ReadStatement) (line : TaskLine) (reading : Result Statement LineError) → HoldsStatement (Ok read) reading → IsDone read line
-    → HoldsTaskLine (Ok line) (and_then reading (λ s. Ok (forms.Does s)))
+    → HoldsTaskLine (Ok line) (and_then reading (λ s. Ok (forms.StatementLine s)))
 does (read_statement.Held s) line reading holds is = rw (holds, is) refl
 does read_statement.TooManyPieces line (Ok s) holds is = rw is holds
 does read_statement.TooManyPieces line (Err why) holds is = absurd holds
@@ -42,13 +42,13 @@ too_many_pieces Gfence many = refl
 too_many_pieces (Statement.Addr at) many = refl
 
 pub too_many_pieces_first : (script : Script) (reading : Result forms.TaskLine LineError) → LineHasTooManyPieces reading → and_then reading (on_first_task script) ≡ Err Syntax
-too_many_pieces_first script (Ok (forms.Does s)) many = refl
+too_many_pieces_first script (Ok (forms.StatementLine s)) many = refl
 too_many_pieces_first script (Ok (forms.Task t)) many = absurd many
 too_many_pieces_first script (Ok forms.Schedule) many = absurd many
 too_many_pieces_first script (Err why) many = absurd many
 
 pub too_many_pieces_line : (script : Script) (current : List Statement) (reading : Result forms.TaskLine LineError) → LineHasTooManyPieces reading → and_then reading (on_task_line script current) ≡ Err (Limit which.Unbuilt)
-too_many_pieces_line script current (Ok (forms.Does s)) many = rw (too_many_pieces s many) refl
+too_many_pieces_line script current (Ok (forms.StatementLine s)) many = rw (too_many_pieces s many) refl
 too_many_pieces_line script current (Ok (forms.Task t)) many = absurd many
 too_many_pieces_line script current (Ok forms.Schedule) many = absurd many
 too_many_pieces_line script current (Err why) many = absurd many

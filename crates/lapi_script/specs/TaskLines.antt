@@ -12,14 +12,14 @@ use Rattle.lapi_script.specs.Gives.{Fails}
 
 -- a statement with more pieces than a vector may have
 abbrev pub LineHasTooManyPieces : Result forms.TaskLine LineError → Type 0
-LineHasTooManyPieces (Ok (forms.Does s)) = keeps_pieces s ≡ false
+LineHasTooManyPieces (Ok (forms.StatementLine s)) = keeps_pieces s ≡ false
 LineHasTooManyPieces (Ok _) = ⊥
 LineHasTooManyPieces (Err why) = ⊥
 
 abbrev pub HoldsTaskLine : Result TaskLine LineFault → Result forms.TaskLine LineError → Type 0
 HoldsTaskLine (Ok (Task t)) read = read ≡ Ok (forms.Task t)
 HoldsTaskLine (Ok Schedule) read = read ≡ Ok forms.Schedule
-HoldsTaskLine (Ok (Statement s)) read = read ≡ Ok (forms.Does s)
+HoldsTaskLine (Ok (Statement s)) read = read ≡ Ok (forms.StatementLine s)
 HoldsTaskLine (Ok TooManyPieces) read = LineHasTooManyPieces read
 HoldsTaskLine (Err fault) read = Fails fault read
 

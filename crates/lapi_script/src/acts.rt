@@ -1,15 +1,19 @@
-//! The lines of a schedule.
+//! The lines of a schedule, read and written.
 
-ghost use Rattle.std.specs.Prelude.{◌≡◌};
+ghost use Rattle.std.specs.Prelude.{◌≡◌, ◌++◌, ◌∷◌, OnOk};
+ghost use Rattle.std.specs.List.{flat_map};
+ghost use Rattle.lapi_base.specs.Input.ActRows.{number_text, injected_text};
 ghost use Rattle.lapi_base.specs.Input.Forms.{run, line_form, act_form, task_form, worker_form, deliver_form, cut_form, inject_form};
 ghost use Rattle.lapi_base.specs.declared.schedule.Act.{Act};
 ghost use Rattle.lapi_base.specs.declared.schedule.Act.TheVariants.{Step, Poll, Tick};
+ghost use Rattle.lapi_base.specs.Input.Rows.{act_row, row_line};
 ghost use Rattle.lapi_script.specs.Gives.{Gives};
 
 use crate::fault::{LineFault, syntax};
 use crate::fields::{end, number, optional_hex, word};
 use crate::words::{Words, is_text};
-use lapi_base::{Act, Line};
+use crate::write::values;
+use lapi_base::{Act, Line, Memory};
 use std::alloc::Global;
 
 #[tactic(auto, unfolding(lapi_base::specs::Input::Forms::deliver_form))]
@@ -126,4 +130,35 @@ pub(crate) fn line(alloc: Global, words: &mut Words) -> Result<Line, LineFault>
     let first = word(words)?;
     let act = act(alloc, first, words)?;
     Ok(Line { lane, act })
+}
+
+/// An act, behind a space.
+pub(crate) fn write(alloc: Global, out: &mut Vec<u8>, act: &Act) -> Result<(), Memory>
+    ensures { OnOk result (out.new.items ≡ out.old.items ++ 32 ∷ row_line (act_row act.now)) }
+{
+    let row = act.row();
+    values::put(out, b" ")?;
+    values::put(out, row.word.as_bytes())?;
+    numbers(alloc, out, row.numbers.as_slice())?;
+    injected(alloc, out, row.injected)
+}
+
+/// Each number, behind a space.
+fn numbers(alloc: Global, out: &mut Vec<u8>, numbers: &[u32]) -> Result<(), Memory>
+    ensures { OnOk result (out.new.items ≡ out.old.items ++ flat_map number_text numbers.now) }
+{
+    for each in numbers {
+        values::number(alloc, out, *each)?;
+    }
+    Ok(())
+}
+
+/// The bytes that are injected, if some are.
+fn injected(alloc: Global, out: &mut Vec<u8>, injected: Option<&[u8]>) -> Result<(), Memory>
+    ensures { OnOk result (out.new.items ≡ out.old.items ++ injected_text injected.entry) }
+{
+    match injected {
+        None => Ok(()),
+        Some(bytes) => values::optional_hex(alloc, out, bytes),
+    }
 }

@@ -23,7 +23,7 @@ use crate::limits::{
 };
 use crate::scan::is_clean;
 use crate::task_lines::{TaskLine, task_line};
-use crate::words::Words;
+use crate::words::{Words, is_remark};
 use lapi_base::{Input, Line, Schedule, Script, Statement, Statements, Which};
 use std::alloc::Global;
 use std::mem;
@@ -45,7 +45,8 @@ pub(crate) enum State {
 
 #[tactic(auto, using(crate::proofs::TaskLineSteps::too_many_pieces_first))]
 fn on_first_task(alloc: Global, script: Script, row: TaskLine) -> Result<State, LineFault>
-    ensures { (read : Result forms.TaskLine LineError) → HoldsTaskLine (Ok row) read → Gives state_of result (and_then read (on_first_task script)) }
+    ensures { (read : Result forms.TaskLine LineError) → HoldsTaskLine (Ok row) read
+        → Gives state_of result (and_then read (on_first_task script)) }
 {
     match row {
         TaskLine::Task(0) => Ok(State::Tasks {
@@ -86,7 +87,8 @@ fn on_task_line(
     current: Statements,
     row: TaskLine,
 ) -> Result<State, LineFault>
-    ensures { (read : Result forms.TaskLine LineError) → HoldsTaskLine (Ok row) read → Gives state_of result (and_then read (on_task_line script current)) }
+    ensures { (read : Result forms.TaskLine LineError) → HoldsTaskLine (Ok row) read
+        → Gives state_of result (and_then read (on_task_line script current)) }
 {
     let next = script.lists.as_slice().len() as u64 + 1;
     match row {
@@ -169,12 +171,15 @@ pub(crate) fn step(alloc: Global, state: State, words: &mut Words) -> Result<Sta
 }
 
 /// What a line adds.
-#[tactic(auto, unfolding(lapi_base::specs::Input::Reading::after))]
+#[tactic(auto, unfolding(lapi_base::specs::Input::Reading::after), using(crate::proofs::FirstWords::remark_skipped))]
 pub(crate) fn after(alloc: Global, state: &mut State, line: &[u8]) -> Result<(), LineFault>
     ensures { Gives (λ _. state_of state.new) result (after (state_of state.old) line.now) }
 {
     if !is_clean(line) {
         return Err(syntax());
+    }
+    if is_remark(line) {
+        return Ok(());
     }
     let mut words = Words::new(line);
     if words.are_skipped() {

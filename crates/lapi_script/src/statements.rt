@@ -1,12 +1,20 @@
-//! The statements, by their first word.
+//! The statements by their first word: each form has a file, in which it is read and written.
 
-mod counters;
+mod address_init;
+mod amsend;
+mod get;
+mod getcntr;
+mod getv;
+mod put;
+mod putv;
 mod rmw;
-mod transfers;
-mod vectors;
+mod setcntr;
+mod store;
+mod waitcntr;
 
-ghost use Rattle.std.specs.Prelude.{◌≡◌, Result};
+ghost use Rattle.std.specs.Prelude.{◌≡◌, ◌++◌, OnOk, Result};
 ghost use Rattle.lapi_base.specs.Input.Forms.{run, End, statement_form};
+ghost use Rattle.lapi_base.specs.Input.Rows.{statement_row, row_line};
 ghost use Rattle.lapi_base.specs.declared.input.LineError.{LineError};
 ghost use Rattle.lapi_base.specs.declared.statement.Statement.{Statement};
 ghost use Rattle.lapi_script.specs.Gives.{Gives};
@@ -15,7 +23,8 @@ ghost use Rattle.lapi_script.specs.ReadLines.{HoldsStatement};
 use crate::fault::{LineFault, syntax};
 use crate::fields::end;
 use crate::words::{Words, is_text};
-use lapi_base::Statement;
+use crate::write::values;
+use lapi_base::{Memory, Statement};
 use std::alloc::Global;
 
 /// A statement of the right form.
@@ -27,7 +36,7 @@ pub(crate) enum ReadStatement {
 }
 
 /// The statement that begins with this word.
-pub(crate) fn statement(
+pub(crate) fn read(
     alloc: Global,
     word: &[u8],
     words: &mut Words,
@@ -35,31 +44,31 @@ pub(crate) fn statement(
     ensures { HoldsStatement result (run (statement_form word.now) words.old) }
 {
     if is_text(word, b"store") {
-        held(transfers::store(alloc, words))
+        held(store::read(alloc, words))
     } else if is_text(word, b"put") {
-        held(transfers::put(words))
+        held(put::read(words))
     } else if is_text(word, b"get") {
-        held(transfers::get(words))
+        held(get::read(words))
     } else if is_text(word, b"putv") {
-        vectors::putv(words)
+        putv::read(words)
     } else if is_text(word, b"getv") {
-        vectors::getv(words)
+        getv::read(words)
     } else if is_text(word, b"rmw") {
-        held(rmw::rmw(words))
+        held(rmw::read(words))
     } else if is_text(word, b"amsend") {
-        held(transfers::amsend(alloc, words))
+        held(amsend::read(alloc, words))
     } else if is_text(word, b"waitcntr") {
-        held(counters::wait(words))
+        held(waitcntr::read(words))
     } else if is_text(word, b"setcntr") {
-        held(counters::set(words))
+        held(setcntr::read(words))
     } else if is_text(word, b"getcntr") {
-        held(counters::read(words))
+        held(getcntr::read(words))
     } else if is_text(word, b"fence") {
         held(alone(Statement::Fence, words))
     } else if is_text(word, b"gfence") {
         held(alone(Statement::Gfence, words))
     } else if is_text(word, b"address_init") {
-        held(counters::address_init(words))
+        held(address_init::read(words))
     } else {
         Err(syntax())
     }
@@ -77,4 +86,25 @@ fn held(read: Result<Statement, LineFault>) -> Result<ReadStatement, LineFault>
     ensures { (reading : Result Statement LineError) → Gives (λ s. s) read reading → HoldsStatement result reading }
 {
     Ok(ReadStatement::Held(read?))
+}
+
+/// A statement's line, without its end.
+pub(crate) fn write(alloc: Global, out: &mut Vec<u8>, statement: &Statement) -> Result<(), Memory>
+    ensures { OnOk result (out.new.items ≡ out.old.items ++ row_line (statement_row statement.now)) }
+{
+    match statement {
+        Statement::Store { at, bytes } => store::write(alloc, out, *at, bytes.as_slice()),
+        Statement::Put { .. } => put::write(alloc, out, statement),
+        Statement::Get { .. } => get::write(alloc, out, statement),
+        Statement::Putv { .. } => putv::write(alloc, out, statement),
+        Statement::Getv { .. } => getv::write(alloc, out, statement),
+        Statement::Rmw { .. } => rmw::write(alloc, out, statement),
+        Statement::Am { .. } => amsend::write(alloc, out, statement),
+        Statement::Wait { counter, value } => waitcntr::write(alloc, out, *counter, *value),
+        Statement::Set { counter, value } => setcntr::write(alloc, out, *counter, *value),
+        Statement::Read { counter } => getcntr::write(alloc, out, *counter),
+        Statement::Fence => values::put(out, b"fence"),
+        Statement::Gfence => values::put(out, b"gfence"),
+        Statement::Addr { at } => address_init::write(alloc, out, *at),
+    }
 }

@@ -6,7 +6,7 @@ ghost use Rattle.lapi_script.specs.TaskLines.{HoldsTaskLine};
 
 use crate::fault::LineFault;
 use crate::fields::{end, number, word};
-use crate::statements::{ReadStatement, statement};
+use crate::statements::{self, ReadStatement};
 use crate::words::{Words, is_text};
 use lapi_base::Statement;
 use std::alloc::Global;
@@ -34,7 +34,7 @@ impl From<ReadStatement> for TaskLine {
     }
 }
 
-#[tactic(auto, unfolding(lapi_base::specs::Input::Forms::task_line_form), using(lapi_base::proofs::Runs::run_does, crate::proofs::TaskLineSteps::does))]
+#[tactic(auto, unfolding(lapi_base::specs::Input::Forms::task_line_form), using(lapi_base::proofs::Runs::run_statement, crate::proofs::TaskLineSteps::does))]
 pub(crate) fn task_line(alloc: Global, words: &mut Words) -> Result<TaskLine, LineFault>
     ensures { HoldsTaskLine result (run task_line_form words.old) }
 {
@@ -47,6 +47,6 @@ pub(crate) fn task_line(alloc: Global, words: &mut Words) -> Result<TaskLine, Li
         end(words)?;
         Ok(TaskLine::Schedule)
     } else {
-        Ok(TaskLine::from(statement(alloc, first, words)?))
+        Ok(TaskLine::from(statements::read(alloc, first, words)?))
     }
 }

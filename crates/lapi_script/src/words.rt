@@ -1,9 +1,10 @@
 //! The words of a line.
 
 ghost use Rattle.std.specs.Prelude.{◌≡◌, ◌∷◌, [], MatchOption};
-ghost use Rattle.lapi_base.specs.Input.Lines.{words_of, is_skipped};
+ghost use Rattle.lapi_base.specs.Input.Lines.{words_of, is_remark, is_skipped};
 ghost use Rattle.lapi_base.specs.Input.Tokens.{same_text};
 ghost use Rattle.lapi_base.specs.Input.Reading.{is_word};
+ghost use Rattle.lapi_script.specs.Left.{BeginsWord};
 
 use crate::cuts::cut;
 use std::marker::Model;
@@ -15,27 +16,48 @@ pub(crate) fn is_text(word: &[u8], text: &[u8]) -> bool
     word == text
 }
 
-/// The first word, and what follows it.
-fn first_word(bytes: &[u8]) -> Option<(&[u8], &[u8])>
-    ensures { MatchOption result (words_of bytes.now ≡ []) (λ x. words_of bytes.now ≡ x.0.now ∷ words_of x.1.now) }
+/// Whether it begins with #.
+pub(crate) fn is_remark(text: &[u8]) -> bool
+    ensures { result ≡ is_remark text.now }
+{
+    match text.split_first() {
+        None => false,
+        Some((byte, _)) => *byte == b'#',
+    }
+}
+
+/// What follows the spaces that stand first.
+#[tactic(auto, using(crate::proofs::FirstWords::space_skipped, crate::proofs::FirstWords::begins))]
+fn behind_spaces(bytes: &[u8]) -> &[u8]
+    ensures words { words_of result.now ≡ words_of bytes.now }
+    ensures first { BeginsWord result.now }
 {
     let mut rest = bytes;
     loop {
-        match cut(rest, b' ') {
-            (word, None) => {
-                return if word.is_empty() {
-                    None
-                } else {
-                    Some((word, &[]))
-                };
-            }
-            (word, Some(after)) => {
-                if !word.is_empty() {
-                    return Some((word, after));
+        match rest.split_first() {
+            None => return rest,
+            Some((byte, after)) => {
+                if *byte != b' ' {
+                    return rest;
                 }
                 rest = after;
             }
         }
+    }
+}
+
+/// The first word, and what follows it.
+#[tactic(auto, using(crate::proofs::FirstWords::none_left, crate::proofs::FirstWords::word_first))]
+fn first_word(bytes: &[u8]) -> Option<(&[u8], &[u8])>
+    ensures { MatchOption result (words_of bytes.now ≡ []) (λ x. words_of bytes.now ≡ x.0.now ∷ words_of x.1.now) }
+{
+    let rest = behind_spaces(bytes);
+    if rest.is_empty() {
+        return None;
+    }
+    match cut(rest, b' ') {
+        (word, None) => Some((word, &[])),
+        (word, Some(after)) => Some((word, after)),
     }
 }
 
@@ -86,10 +108,7 @@ impl<'a> Words<'a> {
     {
         match self.first {
             None => true,
-            Some(word) => match word.split_first() {
-                None => false,
-                Some((byte, _)) => *byte == b'#',
-            },
+            Some(word) => is_remark(word),
         }
     }
 

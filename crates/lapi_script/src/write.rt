@@ -1,8 +1,6 @@
 //! The canonical text of an input.
 
-mod act_rows;
-mod statement_rows;
-mod values;
+pub(crate) mod values;
 
 ghost use Rattle.std.specs.Prelude.{◌≡◌, ◌++◌, ◌∷◌, OnOk, IfOk, Ok, map, length, ◌≤◌};
 ghost use Rattle.std.specs.List.{flat_map};
@@ -11,9 +9,8 @@ ghost use Rattle.lapi_base.specs.Input.Rows.{statement_row, task_row, head_row, 
 ghost use Rattle.lapi_base.specs.Input.Reading.{read, most_input};
 ghost use Rattle.lapi_script.specs.Inputs.{input_of, IsWritable};
 
-use crate::write::act_rows::act;
-use crate::write::statement_rows::statement;
 use crate::write::values::{number, put};
+use crate::{acts, statements};
 use lapi_base::{Bytes, Line, Memory, Script, Statement, Statements};
 use lapi_text::text_laws;
 use std::alloc::Global;
@@ -25,7 +22,7 @@ fn line(alloc: Global, out: &mut Vec<u8>, line: &Line) -> Result<(), Memory>
 {
     let lane = line.lane.to_string(alloc)?;
     put(out, lane.as_str().as_bytes())?;
-    act(alloc, out, &line.act)
+    acts::write(alloc, out, &line.act)
 }
 
 /// A schedule line's canonical text, without its end of line.
@@ -47,11 +44,11 @@ fn lines(alloc: Global, out: &mut Vec<u8>, schedule: &[Line]) -> Result<(), Memo
     Ok(())
 }
 
-fn statements(alloc: Global, out: &mut Vec<u8>, list: &[Statement]) -> Result<(), Memory>
+fn statement_lines(alloc: Global, out: &mut Vec<u8>, list: &[Statement]) -> Result<(), Memory>
     ensures { OnOk result (out.new.items ≡ out.old.items ++ flat_map row_text (map statement_row list.now)) }
 {
     for each in list {
-        statement(alloc, out, each)?;
+        statements::write(alloc, out, each)?;
         put(out, b"\n")?;
     }
     Ok(())
@@ -84,13 +81,14 @@ fn sizes(alloc: Global, out: &mut Vec<u8>, script: &Script) -> Result<(), Memory
 
 /// A task's line and its statements.
 fn task(alloc: Global, out: &mut Vec<u8>, t: usize, list: &[Statement]) -> Result<(), Memory>
-    ensures { OnOk result (out.new.items ≡ out.old.items ++ flat_map row_text (task_row t ∷ map statement_row list.now)) }
+    ensures { OnOk result (out.new.items ≡ out.old.items
+        ++ flat_map row_text (task_row t ∷ map statement_row list.now)) }
 {
     let t = t.to_string(alloc)?;
     put(out, b"task ")?;
     put(out, t.as_str().as_bytes())?;
     put(out, b"\n")?;
-    statements(alloc, out, list)
+    statement_lines(alloc, out, list)
 }
 
 /// The tasks' lines.

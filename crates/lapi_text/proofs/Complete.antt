@@ -18,7 +18,7 @@ use Rattle.lapi_base.specs.Record.Valid.{ValidStatement, ValidScript, ValidLine}
 use Rattle.lapi_base.specs.Packet.Spelling.{spells_packet}
 use Rattle.lapi_base.specs.Input.Built.{is_built_statement, is_built_act, IsBuiltList}
 use Rattle.lapi_base.specs.Input.Lines.{words_of, is_clean, is_skipped, read_words}
-use Rattle.lapi_base.specs.Input.Forms.{and_then, head_form, sizes_form, Task, Schedule, Does, task_line_form, line_form}
+use Rattle.lapi_base.specs.Input.Forms.{and_then, head_form, sizes_form, Task, Schedule, StatementLine, task_line_form, line_form}
 use Rattle.lapi_base.specs.Input.Rows.{Column, Word, IsRow, head_row, sizes_row, task_row, statement_row, schedule_row, done_row, act_row, line_row, task_rows, rows, IsRead}
 use Rattle.lapi_base.specs.Input.Reading as reading
 use Rattle.lapi_base.specs.Input.Reading.{State, within, on_statement, step, after, read_from, checked_sizes, is_word}
@@ -110,7 +110,7 @@ step_does : (s : Script) (current : List Statement) (st : Statement) (words : Li
     → step (reading.Tasks s current) words ≡ Ok (reading.Tasks s (current ++ st ∷ []))
 unfolding step
 step_does s current st words z valid built lt =
-    rw (said task_line_form (Does st) (statement_row st) words (statement_matches st (operand_of st valid)) z) (statement_ok s current st valid built lt)
+    rw (said task_line_form (StatementLine st) (statement_row st) words (statement_matches st (operand_of st valid)) z) (statement_ok s current st valid built lt)
 
 step_line : (script : Script) (schedule : List Line) (line : Line) (words : List (List ℕ)) → IsRow (line_row line) words → ValidLine script spells_packet line → is_built_act line.act ≡ true
     → length schedule < most_lines (layout_of script.layout) → step (reading.Lines script schedule) words ≡ Ok (reading.Lines script (schedule ++ line ∷ []))

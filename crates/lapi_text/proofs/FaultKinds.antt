@@ -15,7 +15,7 @@ use Rattle.lapi_base.specs.Record.Valid.{ValidStatement, ValidLine}
 use Rattle.lapi_base.specs.Packet.Spelling.{spells_packet}
 use Rattle.lapi_base.specs.Input.Lines.{words_of, is_clean, is_skipped, read_words}
 use Rattle.lapi_base.specs.Input.Tokens.{Value, value_of}
-use Rattle.lapi_base.specs.Input.Forms.{Form, End, Wrong, Next, Take, run, and_then, well_formed, head_form, sizes_form, TaskLine, Task, Schedule, Does, task_line_form, line_form}
+use Rattle.lapi_base.specs.Input.Forms.{Form, End, Wrong, Next, Take, run, and_then, well_formed, head_form, sizes_form, TaskLine, Task, Schedule, StatementLine, task_line_form, line_form}
 use Rattle.lapi_base.specs.Input.Rows.{Column, IsRow, head_row, sizes_row, task_row, statement_row, schedule_row, done_row, line_row, row_line, task_rows, script_rows, rows}
 use Rattle.lapi_base.specs.Input.Reading as reading
 use Rattle.lapi_base.specs.Input.Reading.{State, Fault, step, after, read_from, input_of, checked_sizes, names_known, with_task, on_first_task, on_statement, on_task_line, on_line, is_word}
@@ -198,13 +198,13 @@ line_extends script schedule line words fits z named =
 first_task_limit : (script : Script) (line : TaskLine) (w : Which) → on_first_task script line ≡ Err (Limit w) → ⊥
 first_task_limit script (Task t) w e = no_test (t == 0) (reading.Tasks script []) w e
 first_task_limit script Schedule w e = not_limit {A = State} w e
-first_task_limit script (Does s) w e = not_limit {A = State} w e
+first_task_limit script (StatementLine s) w e = not_limit {A = State} w e
 
 task_line_extends : (script : Script) (current : List Statement) (line : TaskLine) (words : List (List ℕ)) (w : Which) → TasksKeep script current → TaskLineSays line words → on_task_line script current line ≡ Err (Limit w)
     → Extends (reading.Tasks script current) words
 task_line_extends script current (Task t) words w keeps says e = absurd (no_test (t == length script.lists + 1 && nat_lt t script.tasks) (reading.Tasks (with_task script current) []) w e)
 task_line_extends script current Schedule words w keeps says e = absurd (no_test (length script.lists + 1 == script.tasks) (reading.Lines (with_task script current) []) w e)
-task_line_extends script current (Does s) words w keeps says e = statement_extends script current s words keeps says
+task_line_extends script current (StatementLine s) words w keeps says e = statement_extends script current s words keeps says
 
 limit_extends : (state : State) (words : List (List ℕ)) (w : Which) → sound.Keeps state → step state words ≡ Err (Limit w) → Extends state words
 unfolding step

@@ -14,7 +14,7 @@ use Rattle.lapi_base.specs.declared.script.Script.{Script}
 use Rattle.lapi_base.specs.declared.input.Input.{Input}
 use Rattle.lapi_base.specs.Input.Built.{is_built_statement}
 use Rattle.lapi_base.specs.Input.Lines.{words_of, is_clean, is_skipped, read_words}
-use Rattle.lapi_base.specs.Input.Forms.{and_then, Does, task_line_form, sizes_form, line_form}
+use Rattle.lapi_base.specs.Input.Forms.{and_then, StatementLine, task_line_form, sizes_form, line_form}
 use Rattle.lapi_base.specs.Input.Rows.{Column, IsRow, sizes_row, statement_row, done_row, line_row, task_rows, rows}
 use Rattle.lapi_base.specs.Input.Reading as reading
 use Rattle.lapi_base.specs.Input.Reading.{State, Fault, step, after, read_from, within, checked_sizes, keeps_pieces, keeps_bytes, keeps_injected, names_known, on_statement, on_line, is_word}
@@ -57,7 +57,7 @@ does_or : (x : Input) (script : Script) (current list : List Statement) (s : Sta
     → Answers x (step (reading.Tasks script current) words) (reading.Tasks script (current ++ s ∷ []))
 unfolding step
 does_or x script current list s words z operand keeps =
-    rw (said task_line_form (Does s) (statement_row s) words (statement_matches s operand) z) (statement_or x script current list s keeps)
+    rw (said task_line_form (StatementLine s) (statement_row s) words (statement_matches s operand) z) (statement_or x script current list s keeps)
 
 line_or : (x : Input) (script : Script) (schedule more : List Line) (line : Line) (words : List (List ℕ)) → IsRow (line_row line) words → names_known script line.act ≡ true
     → ((w : Which) → KeepsLimit w x → LineKeeps w script line × CountKeeps w script (schedule ++ line ∷ more)) → Answers x (step (reading.Lines script schedule) words) (reading.Lines script (schedule ++ line ∷ []))

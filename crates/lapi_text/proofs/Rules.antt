@@ -15,8 +15,8 @@ use Rattle.lapi_base.specs.declared.script.Script.{Script}
 use Rattle.lapi_base.specs.Record.Valid.{in2_by}
 use Rattle.lapi_base.specs.Input.Faults.{HasOperand}
 use Rattle.lapi_base.specs.Input.Tokens.{Kind, Number, Value, Stands, value_of, same_text}
-use Rattle.lapi_base.specs.Input.Forms.{Form, End, Wrong, Next, Take, run, and_then, well_formed, word_at, value_at, choose, ◌>>=◌, number, expect, head_form, sized, sizes_form, store_form, put_form, get_form, putv_form, getv_form, one_operand_form, cas_form, operations, rmw_form, amsend_form, wait_form, set_form, read_form, address_init_form, statements, statement_form, TaskLine, Task, Schedule, Does, task_line_form, task_form, deliver_form, cut_form, inject_form, worker_form, acts, act_form, line_form}
-use Rattle.lapi_base.proofs.Runs.{run_does, run_line, line_with}
+use Rattle.lapi_base.specs.Input.Forms.{Form, End, Wrong, Next, Take, run, and_then, well_formed, word_at, value_at, choose, ◌>>=◌, number, expect, head_form, sized, sizes_form, store_form, put_form, get_form, putv_form, getv_form, one_operand_form, cas_form, operations, rmw_form, amsend_form, wait_form, set_form, read_form, address_init_form, statements, statement_form, TaskLine, Task, Schedule, StatementLine, task_line_form, task_form, deliver_form, cut_form, inject_form, worker_form, acts, act_form, line_form}
+use Rattle.lapi_base.proofs.Runs.{run_statement, run_line, line_with}
 use Rattle.lapi_base.specs.Input.Rows.{Column, Word, Field, IsRow, head_row, sizes_row, task_row, operation_word, second_operand, statement_row, schedule_row, act_row, line_row}
 use Rattle.lapi_text.proofs.Values.{value_says, value_read, same_text_is}
 
@@ -221,7 +221,7 @@ pub statement_says : (word : List ℕ) (words : List (List ℕ)) (s : Statement)
 statement_says word words s e = choose_says Says statements statements_say word words s (spelled (statement_form word) s words e)
 
 -- a statement's row is read as the statement
-pub statement_matches : (s : Statement) → HasOperand s → Matches task_line_form (Does s) (statement_row s)
+pub statement_matches : (s : Statement) → HasOperand s → Matches task_line_form (StatementLine s) (statement_row s)
 unfolding task_line_form store_form put_form get_form putv_form getv_form one_operand_form cas_form rmw_form amsend_form wait_form set_form read_form address_init_form
 statement_matches (Store at bytes) o = (codes "store", _, refl, (at, _, refl, (bytes, _, refl, (refl, refl))))
 statement_matches (Put target to from len tgt org cmpl) o =
@@ -230,11 +230,11 @@ statement_matches (Get target from to len tgt org) o = (codes "get", _, refl, (t
 statement_matches (Putv target to from tgt org cmpl) o = (codes "putv", _, refl, (target, _, refl, (to, _, refl, (from, _, refl, (tgt, _, refl, (org, _, refl, (cmpl, _, refl, (refl, refl))))))))
 statement_matches (Getv target from to tgt org) o = (codes "getv", _, refl, (target, _, refl, (from, _, refl, (to, _, refl, (tgt, _, refl, (org, _, refl, (refl, refl)))))))
 statement_matches (Rmw target Add at in1 in2 prev org) o =
-    (codes "rmw", _, refl, (target, _, refl, (codes "add", _, refl, (at, _, refl, (in1, _, refl, (prev, _, refl, (org, _, refl, (ap (λ n. Does (Rmw target Add at in1 n prev org)) o, refl))))))))
+    (codes "rmw", _, refl, (target, _, refl, (codes "add", _, refl, (at, _, refl, (in1, _, refl, (prev, _, refl, (org, _, refl, (ap (λ n. StatementLine (Rmw target Add at in1 n prev org)) o, refl))))))))
 statement_matches (Rmw target Or at in1 in2 prev org) o =
-    (codes "rmw", _, refl, (target, _, refl, (codes "or", _, refl, (at, _, refl, (in1, _, refl, (prev, _, refl, (org, _, refl, (ap (λ n. Does (Rmw target Or at in1 n prev org)) o, refl))))))))
+    (codes "rmw", _, refl, (target, _, refl, (codes "or", _, refl, (at, _, refl, (in1, _, refl, (prev, _, refl, (org, _, refl, (ap (λ n. StatementLine (Rmw target Or at in1 n prev org)) o, refl))))))))
 statement_matches (Rmw target Swap at in1 in2 prev org) o =
-    (codes "rmw", _, refl, (target, _, refl, (codes "swap", _, refl, (at, _, refl, (in1, _, refl, (prev, _, refl, (org, _, refl, (ap (λ n. Does (Rmw target Swap at in1 n prev org)) o, refl))))))))
+    (codes "rmw", _, refl, (target, _, refl, (codes "swap", _, refl, (at, _, refl, (in1, _, refl, (prev, _, refl, (org, _, refl, (ap (λ n. StatementLine (Rmw target Swap at in1 n prev org)) o, refl))))))))
 statement_matches (Rmw target Cas at in1 in2 prev org) o =
     (codes "rmw", _, refl, (target, _, refl, (codes "cas", _, refl, (at, _, refl, (in1, _, refl, (in2, _, refl, (prev, _, refl, (org, _, refl, (refl, refl)))))))))
 statement_matches (Am target handler header from len tgt org cmpl) o =
@@ -251,7 +251,7 @@ statement_matches (Statement.Addr at) o = (codes "address_init", _, refl, (at, _
 abbrev pub TaskLineSays : TaskLine → List (List ℕ) → Type 0
 TaskLineSays (Task t) words = IsRow (task_row t) words
 TaskLineSays Schedule words = IsRow schedule_row words
-TaskLineSays (Does s) words = Says s words
+TaskLineSays (StatementLine s) words = Says s words
 
 pub bound : {A B : Type 0} (r : Result A LineError) (f : A → Result B LineError) (y : B) → and_then r f ≡ Ok y → (x : A) × (r ≡ Ok x) × (f x ≡ Ok y)
 bound (Ok x) f y e = (x, refl, e)
@@ -268,16 +268,16 @@ task_line_says (word ∷ words) line e = at_task (chosen_run _ _ _ words line e)
     schedule : Spelled (End Schedule) line words → TaskLineSays line (codes "schedule" ∷ words)
     schedule (is, end) = rw (is, end) (refl, tt)
 
-    does : (s : Statement) × (run (statement_form word) words ≡ Ok s) × (◌≡◌ {A = Result TaskLine LineError} (Ok (Does s)) (Ok line)) → TaskLineSays line (word ∷ words)
+    does : (s : Statement) × (run (statement_form word) words ≡ Ok s) × (◌≡◌ {A = Result TaskLine LineError} (Ok (StatementLine s)) (Ok line)) → TaskLineSays line (word ∷ words)
     does (s, e, is) = rw (← same_Ok _ _ is) (statement_says word words s e)
 
-    at_schedule : ((same_text word (codes "schedule") ≡ true) × (run (End Schedule) words ≡ Ok line)) ⊎ ((same_text word (codes "schedule") ≡ false) × (run (statement_form word >>= λ s. End (Does s)) words ≡ Ok line))
+    at_schedule : ((same_text word (codes "schedule") ≡ true) × (run (End Schedule) words ≡ Ok line)) ⊎ ((same_text word (codes "schedule") ≡ false) × (run (statement_form word >>= λ s. End (StatementLine s)) words ≡ Ok line))
         → TaskLineSays line (word ∷ words)
     at_schedule (inl h) = named (λ w. TaskLineSays line (w ∷ words)) word (codes "schedule") h.0 (schedule (spelled (End Schedule) line words h.1))
-    at_schedule (inr h) = does (bound (run (statement_form word) words) (λ s. Ok (Does s)) line (sym (run_does word words) ∙ h.1))
+    at_schedule (inr h) = does (bound (run (statement_form word) words) (λ s. Ok (StatementLine s)) line (sym (run_statement word words) ∙ h.1))
 
     at_task : ((same_text word (codes "task") ≡ true) × (run (number >>= λ t. End (Task t)) words ≡ Ok line))
-        ⊎ ((same_text word (codes "task") ≡ false) × (run (cond (same_text word (codes "schedule")) (End Schedule) (statement_form word >>= λ s. End (Does s))) words ≡ Ok line)) → TaskLineSays line (word ∷ words)
+        ⊎ ((same_text word (codes "task") ≡ false) × (run (cond (same_text word (codes "schedule")) (End Schedule) (statement_form word >>= λ s. End (StatementLine s))) words ≡ Ok line)) → TaskLineSays line (word ∷ words)
     at_task (inl h) = named (λ w. TaskLineSays line (w ∷ words)) word (codes "task") h.0 (task (spelled (number >>= λ t. End (Task t)) line words h.1))
     at_task (inr h) = at_schedule (chosen_run _ _ _ words line h.1)
 

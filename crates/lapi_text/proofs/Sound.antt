@@ -17,7 +17,7 @@ use Rattle.lapi_base.specs.Record.Valid.{ValidStatement, ValidScript, ValidSched
 use Rattle.lapi_base.specs.Packet.Spelling.{spells_packet}
 use Rattle.lapi_base.specs.Input.Built.{is_built_statement, is_built_act, IsBuiltList, IsBuilt}
 use Rattle.lapi_base.specs.Input.Lines.{words_of, is_clean, is_skipped, read_words}
-use Rattle.lapi_base.specs.Input.Forms.{run, and_then, head_form, sizes_form, TaskLine, Task, Schedule, Does, task_line_form, line_form}
+use Rattle.lapi_base.specs.Input.Forms.{run, and_then, head_form, sizes_form, TaskLine, Task, Schedule, StatementLine, task_line_form, line_form}
 use Rattle.lapi_base.specs.Input.Rows.{Column, IsRow, head_row, sizes_row, task_row, statement_row, schedule_row, done_row, line_row, task_rows, script_rows, rows, IsRead}
 use Rattle.lapi_base.specs.Input.Reading as reading
 use Rattle.lapi_base.specs.Input.Reading.{State, step, after, read_from, input_of, at_line, within, checked_sizes, keeps_pieces, keeps_bytes, keeps_injected, names_known, with_task, on_first_task, on_statement, on_task_line, on_line, is_word}
@@ -187,7 +187,7 @@ first_adds script next words (Task t) keeps z e =
       spelled = subst (λ n. IsRow (task_row n) words) (eqb-true t 0 p.0) z;
     })
 first_adds script next words Schedule keeps z e = absurd (err_ok Syntax next e)
-first_adds script next words (Does s) keeps z e = absurd (err_ok Syntax next e)
+first_adds script next words (StatementLine s) keeps z e = absurd (err_ok Syntax next e)
 
 statement_adds : (script : Script) (current : List Statement) (next : State) (words : List (List ℕ)) (s : Statement) → TasksKeep script current → Says s words → on_statement script current s ≡ Ok next
     → Adds (reading.Tasks script current) next words
@@ -233,7 +233,7 @@ task_line_adds script current next words Schedule keeps z e =
       rows = refl;
       spelled = z;
     })
-task_line_adds script current next words (Does s) keeps z e = statement_adds script current next words s keeps z e
+task_line_adds script current next words (StatementLine s) keeps z e = statement_adds script current next words s keeps z e
 
 pub is_one_word : (text : List ℕ) (words : List (List ℕ)) → is_word text words ≡ true → words ≡ text ∷ []
 is_one_word text [] e = absurd (false≢true e)

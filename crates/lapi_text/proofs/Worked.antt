@@ -23,7 +23,7 @@ use Rattle.lapi_base.specs.Packet.Spelling as packet
 use Rattle.lapi_base.specs.Packet.Spelling.{spells_packet, packet_form, front_form, kind_form, acknowledgement_form}
 use Rattle.lapi_base.specs.Input.Lines.{words_of}
 use Rattle.lapi_base.specs.Input.Tokens.{number_of, counter_of, hex_of, optional_hex_of, plain_address_of, table_of, address_of, piece_of, listed_of, strided_of, vector_of, value_of}
-use Rattle.lapi_base.specs.Input.Forms.{run, sized, TaskLine, Does, head_form, sizes_form, store_form, put_form, get_form, putv_form, getv_form, one_operand_form, cas_form, rmw_form, amsend_form, wait_form, set_form, read_form, address_init_form, task_line_form, task_form, deliver_form, cut_form, inject_form, worker_form, line_form}
+use Rattle.lapi_base.specs.Input.Forms.{run, sized, TaskLine, StatementLine, head_form, sizes_form, store_form, put_form, get_form, putv_form, getv_form, one_operand_form, cas_form, rmw_form, amsend_form, wait_form, set_form, read_form, address_init_form, task_line_form, task_form, deliver_form, cut_form, inject_form, worker_form, line_form}
 use Rattle.lapi_base.specs.Input.Built.{is_built_statement, is_built_act}
 use Rattle.lapi_base.specs.Input.Rows.{statement_row, row_line, canon}
 use Rattle.lapi_base.specs.Input.Reading.{State, Second, Start, Tasks, Lines, Fault, keeps_pieces, keeps_bytes, keeps_injected, names_known, step, after, read}
@@ -290,7 +290,7 @@ says line = run task_line_form (words_of line)
 abbrev piece : Addr → ℕ → Piece
 piece at len = record { at = at; len = len }
 
-upper_case : says (codes "store 0 aBcD") ≡ Ok (Does (Store 0 (0xab ∷ 0xcd ∷ [])))
+upper_case : says (codes "store 0 aBcD") ≡ Ok (StatementLine (Store 0 (0xab ∷ 0xcd ∷ [])))
 unfolding says
 upper_case = refl
 
@@ -298,11 +298,11 @@ store_of_nothing : says (codes "store 0 -") ≡ Err Syntax
 unfolding says
 store_of_nothing = refl
 
-tables : says (codes "put 1 @2 0 8 0 1 2") ≡ Ok (Does (Put 1 (Table 2 0) 0 8 (Some 0) (Some 1) (Some 2)))
+tables : says (codes "put 1 @2 0 8 0 1 2") ≡ Ok (StatementLine (Put 1 (Table 2 0) 0 8 (Some 0) (Some 1) (Some 2)))
 unfolding says
 tables = refl
 
-offset_of_nothing : says (codes "put 1 @2+0 0 8 - - -") ≡ Ok (Does (Put 1 (Table 2 0) 0 8 None None None))
+offset_of_nothing : says (codes "put 1 @2+0 0 8 - - -") ≡ Ok (StatementLine (Put 1 (Table 2 0) 0 8 None None None))
 unfolding says
 offset_of_nothing = refl
 
@@ -311,7 +311,7 @@ unfolding says
 two_offsets = refl
 
 vectors : says (codes "putv 1 L:0:4,@1+8:12 S:16:4:8:2 - 0 -")
-    ≡ Ok (Does (Putv 1 (Vector.List (piece (Plain 0) 4 ∷ piece (Table 1 8) 12 ∷ [])) (Stride (Plain 16) 4 8 2) None (Some 0) None))
+    ≡ Ok (StatementLine (Putv 1 (Vector.List (piece (Plain 0) 4 ∷ piece (Table 1 8) 12 ∷ [])) (Stride (Plain 16) 4 8 2) None (Some 0) None))
 unfolding says
 vectors = refl
 
@@ -331,7 +331,7 @@ count_of_nothing = refl
 abbrev many : Statement
 many = Putv 1 (Vector.List (replicate 17 (piece (Plain 0) 4))) (Stride (Plain 0) 4 8 17) None None None
 
-many_pieces : says (codes "putv 1 L:" ++ join_with_byte 44 (replicate 17 (codes "0:4")) ++ codes " S:0:4:8:17 - - -") ≡ Ok (Does many)
+many_pieces : says (codes "putv 1 L:" ++ join_with_byte 44 (replicate 17 (codes "0:4")) ++ codes " S:0:4:8:17 - - -") ≡ Ok (StatementLine many)
 unfolding says
 many_pieces = refl
 
@@ -339,7 +339,7 @@ too_many_pieces : keeps_pieces many ≡ false
 unfolding keeps_pieces
 too_many_pieces = refl
 
-add : says (codes "rmw 1 add 0 1 8 -") ≡ Ok (Does (Rmw 1 Add (Plain 0) 1 0 8 None))
+add : says (codes "rmw 1 add 0 1 8 -") ≡ Ok (StatementLine (Rmw 1 Add (Plain 0) 1 0 8 None))
 unfolding says
 add = refl
 
@@ -347,61 +347,61 @@ second_operand_of_add : says (codes "rmw 1 add 0 1 2 8 -") ≡ Err Syntax
 unfolding says
 second_operand_of_add = refl
 
-compare_and_swap : says (codes "rmw 1 cas @0 1 2 8 3") ≡ Ok (Does (Rmw 1 Cas (Table 0 0) 1 2 8 (Some 3)))
+compare_and_swap : says (codes "rmw 1 cas @0 1 2 8 3") ≡ Ok (StatementLine (Rmw 1 Cas (Table 0 0) 1 2 8 (Some 3)))
 unfolding says
 compare_and_swap = refl
 
-header_of_nothing : says (codes "amsend 1 0 - 0 4 0 - -") ≡ Ok (Does (Am 1 0 [] 0 4 (Some 0) None None))
+header_of_nothing : says (codes "amsend 1 0 - 0 4 0 - -") ≡ Ok (StatementLine (Am 1 0 [] 0 4 (Some 0) None None))
 unfolding says
 header_of_nothing = refl
 
 -- each place of the other forms
 
-put_places : says (codes "put 1 2 3 4 5 6 7") ≡ Ok (Does (Put 1 (Plain 2) 3 4 (Some 5) (Some 6) (Some 7)))
+put_places : says (codes "put 1 2 3 4 5 6 7") ≡ Ok (StatementLine (Put 1 (Plain 2) 3 4 (Some 5) (Some 6) (Some 7)))
 unfolding says
 put_places = refl
 
-get_places : says (codes "get 1 @2+3 4 5 6 7") ≡ Ok (Does (Get 1 (Table 2 3) 4 5 (Some 6) (Some 7)))
+get_places : says (codes "get 1 @2+3 4 5 6 7") ≡ Ok (StatementLine (Get 1 (Table 2 3) 4 5 (Some 6) (Some 7)))
 unfolding says
 get_places = refl
 
-getv_places : says (codes "getv 1 S:@2+3:4:5:6 L:7:8 9 10") ≡ Ok (Does (Getv 1 (Stride (Table 2 3) 4 5 6) (Vector.List (piece (Plain 7) 8 ∷ [])) (Some 9) (Some 10)))
+getv_places : says (codes "getv 1 S:@2+3:4:5:6 L:7:8 9 10") ≡ Ok (StatementLine (Getv 1 (Stride (Table 2 3) 4 5 6) (Vector.List (piece (Plain 7) 8 ∷ [])) (Some 9) (Some 10)))
 unfolding says
 getv_places = refl
 
-putv_places : says (codes "putv 1 L:2:3 L:4:5 6 7 8") ≡ Ok (Does (Putv 1 (Vector.List (piece (Plain 2) 3 ∷ [])) (Vector.List (piece (Plain 4) 5 ∷ [])) (Some 6) (Some 7) (Some 8)))
+putv_places : says (codes "putv 1 L:2:3 L:4:5 6 7 8") ≡ Ok (StatementLine (Putv 1 (Vector.List (piece (Plain 2) 3 ∷ [])) (Vector.List (piece (Plain 4) 5 ∷ [])) (Some 6) (Some 7) (Some 8)))
 unfolding says
 putv_places = refl
 
-or_places : says (codes "rmw 1 or 2 3 4 5") ≡ Ok (Does (Rmw 1 Or (Plain 2) 3 0 4 (Some 5)))
+or_places : says (codes "rmw 1 or 2 3 4 5") ≡ Ok (StatementLine (Rmw 1 Or (Plain 2) 3 0 4 (Some 5)))
 unfolding says
 or_places = refl
 
-swap_places : says (codes "rmw 1 swap 2 3 4 5") ≡ Ok (Does (Rmw 1 Swap (Plain 2) 3 0 4 (Some 5)))
+swap_places : says (codes "rmw 1 swap 2 3 4 5") ≡ Ok (StatementLine (Rmw 1 Swap (Plain 2) 3 0 4 (Some 5)))
 unfolding says
 swap_places = refl
 
-amsend_places : says (codes "amsend 1 2 0304 5 6 7 8 9") ≡ Ok (Does (Am 1 2 (3 ∷ 4 ∷ []) 5 6 (Some 7) (Some 8) (Some 9)))
+amsend_places : says (codes "amsend 1 2 0304 5 6 7 8 9") ≡ Ok (StatementLine (Am 1 2 (3 ∷ 4 ∷ []) 5 6 (Some 7) (Some 8) (Some 9)))
 unfolding says
 amsend_places = refl
 
-wait_places : says (codes "waitcntr 1 2") ≡ Ok (Does (Wait 1 2))
+wait_places : says (codes "waitcntr 1 2") ≡ Ok (StatementLine (Wait 1 2))
 unfolding says
 wait_places = refl
 
-set_places : says (codes "setcntr 1 2") ≡ Ok (Does (Set 1 2))
+set_places : says (codes "setcntr 1 2") ≡ Ok (StatementLine (Set 1 2))
 unfolding says
 set_places = refl
 
-read_places : says (codes "getcntr 1") ≡ Ok (Does (Read 1))
+read_places : says (codes "getcntr 1") ≡ Ok (StatementLine (Read 1))
 unfolding says
 read_places = refl
 
-fences : (says (codes "fence") ≡ Ok (Does Fence)) × (says (codes "gfence") ≡ Ok (Does Gfence))
+fences : (says (codes "fence") ≡ Ok (StatementLine Fence)) × (says (codes "gfence") ≡ Ok (StatementLine Gfence))
 unfolding says
 fences = (refl, refl)
 
-address_init_places : says (codes "address_init 1") ≡ Ok (Does (Statement.Addr 1))
+address_init_places : says (codes "address_init 1") ≡ Ok (StatementLine (Statement.Addr 1))
 unfolding says
 address_init_places = refl
 

@@ -44,9 +44,15 @@ pub fn run<S: Source, K: Sink>(
     handlers: &Handlers,
 ) -> Status
     // The status and the text that are defined for the words and the input, or a front of that text.
-    ensures answer { IsAnswered (rules_of handlers.now) (commands_of.command_of (map (λ word. word.bytes.items) words.now.items)) (S.left source.old) (S.left source.new) (K.held sink.old) (K.held sink.new) result }
+    ensures answer { IsAnswered (rules_of handlers.now)
+        (commands_of.command_of (map (λ word. word.bytes.items) words.now.items))
+        (S.left source.old) (S.left source.new) (K.held sink.old) (K.held sink.new) result }
     // The report is that of the atomic message machine.
-    ensures headline { commands_of.command_of (map (λ word. word.bytes.items) words.now.items) ≡ Some (commands.Read Report) → result ≡ Status.Ok → IsReported (rules_of handlers.now) (S.left source.old) (S.left source.new) (K.held sink.old) (K.held sink.new) }
+    ensures headline { commands_of.command_of (map (λ word. word.bytes.items) words.now.items) 
+        ≡ Some (commands.Read Report)
+        → result ≡ Status.Ok
+        → IsReported (rules_of handlers.now)
+        (S.left source.old) (S.left source.new) (K.held sink.old) (K.held sink.new) }
     // A fault is answered only where its count rose.
     ensures source { result ≡ Status.SourceFault → Rose (S.faults source.old) (S.faults source.new) }
     ensures unwritten { result ≡ Status.SourceFault → sink.new ≡ sink.old }
@@ -72,7 +78,8 @@ fn read_and_answer<S: Source, K: Sink>(
     sink: &mut K,
     handlers: &Handlers,
 ) -> Status
-    ensures answer { IsToldOf (asked_text view (rules_of handlers.now)) (S.left source.old) (S.left source.new) (K.held sink.old) (K.held sink.new) result }
+    ensures answer { IsToldOf (asked_text view (rules_of handlers.now)) (S.left source.old) (S.left source.new)
+        (K.held sink.old) (K.held sink.new) result }
     ensures source { result ≡ Status.SourceFault → Rose (S.faults source.old) (S.faults source.new) }
     ensures unwritten { result ≡ Status.SourceFault → sink.new ≡ sink.old }
     ensures sink { result ≡ Status.SinkFault → Rose (K.faults sink.old) (K.faults sink.new) }
@@ -94,7 +101,8 @@ fn answer_input<K: Sink>(
     sink: &mut K,
     handlers: &Handlers,
 ) -> Status
-    ensures answer { CommandGives (input_answer (asked_text view (rules_of handlers.now)) (read bytes.now)) (K.held sink.old) (K.held sink.new) result }
+    ensures answer { CommandGives (input_answer (asked_text view (rules_of handlers.now)) (read bytes.now))
+        (K.held sink.old) (K.held sink.new) result }
     ensures source { result ≢ Status.SourceFault }
     ensures sink { result ≡ Status.SinkFault → Rose (K.faults sink.old) (K.faults sink.new) }
     ensures room { K.room sink.new ≡ K.room sink.old }
@@ -117,7 +125,8 @@ fn refuse<K: Sink>(alloc: Global, fault: ReadFault, sink: &mut K) -> Status
 
 /// The status, unless its text wasn't written whole.
 fn end(status: Status, written: Result<(), WriteFault>) -> Status
-    ensures answer { (held now : Option (List ℕ)) (text : List ℕ) → Wrote held now text written → CommandGives (record { status = status; text = text }) held now result }
+    ensures answer { (held now : Option (List ℕ)) (text : List ℕ) → Wrote held now text written
+        → CommandGives (record { status = status; text = text }) held now result }
     ensures source { result ≡ Status.SourceFault → status ≡ Status.SourceFault }
     ensures sink { status ≢ Status.SinkFault → result ≡ Status.SinkFault → IsErrOf written WriteFault.Failed }
 {

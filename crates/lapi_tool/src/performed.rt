@@ -19,7 +19,14 @@ pub fn performed(
     requires script { ValidScript input.script }
     requires schedule { ValidSchedule input.script spells_packet input.schedule }
     requires built { IsBuilt input }
-    ensures { IfOk result (λ w. w ≡ record { script = input.script; rules = rules_of handlers.now; schedule = input.schedule; taken = numbers_below (length input.schedule); spent = false }) }
+    ensures { let taken = numbers_below (length input.schedule) in
+        IfOk result (λ w. w ≡ record {
+          script = input.script;
+          rules = rules_of handlers.now;
+          schedule = input.schedule;
+          taken = taken;
+          spent = false;
+        }) }
 {
     let mut world = World::new(alloc, input.script, input.schedule, handlers)?;
     let count = world.schedule().len() as u32;

@@ -1,5 +1,4 @@
 pub mod Lists
-pub mod Own
 pub mod Rights
 pub mod Pigeons
 pub mod Views

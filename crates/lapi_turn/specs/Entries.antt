@@ -1,5 +1,5 @@
 -- Lists of entries, and the rights that they need.
-use Rattle.std.specs.Prelude.{◌≡◌, ℕ, ◌<◌, ◌==◌, Bool, true, false, List, [], ◌∷◌, ◌++◌, bit_and, filter}
+use Rattle.std.specs.Prelude.{◌≡◌, ℕ, ◌<◌, Bool, true, false, List, [], ◌∷◌, ◌++◌, bit_and}
 use Rattle.std.specs.Int.{bit_at}
 
 -- what was done, and the right that it needs
@@ -41,7 +41,3 @@ AllBelow16 (e ∷ es) = (e.1 < 16) × AllBelow16 es
 abbrev pub Grows : Bool → ℕ → List Entry → List Entry → Type 0
 Grows true rights base list = (e : Entry) × (list ≡ base ++ e ∷ []) × HasRight rights e.1
 Grows false rights base list = list ≡ base
-
--- the entries that need one of these rights, in order
-abbrev pub own_entries : ℕ → List Entry → List Entry
-own_entries rights list = filter (λ e. bit_at rights e.1 == 1) list

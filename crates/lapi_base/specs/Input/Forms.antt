@@ -251,13 +251,13 @@ statement_form word = choose statements word
 pub data TaskLine : Type 0 where
   Task : ℕ → TaskLine
   Schedule : TaskLine
-  Does : Statement → TaskLine
+  StatementLine : Statement → TaskLine
 
 unfoldable pub task_line_form : Form TaskLine
 task_line_form = Next (λ word.
     if same_text word (codes "task") then (number >>= λ t. End (Task t))
     else if same_text word (codes "schedule") then End Schedule
-    else (statement_form word >>= λ s. End (Does s)))
+    else (statement_form word >>= λ s. End (StatementLine s)))
 
 -- ---- the schedule
 

@@ -17,7 +17,7 @@ use Rattle.lapi_base.specs.Packet.Layout.{is_version, layout_of, most_lines, mos
 use Rattle.lapi_base.specs.Packet.Spelling.{spells_packet}
 use Rattle.lapi_base.specs.Input.Lines.{lines_of, words_of, is_clean, is_skipped}
 use Rattle.lapi_base.specs.Input.Tokens.{same_text}
-use Rattle.lapi_base.specs.Input.Forms.{run, and_then, head_form, sizes_form, task_line_form, line_form, TaskLine, Task, Schedule, Does}
+use Rattle.lapi_base.specs.Input.Forms.{run, and_then, head_form, sizes_form, task_line_form, line_form, TaskLine, Task, Schedule, StatementLine}
 use Rattle.lapi_base.specs.Input.Built.{is_built_statement, is_built_act}
 
 -- What was read so far, by which line is awaited. A script's lists are those of the tasks before the current one.
@@ -81,7 +81,7 @@ with_task script current = record script { lists = script.lists ++ current ∷ [
 abbrev pub on_first_task : Script → TaskLine → Result State LineError
 on_first_task script (Task t) = if t == 0 then Ok (Tasks script []) else Err Syntax
 on_first_task script Schedule = Err Syntax
-on_first_task script (Does s) = Err Syntax
+on_first_task script (StatementLine s) = Err Syntax
 
 abbrev pub on_statement : Script → List Statement → Statement → Result State LineError
 on_statement script current s =
@@ -94,7 +94,7 @@ abbrev pub on_task_line : Script → List Statement → TaskLine → Result Stat
 on_task_line script current (Task t) =
     if t == length script.lists + 1 && nat_lt t script.tasks then Ok (Tasks (with_task script current) []) else Err Syntax
 on_task_line script current Schedule = if length script.lists + 1 == script.tasks then Ok (Lines (with_task script current) []) else Err Syntax
-on_task_line script current (Does s) = on_statement script current s
+on_task_line script current (StatementLine s) = on_statement script current s
 
 abbrev pub on_line : Script → List Line → Line → Result State LineError
 on_line script schedule line =

@@ -4,7 +4,7 @@ use Rattle.std.specs.Prelude.{◌≡◌, ℕ, suc, ◌+◌, max, ◌==◌, Bool,
 use Rattle.std.specs.List.{list_any, flat_map}
 use Rattle.lapi_base.specs.declared.script.Script.{Script}
 use Rattle.lapi_base.specs.declared.rule.Rules.{Rules}
-use Rattle.lapi_base.specs.declared.message.Leg.TheVariants.{Go}
+use Rattle.lapi_base.specs.declared.message.Leg.TheVariants.{Go, Back, Note}
 use Rattle.lapi_base.specs.declared.message.MsgName.{MsgName}
 use Rattle.lapi_base.specs.declared.event.Event.{Event}
 use Rattle.lapi_base.specs.declared.event.Event.TheVariants.{Head, Land}
@@ -14,7 +14,7 @@ use Rattle.lapi_base.specs.declared.packet.DataPacket.{DataPacket}
 use Rattle.lapi_base.specs.Record.Fragments.{fragments_in}
 use Rattle.lapi_base.specs.Packet.Layout.{unit_of, window_of}
 use Rattle.lapi_base.specs.Record.Below.{every_below, least_missing, bits_of}
-use Rattle.lapi_base.specs.Record.Names.{name_eq, leg_eq}
+use Rattle.lapi_base.specs.Record.Names.{name_eq, leg_eq, message}
 use Rattle.lapi_base.specs.Record.Operations.{numbers_below, statement, is_am, fragment_count}
 use Rattle.lapi_base.specs.Record.Handlers.{has_completion}
 use Rattle.lapi_base.specs.Record.Wires.{has_number}
@@ -67,12 +67,6 @@ least_number packets = least_missing (number_bound packets) (has_number packets)
 -- the acknowledgement of these packets of the link from a to b
 unfoldable pub ack_of : Script → List Packet → (from to : ℕ) → Packet
 ack_of script packets a b = Ack b a (least_number packets) (bits_of (window_of script) (λ i. has_number packets (least_number packets + i)))
-
--- the events of a packet of message m with a new number, which comes to these
-unfoldable pub arrival_of : Script → Rules → List Packet → Packet → MsgName → List Event
-arrival_of script rules packets p m =
-    cond (is_am (statement script m.origin m.statement) && leg_eq m.leg Go && not (has_some packets m)) (Head m ∷ []) []
-    ++ cond (is_whole script (p ∷ packets) m) (Land m ∷ after_land script rules m) []
 
 -- The same by the packet alone.
 -- the fragments of a message with so many bytes

@@ -1,13 +1,18 @@
-//! The read-modify-write statements, by their operation.
+//! `rmw TARGET OP AT IN1 PREV ORG`, and with `cas` a second operand behind the first
 
-ghost use Rattle.std.specs.Prelude.{◌≡◌};
+ghost use Rattle.std.specs.Prelude.{◌≡◌, ◌++◌, OnOk};
 ghost use Rattle.lapi_base.specs.Input.Forms.{run, rmw_form, one_operand_form, cas_form};
+ghost use Rattle.lapi_base.specs.Input.Rows.{statement_row, row_line};
 ghost use Rattle.lapi_script.specs.Gives.{Gives};
+ghost use Rattle.lapi_script.specs.Kinds.{IsRmw};
+ghost use Rattle.lapi_script.specs.Operations.{second_text, operation_text};
 
 use crate::fault::{LineFault, syntax};
 use crate::fields::{address, counter, end, number, word};
 use crate::words::{Words, is_text};
-use lapi_base::{RmwOp, Statement};
+use crate::write::values;
+use lapi_base::{Addr, Memory, RmwOp, Statement};
+use std::alloc::Global;
 
 /// An operation with one operand.
 #[tactic(auto, unfolding(lapi_base::specs::Input::Forms::one_operand_form))]
@@ -52,7 +57,7 @@ fn cas(target: u32, words: &mut Words) -> Result<Statement, LineFault>
 }
 
 #[tactic(auto, unfolding(lapi_base::specs::Input::Forms::rmw_form))]
-pub(crate) fn rmw(words: &mut Words) -> Result<Statement, LineFault>
+pub(crate) fn read(words: &mut Words) -> Result<Statement, LineFault>
     ensures { Gives (λ s. s) result (run rmw_form words.old) }
 {
     let target = number(words)?;
@@ -68,4 +73,56 @@ pub(crate) fn rmw(words: &mut Words) -> Result<Statement, LineFault>
     } else {
         Err(syntax())
     }
+}
+
+/// A second operand, with a compare-and-swap alone.
+fn second_operand(alloc: Global, out: &mut Vec<u8>, op: RmwOp, in2: u32) -> Result<(), Memory>
+    ensures { OnOk result (out.new.items ≡ out.old.items ++ second_text op in2) }
+{
+    match op {
+        RmwOp::Cas => values::number(alloc, out, in2),
+        RmwOp::Add | RmwOp::Or | RmwOp::Swap => Ok(()),
+    }
+}
+
+/// An operation, an address and the operands.
+fn operation(
+    alloc: Global,
+    out: &mut Vec<u8>,
+    op: RmwOp,
+    at: Addr,
+    in1: u32,
+    in2: u32,
+) -> Result<(), Memory>
+    ensures { OnOk result (out.new.items ≡ out.old.items ++ operation_text op at in1 in2) }
+{
+    values::put(out, b" ")?;
+    values::put(out, op.word().as_bytes())?;
+    values::address(alloc, out, at)?;
+    values::number(alloc, out, in1)?;
+    second_operand(alloc, out, op, in2)
+}
+
+#[tactic(auto, using(crate::proofs::Texts::rmw_text))]
+pub(crate) fn write(alloc: Global, out: &mut Vec<u8>, statement: &Statement) -> Result<(), Memory>
+    requires { IsRmw statement.now }
+    ensures { OnOk result (out.new.items ≡ out.old.items ++ row_line (statement_row statement.now)) }
+{
+    let Statement::Rmw {
+        target,
+        op,
+        at,
+        in1,
+        in2,
+        prev,
+        org,
+    } = statement
+    else {
+        unreachable!()
+    };
+    values::put(out, b"rmw")?;
+    values::number(alloc, out, *target)?;
+    operation(alloc, out, *op, *at, *in1, *in2)?;
+    values::number(alloc, out, *prev)?;
+    values::counter(alloc, out, *org)
 }

@@ -46,7 +46,8 @@ pub(crate) fn two_counters(
     first: Option<u32>,
     second: Option<u32>,
 ) -> Result<(), Memory>
-    ensures { OnOk result (out.new.items ≡ out.old.items ++ 32 ∷ (canonical Counter first ++ 32 ∷ canonical Counter second)) }
+    ensures { OnOk result (out.new.items ≡ out.old.items
+        ++ 32 ∷ (canonical Counter first ++ 32 ∷ canonical Counter second)) }
 {
     counter(alloc, out, first)?;
     counter(alloc, out, second)
@@ -60,7 +61,8 @@ pub(crate) fn three_counters(
     org: Option<u32>,
     cmpl: Option<u32>,
 ) -> Result<(), Memory>
-    ensures { OnOk result (out.new.items ≡ out.old.items ++ 32 ∷ (canonical Counter tgt ++ 32 ∷ (canonical Counter org ++ 32 ∷ canonical Counter cmpl))) }
+    ensures { OnOk result (out.new.items ≡ out.old.items
+        ++ 32 ∷ (canonical Counter tgt ++ 32 ∷ (canonical Counter org ++ 32 ∷ canonical Counter cmpl))) }
 {
     counter(alloc, out, tgt)?;
     two_counters(alloc, out, org, cmpl)

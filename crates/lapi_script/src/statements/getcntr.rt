@@ -1,0 +1,29 @@
+//! `getcntr COUNTER`
+
+ghost use Rattle.std.specs.Prelude.{◌≡◌, ◌++◌, OnOk};
+ghost use Rattle.lapi_base.specs.Input.Forms.{run, read_form};
+ghost use Rattle.lapi_base.specs.Input.Rows.{statement_row, row_line};
+ghost use Rattle.lapi_script.specs.Gives.{Gives};
+
+use crate::fault::LineFault;
+use crate::fields::{end, number};
+use crate::words::Words;
+use crate::write::values;
+use lapi_base::{Memory, Statement};
+use std::alloc::Global;
+
+#[tactic(auto, unfolding(lapi_base::specs::Input::Forms::read_form))]
+pub(crate) fn read(words: &mut Words) -> Result<Statement, LineFault>
+    ensures { Gives (λ s. s) result (run read_form words.old) }
+{
+    let counter = number(words)?;
+    end(words)?;
+    Ok(Statement::Read { counter })
+}
+
+pub(crate) fn write(alloc: Global, out: &mut Vec<u8>, counter: u32) -> Result<(), Memory>
+    ensures { OnOk result (out.new.items ≡ out.old.items ++ row_line (statement_row (Statement.Read counter))) }
+{
+    values::put(out, b"getcntr")?;
+    values::number(alloc, out, counter)
+}

@@ -1,0 +1,58 @@
+//! `getv TARGET FROM TO TGT ORG`, with a vector on either side
+
+ghost use Rattle.std.specs.Prelude.{◌≡◌, ◌++◌, OnOk};
+ghost use Rattle.lapi_base.specs.Input.Forms.{run, getv_form};
+ghost use Rattle.lapi_base.specs.Input.Rows.{statement_row, row_line};
+ghost use Rattle.lapi_script.specs.ReadLines.{HoldsStatement};
+ghost use Rattle.lapi_script.specs.Kinds.{IsGetv};
+
+use crate::fault::LineFault;
+use crate::fields::{counter, end, number, plain_vector, target_vector};
+use crate::statements::ReadStatement;
+use crate::words::Words;
+use crate::write::values;
+use lapi_base::{Memory, Statement};
+use std::alloc::Global;
+
+#[tactic(auto, unfolding(lapi_base::specs::Input::Forms::getv_form, lapi_base::specs::Input::Reading::keeps_pieces))]
+pub(crate) fn read(words: &mut Words) -> Result<ReadStatement, LineFault>
+    ensures { HoldsStatement result (run getv_form words.old) }
+{
+    let target = number(words)?;
+    let from = target_vector(words)?;
+    let to = plain_vector(words)?;
+    let tgt = counter(words)?;
+    let org = counter(words)?;
+    end(words)?;
+    Ok(match (from.vector(), to.vector()) {
+        (Some(from), Some(to)) => ReadStatement::Held(Statement::Getv {
+            target,
+            from,
+            to,
+            tgt,
+            org,
+        }),
+        _ => ReadStatement::TooManyPieces,
+    })
+}
+
+pub(crate) fn write(alloc: Global, out: &mut Vec<u8>, statement: &Statement) -> Result<(), Memory>
+    requires { IsGetv statement.now }
+    ensures { OnOk result (out.new.items ≡ out.old.items ++ row_line (statement_row statement.now)) }
+{
+    let Statement::Getv {
+        target,
+        from,
+        to,
+        tgt,
+        org,
+    } = statement
+    else {
+        unreachable!()
+    };
+    values::put(out, b"getv")?;
+    values::number(alloc, out, *target)?;
+    values::vector(alloc, out, from)?;
+    values::vector(alloc, out, to)?;
+    values::two_counters(alloc, out, *tgt, *org)
+}

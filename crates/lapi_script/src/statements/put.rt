@@ -1,0 +1,61 @@
+//! `put TARGET TO FROM LEN TGT ORG CMPL`
+
+ghost use Rattle.std.specs.Prelude.{◌≡◌, ◌++◌, OnOk};
+ghost use Rattle.lapi_base.specs.Input.Forms.{run, put_form};
+ghost use Rattle.lapi_base.specs.Input.Rows.{statement_row, row_line};
+ghost use Rattle.lapi_script.specs.Gives.{Gives};
+ghost use Rattle.lapi_script.specs.Kinds.{IsPut};
+
+use crate::fault::LineFault;
+use crate::fields::{address, counter, end, number};
+use crate::words::Words;
+use crate::write::values;
+use lapi_base::{Memory, Statement};
+use std::alloc::Global;
+
+#[tactic(auto, unfolding(lapi_base::specs::Input::Forms::put_form))]
+pub(crate) fn read(words: &mut Words) -> Result<Statement, LineFault>
+    ensures { Gives (λ s. s) result (run put_form words.old) }
+{
+    let target = number(words)?;
+    let to = address(words)?;
+    let from = number(words)?;
+    let len = number(words)?;
+    let tgt = counter(words)?;
+    let org = counter(words)?;
+    let cmpl = counter(words)?;
+    end(words)?;
+    Ok(Statement::Put {
+        target,
+        to,
+        from,
+        len,
+        tgt,
+        org,
+        cmpl,
+    })
+}
+
+pub(crate) fn write(alloc: Global, out: &mut Vec<u8>, statement: &Statement) -> Result<(), Memory>
+    requires { IsPut statement.now }
+    ensures { OnOk result (out.new.items ≡ out.old.items ++ row_line (statement_row statement.now)) }
+{
+    let Statement::Put {
+        target,
+        to,
+        from,
+        len,
+        tgt,
+        org,
+        cmpl,
+    } = statement
+    else {
+        unreachable!()
+    };
+    values::put(out, b"put")?;
+    values::number(alloc, out, *target)?;
+    values::address(alloc, out, *to)?;
+    values::number(alloc, out, *from)?;
+    values::number(alloc, out, *len)?;
+    values::three_counters(alloc, out, *tgt, *org, *cmpl)
+}

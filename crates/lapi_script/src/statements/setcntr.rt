@@ -1,0 +1,34 @@
+//! `setcntr COUNTER VALUE`
+
+ghost use Rattle.std.specs.Prelude.{◌≡◌, ◌++◌, OnOk};
+ghost use Rattle.lapi_base.specs.Input.Forms.{run, set_form};
+ghost use Rattle.lapi_base.specs.Input.Rows.{statement_row, row_line};
+ghost use Rattle.lapi_script.specs.Gives.{Gives};
+
+use crate::fault::LineFault;
+use crate::fields::{end, number};
+use crate::words::Words;
+use crate::write::values;
+use lapi_base::{Memory, Statement};
+use std::alloc::Global;
+
+#[tactic(auto, unfolding(lapi_base::specs::Input::Forms::set_form))]
+pub(crate) fn read(words: &mut Words) -> Result<Statement, LineFault>
+    ensures { Gives (λ s. s) result (run set_form words.old) }
+{
+    let counter = number(words)?;
+    let value = number(words)?;
+    end(words)?;
+    Ok(Statement::Set { counter, value })
+}
+
+pub(crate) fn write(
+    alloc: Global,
+    out: &mut Vec<u8>,
+    counter: u32,
+    value: u32,
+) -> Result<(), Memory>
+    ensures { OnOk result (out.new.items ≡ out.old.items ++ row_line (statement_row (Statement.Set counter value))) }
+{
+    values::word_with_two(alloc, out, b"setcntr", counter, value)
+}
