@@ -47,7 +47,8 @@ impl Jobs {
     /// Tells a worker to begin the oldest job that waits.
     pub fn begin(&mut self, worker: u32) -> Began
         requires { worker < length self.old.workers }
-        ensures { Begins self.old worker result self.new }
+        ensures begins { Begins self.old worker result self.new }
+        ensures workers { length self.new.workers ≡ length self.old.workers }
     {
         if self.workers[worker as usize].is_some() {
             return Began::Busy;
@@ -66,6 +67,7 @@ impl Jobs {
         requires { worker < length self.old.workers }
         ensures ended { result ≡ run_by self.old worker }
         ensures free { self.new ≡ with_run self.old worker None }
+        ensures workers { length self.new.workers ≡ length self.old.workers }
     {
         self.workers[worker as usize].take()
     }
