@@ -1,3 +1,5 @@
+pub mod CallLaws
+pub mod HeadLaws
 pub mod PlainLaws
 pub mod ReasonLaws
 pub mod SettingLaws

@@ -10,16 +10,16 @@ use Rattle.lapi_base.specs.declared.vector.Vector as vectors
 use Rattle.lapi_base.specs.declared.vector.Vector.TheVariants.{Stride}
 use Rattle.lapi_base.specs.declared.refusal.Refusal.{Refusal}
 use Rattle.lapi_base.specs.declared.refusal.Refusal.TheVariants.{BadTask, BadTargetRange, BadOriginRange, BadCounter, TooLong, NoTable}
-use Rattle.lapi_base.specs.declared.rule.Rules.{Rules}
 use Rattle.lapi_base.specs.declared.script.Script.{Script}
 use Rattle.lapi_base.specs.declared.statement.Statement.{Statement}
-use Rattle.lapi_base.specs.declared.statement.Statement.TheVariants.{Putv, Getv}
+use Rattle.lapi_base.specs.declared.statement.Statement.TheVariants.{Store, Put, Get, Putv, Getv, Rmw, Am}
 use Rattle.lapi_base.specs.Record.Operations.{numbers_below, entry, shifted, pieces_of, target_pieces, origin_pieces, target_of}
 use Rattle.lapi_base.specs.Record.Refusals.{option_any, counters_of, first_reason}
 use Rattle.lapi_base.specs.Record.Valid.{IsPlain, AtPlain, ValidStatement}
 use Rattle.lapi_calls.specs.declared.reach.Reach.{Reach}
 use Rattle.lapi_calls.specs.Entries.{is_told, address_by, AreGiven}
 use Rattle.lapi_calls.specs.Reaches.{reach_of}
+use Rattle.lapi_calls.specs.Sizes.{sizes_of}
 use Rattle.lapi_calls.specs.Reasons.{reach_tests, late_tests, long_by}
 use Rattle.lapi_calls.proofs.ReasonLaws.{any-mapped, long-is}
 
@@ -32,6 +32,31 @@ stops : (a b c d e f : Bool) (xs ys : List (Bool × Refusal)) → f ≡ true →
 unfolding first_reason
 stops a b c d e f xs ys h = (λ k. reason_by a b c d e (h k) xs) ∙ sym (λ k. reason_by a b c d e (h k) ys)
 
+-- the pieces at the origin are at plain addresses
+stride-plain : (at : Addr) (block stride : ℕ) (ks : List ℕ) → IsPlain at → AllByRecursion (λ (p : Piece). IsPlain p.at) (map (λ k. record { at = shifted at (k * stride); len = block }) ks)
+stride-plain at block stride [] h = tt
+stride-plain at block stride (k ∷ ks) h = (plain at (k * stride) h, stride-plain at block stride ks h)
+  where
+    plain : (at : Addr) (y : ℕ) → IsPlain at → IsPlain (shifted at y)
+    plain (Plain x) y h = tt
+    plain (Table round offset) y h = h
+
+pub vector-plain : (v : vectors.Vector) → AtPlain v → AllByRecursion (λ (p : Piece). IsPlain p.at) (pieces_of v)
+unfolding pieces_of
+vector-plain (vectors.Vector.List ps) h = h
+vector-plain (Stride base block stride count) h = stride-plain base block stride (numbers_below count) h
+
+pub origins-plain : (s : Statement) → ValidStatement s → AllByRecursion (λ (p : Piece). IsPlain p.at) (origin_pieces s)
+origins-plain (Putv target to from tgt org cmpl) h = vector-plain from h.3
+origins-plain (Getv target from to tgt org) h = vector-plain to h.3
+origins-plain (Store at bytes) h = (tt, tt)
+origins-plain (Put target to from len tgt org cmpl) h = (tt, tt)
+origins-plain (Get target from to len tgt org) h = (tt, tt)
+origins-plain (Rmw target op at in1 in2 prev org) h = (tt, tt)
+origins-plain (Am target handler header from len tgt org cmpl) h = (tt, tt)
+origins-plain (Statement.Addr at) h = (tt, tt)
+origins-plain _ h = tt
+
 module _ (script : Script) (known : ℕ → Bool) (given : ℕ → ℕ → ℕ) (same : AreGiven script known given) (d : ℕ) where
   abbrev here : Piece → Reach
   here = reach_of known given d
@@ -39,7 +64,7 @@ module _ (script : Script) (known : ℕ → Bool) (given : ℕ → ℕ → ℕ) 
   abbrev true_one : Piece → Reach
   true_one = reach_of known (entry script) d
 
-  same-at : (at : Addr) → is_told known at ≡ true → address_by given d at ≡ address_by (entry script) d at
+  pub same-at : (at : Addr) → is_told known at ≡ true → address_by given d at ≡ address_by (entry script) d at
   same-at (Plain x) h = refl
   same-at (Table round offset) h = ap (λ n. n + offset) (same round d h)
 
@@ -60,23 +85,8 @@ module _ (script : Script) (known : ℕ → Bool) (given : ℕ → ℕ → ℕ) 
       plain (Plain x) h = refl
       plain (Table round offset) h = absurd h
 
-  stride-plain : (at : Addr) (block stride : ℕ) (ks : List ℕ) → IsPlain at → AllByRecursion (λ (p : Piece). IsPlain p.at) (map (λ k. record { at = shifted at (k * stride); len = block }) ks)
-  stride-plain at block stride [] h = tt
-  stride-plain at block stride (k ∷ ks) h = (plain at (k * stride) h, stride-plain at block stride ks h)
-    where
-      plain : (at : Addr) (y : ℕ) → IsPlain at → IsPlain (shifted at y)
-      plain (Plain x) y h = tt
-      plain (Table round offset) y h = h
-
-  vector-same : (v : vectors.Vector) → AtPlain v → map here (pieces_of v) ≡ map true_one (pieces_of v)
-  unfolding pieces_of
-  vector-same (vectors.Vector.List ps) h = plain-same ps h
-  vector-same (Stride base block stride count) h = plain-same (map (λ k. record { at = shifted base (k * stride); len = block }) (numbers_below count)) (stride-plain base block stride (numbers_below count) h)
-
   origins-same : (s : Statement) → ValidStatement s → map here (origin_pieces s) ≡ map true_one (origin_pieces s)
-  origins-same (Putv target to from tgt org cmpl) h = vector-same from h.3
-  origins-same (Getv target from to tgt org) h = vector-same to h.3
-  origins-same _ h = refl
+  origins-same s valid = plain-same (origin_pieces s) (origins-plain s valid)
 
   same-outside : (size : ℕ) (p : Piece) → (is_told known p.at && not (nat_le (address_by given d p.at + p.len) size)) ≡ (is_told known p.at && not (nat_le (address_by (entry script) d p.at + p.len) size))
   same-outside size p =
@@ -91,32 +101,32 @@ module _ (script : Script) (known : ℕ → Bool) (given : ℕ → ℕ → ℕ) 
   outside-same size (p ∷ ps) = λ k. same-outside size p k || outside-same size ps k
 
   -- so the reason is that by the script's entries
-  pub reason-same : (rules : Rules) (s : Statement) → ValidStatement s → first_reason (reach_tests script rules (map here (target_pieces s)) (map here (origin_pieces s)) s) ≡ first_reason (reach_tests script rules (map true_one (target_pieces s)) (map true_one (origin_pieces s)) s)
-  reason-same rules s valid =
+  pub reason-same : (headers : ℕ) (s : Statement) → ValidStatement s → first_reason (reach_tests (sizes_of script headers) (map here (target_pieces s)) (map here (origin_pieces s)) s) ≡ first_reason (reach_tests (sizes_of script headers) (map true_one (target_pieces s)) (map true_one (origin_pieces s)) s)
+  reason-same headers s valid =
       let to = target_pieces s in
       let from = origins-same s valid in
       let unknown = list_any (λ (p : Piece). not (is_told known p.at)) to in
       ⊎_elim
       (λ (h : unknown ≡ true). some-unknown h)
-      (λ (h : unknown ≡ false). λ k. first_reason (reach_tests script rules (told-same to h k) (from k) s))
+      (λ (h : unknown ≡ false). λ k. first_reason (reach_tests (sizes_of script headers) (told-same to h k) (from k) s))
       (cases_Bool unknown)
     where
-      some-unknown : list_any (λ (p : Piece). not (is_told known p.at)) (target_pieces s) ≡ true → first_reason (reach_tests script rules (map here (target_pieces s)) (map here (origin_pieces s)) s) ≡ first_reason (reach_tests script rules (map true_one (target_pieces s)) (map true_one (origin_pieces s)) s)
+      some-unknown : list_any (λ (p : Piece). not (is_told known p.at)) (target_pieces s) ≡ true → first_reason (reach_tests (sizes_of script headers) (map here (target_pieces s)) (map here (origin_pieces s)) s) ≡ first_reason (reach_tests (sizes_of script headers) (map true_one (target_pieces s)) (map true_one (origin_pieces s)) s)
       some-unknown h =
           let to = target_pieces s in
           let from = origins-same s valid in
           let outside = outside-same script.memory to in
-          let long = long-is known given d script s ∙ sym (long-is known (entry script) d script s) in
+          let long = long-is known given d script headers s ∙ sym (long-is known (entry script) d script headers s) in
           let none = λ (r : Reach). not r.known in
           let one = any-mapped none here to in
           let other = any-mapped none true_one to in
           let lacks = option_any (λ t. not (nat_lt t script.tasks)) (target_of s) in
           let beyond = λ (rs : List Reach). list_any (λ (r : Reach). not (nat_le (r.at + r.len) script.memory)) rs in
           let misses = list_any (λ c. not (nat_lt c script.counters)) (counters_of s) in
-          let late = late_tests rules (map here to) (map here (origin_pieces s)) s in
-          let true_late = late_tests rules (map true_one to) (map true_one (origin_pieces s)) s in
+          let late = late_tests headers (map here to) (map here (origin_pieces s)) s in
+          let true_late = late_tests headers (map true_one to) (map true_one (origin_pieces s)) s in
           let out = list_any (λ (r : Reach). r.known && not (nat_le (r.at + r.len) script.memory)) (map true_one to) in
-          let size = long_by script (map true_one to) (map true_one (origin_pieces s)) s in
+          let size = long_by (sizes_of script headers) (map true_one to) (map true_one (origin_pieces s)) s in
           (λ k. reason_by lacks (outside k) (beyond (from k)) misses (long k) (list_any none (map here to)) late)
           ∙ stops lacks out (beyond (map true_one (origin_pieces s))) misses size (list_any none (map here to)) late true_late (one ∙ h)
           ∙ (λ k. reason_by lacks out (beyond (map true_one (origin_pieces s))) misses size ((one ∙ sym other) k) true_late)

@@ -20,6 +20,7 @@ use Rattle.lapi_base.specs.Record.Refusals.{first_reason, refusal_by, option_any
 use Rattle.lapi_calls.specs.declared.reach.Reach.{Reach}
 use Rattle.lapi_calls.specs.Entries.{is_told, address_by}
 use Rattle.lapi_calls.specs.Reaches.{total_of, reach_of, stride_reaches}
+use Rattle.lapi_calls.specs.Sizes.{sizes_of}
 use Rattle.lapi_calls.specs.Reasons.{reason_tests, long_by, handler_missing, header_is_bad, reach_tests}
 
 -- one piece more of a stride
@@ -46,7 +47,7 @@ lens-mapped : (known : ℕ → Bool) (given : ℕ → ℕ → ℕ) (d : ℕ) (ps
 lens-mapped known given d [] = refl
 lens-mapped known given d (p ∷ ps) = ap (λ ns. p.len ∷ ns) (lens-mapped known given d ps)
 
-total-mapped : (known : ℕ → Bool) (given : ℕ → ℕ → ℕ) (d : ℕ) (ps : List Piece) → total_of (map (reach_of known given d) ps) ≡ total ps
+pub total-mapped : (known : ℕ → Bool) (given : ℕ → ℕ → ℕ) (d : ℕ) (ps : List Piece) → total_of (map (reach_of known given d) ps) ≡ total ps
 total-mapped known given d ps = ap sum (lens-mapped known given d ps)
 
 -- all counters that a statement names
@@ -76,19 +77,19 @@ module _ (known : ℕ → Bool) (given : ℕ → ℕ → ℕ) (d : ℕ) where
   unfolding pieces_of
   strides-are at block stride count = blocks at block stride (numbers_below count)
 
-  pub long-is : (script : Script) (s : Statement) → long_by script (map (reach_of known given d) (target_pieces s)) (map (reach_of known given d) (origin_pieces s)) s ≡ too_long script s
-  long-is script (Putv t to from tgt org cmpl) = λ k. nat_lt (longest_of script) (total-mapped known given d (pieces_of to) k) || nat_lt (longest_of script) (total-mapped known given d (pieces_of from) k)
-  long-is script (Getv t from to tgt org) = λ k. nat_lt (longest_of script) (total-mapped known given d (pieces_of from) k) || nat_lt (longest_of script) (total-mapped known given d (pieces_of to) k)
-  long-is script _ = refl
+  pub long-is : (script : Script) (headers : ℕ) (s : Statement) → long_by (sizes_of script headers) (map (reach_of known given d) (target_pieces s)) (map (reach_of known given d) (origin_pieces s)) s ≡ too_long script s
+  long-is script headers (Putv t to from tgt org cmpl) = λ k. nat_lt (longest_of script) (total-mapped known given d (pieces_of to) k) || nat_lt (longest_of script) (total-mapped known given d (pieces_of from) k)
+  long-is script headers (Getv t from to tgt org) = λ k. nat_lt (longest_of script) (total-mapped known given d (pieces_of from) k) || nat_lt (longest_of script) (total-mapped known given d (pieces_of to) k)
+  long-is script headers _ = refl
 
 module _ (script : Script) (rules : Rules) (known : ℕ → Bool) (d : ℕ) where
   -- the addresses by the entries of the script are the script's
-  address-is : (at : Addr) → address_by (entry script) d at ≡ address script d at
+  pub address-is : (at : Addr) → address_by (entry script) d at ≡ address script d at
   unfolding address
   address-is (Plain x) = refl
   address-is (Table round offset) = refl
 
-  pub tests-are : (s : Statement) → reach_tests script rules (map (reach_of known (entry script) d) (target_pieces s)) (map (reach_of known (entry script) d) (origin_pieces s)) s ≡ reason_tests script rules (is_told known) d s
+  pub tests-are : (s : Statement) → reach_tests (sizes_of script (length rules.headers)) (map (reach_of known (entry script) d) (target_pieces s)) (map (reach_of known (entry script) d) (origin_pieces s)) s ≡ reason_tests script rules (is_told known) d s
   unfolding address
   tests-are s =
       let h = reach_of known (entry script) d in
@@ -106,9 +107,9 @@ module _ (script : Script) (rules : Rules) (known : ℕ → Bool) (d : ℕ) wher
       ∷ (outside k, BadTargetRange)
       ∷ (beyond k, BadOriginRange)
       ∷ (list_any (λ c. not (nat_lt c script.counters)) (counters_of s), BadCounter)
-      ∷ (long-is known (entry script) d script s k, TooLong)
+      ∷ (long-is known (entry script) d script (length rules.headers) s k, TooLong)
       ∷ (unknown k, NoTable)
-      ∷ (handler_missing rules s, BadHandler)
+      ∷ (handler_missing (length rules.headers) s, BadHandler)
       ∷ (header_is_bad s, BadUserHeader)
       ∷ (is_vector s && not (counts k), VecCount)
       ∷ (is_vector s && differs k, VecLength)

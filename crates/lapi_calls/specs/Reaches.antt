@@ -2,9 +2,14 @@
 use Rattle.std.specs.Prelude.{ℕ, ◌+◌, ◌*◌, Bool, List, map}
 use Rattle.std.specs.List.{sum}
 use Rattle.lapi_base.specs.declared.piece.Piece.{Piece}
+use Rattle.lapi_base.specs.declared.span.Span.{Span}
 use Rattle.lapi_base.specs.Record.Operations.{numbers_below}
 use Rattle.lapi_calls.specs.Entries.{is_told, address_by}
 use Rattle.lapi_calls.specs.declared.reach.Reach.{Reach}
+
+-- the pieces' places, whether or not they are known
+abbrev pub spans_of : List Reach → List Span
+spans_of reaches = map (λ (r : Reach). record { at = r.at; len = r.len }) reaches
 
 abbrev pub total_of : List Reach → ℕ
 total_of reaches = sum (map (λ r. r.len) reaches)

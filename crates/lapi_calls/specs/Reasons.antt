@@ -1,5 +1,5 @@
 -- Why a statement is refused, by the statement.
-use Rattle.std.specs.Prelude.{ℕ, ◌+◌, ◌%◌, ◌==◌, nat_le, nat_lt, Bool, ◌&&◌, ◌||◌, not, List, [], ◌∷◌, length, Option}
+use Rattle.std.specs.Prelude.{◌≡◌, ℕ, ◌+◌, ◌%◌, ◌==◌, nat_le, nat_lt, Bool, ◌&&◌, ◌||◌, not, List, [], ◌∷◌, length, map, Option}
 use Rattle.std.specs.List.{list_any, zip}
 use Rattle.lapi_base.specs.declared.address.Addr.{Addr}
 use Rattle.lapi_base.specs.declared.piece.Piece.{Piece}
@@ -9,15 +9,18 @@ use Rattle.lapi_base.specs.declared.rule.Rules.{Rules}
 use Rattle.lapi_base.specs.declared.refusal.Refusal.{Refusal}
 use Rattle.lapi_base.specs.declared.refusal.Refusal.TheVariants.{BadTask, BadTargetRange, BadOriginRange, BadCounter, TooLong, NoTable, BadHandler, BadUserHeader, VecCount, VecLength, StrideBelowBlock, Misaligned}
 use Rattle.lapi_base.specs.Record.Operations.{target_pieces, origin_pieces, is_rmw, target_of, is_am}
-use Rattle.lapi_base.specs.Record.Refusals.{option_any, lies_within, counters_of, too_long, is_vector, stride_below_block, is_misaligned, refusal_by}
+use Rattle.lapi_base.specs.Record.Refusals.{option_any, lies_within, counters_of, too_long, is_vector, stride_below_block, is_misaligned, first_reason, refusal_by, refusal_of}
 use Rattle.lapi_base.specs.Record.Handlers.{handler_of, user_header}
 use Rattle.lapi_base.specs.declared.statement.Statement.TheVariants.{Put, Get, Am}
-use Rattle.lapi_base.specs.Packet.Layout.{longest_of, longest_active_of}
 use Rattle.lapi_calls.specs.declared.setting.Setting.{Setting}
+use Rattle.lapi_base.specs.declared.event.Event.{Event}
+use Rattle.lapi_calls.specs.Calls.{IsCall, KnowsPassed, peer_of}
 use Rattle.lapi_calls.specs.Entries.{is_told}
+use Rattle.lapi_calls.specs.Sizes.{sizes_of}
 use Rattle.lapi_calls.specs.Setting.{rules_of}
+use Rattle.lapi_calls.specs.declared.sizes.Sizes.{Sizes}
 use Rattle.lapi_calls.specs.declared.reach.Reach.{Reach}
-use Rattle.lapi_calls.specs.Reaches.{total_of}
+use Rattle.lapi_calls.specs.Reaches.{total_of, reach_of}
 
 module _ (script : Script) (rules : Rules) (known : Addr → Bool) (d : ℕ) where
   -- a piece whose address is known lies outside of the memory
@@ -45,17 +48,17 @@ module _ (script : Script) (rules : Rules) (known : Addr → Bool) (d : ℕ) whe
       ∷ []
 
 -- The same where the pieces at the target and at the origin lie so.
-abbrev pub long_reaches : Script → List Reach → Bool
-long_reaches script rs = nat_lt (longest_of script) (total_of rs)
+abbrev pub long_reaches : Sizes → List Reach → Bool
+long_reaches sizes rs = nat_lt sizes.longest (total_of rs)
 
-abbrev pub long_by : Script → (to from : List Reach) → Statement → Bool
-long_by script to from (Put target at origin len tgt org cmpl) = nat_lt (longest_of script) len
-long_by script to from (Get target at origin len tgt org) = nat_lt (longest_of script) len
-long_by script to from (Am target handler header origin len tgt org cmpl) = nat_lt (longest_active_of script) len
-long_by script to from s = is_vector s && (long_reaches script to || long_reaches script from)
+abbrev pub long_by : Sizes → (to from : List Reach) → Statement → Bool
+long_by sizes to from (Put target at origin len tgt org cmpl) = nat_lt sizes.longest len
+long_by sizes to from (Get target at origin len tgt org) = nat_lt sizes.longest len
+long_by sizes to from (Am target handler header origin len tgt org cmpl) = nat_lt sizes.longest_active len
+long_by sizes to from s = is_vector s && (long_reaches sizes to || long_reaches sizes from)
 
-abbrev pub handler_missing : Rules → Statement → Bool
-handler_missing rules s = is_am s && not (nat_lt (handler_of s) (length rules.headers))
+abbrev pub handler_missing : (headers : ℕ) → Statement → Bool
+handler_missing headers s = is_am s && not (nat_lt (handler_of s) headers)
 
 abbrev pub header_is_bad : Statement → Bool
 header_is_bad s = is_am s && (nat_lt 64 (length (user_header s)) || not (length (user_header s) % 4 == 0))
@@ -70,9 +73,9 @@ abbrev pub is_misplaced : (to from : List Reach) → Statement → Bool
 is_misplaced to from s = is_rmw s && (is_askew to || is_askew from)
 
 -- the reasons after NoTable
-abbrev pub late_tests : Rules → (to from : List Reach) → Statement → List (Bool × Refusal)
-late_tests rules to from s =
-    (handler_missing rules s, BadHandler)
+abbrev pub late_tests : (headers : ℕ) → (to from : List Reach) → Statement → List (Bool × Refusal)
+late_tests headers to from s =
+    (handler_missing headers s, BadHandler)
     ∷ (header_is_bad s, BadUserHeader)
     ∷ (is_vector s && not (length to == length from), VecCount)
     ∷ (lengths_differ to from s, VecLength)
@@ -80,16 +83,35 @@ late_tests rules to from s =
     ∷ (is_misplaced to from s, Misaligned)
     ∷ []
 
-abbrev pub reach_tests : Script → Rules → (to from : List Reach) → Statement → List (Bool × Refusal)
-reach_tests script rules to from s =
-    (option_any (λ t. not (nat_lt t script.tasks)) (target_of s), BadTask)
-    ∷ (list_any (λ (r : Reach). r.known && not (nat_le (r.at + r.len) script.memory)) to, BadTargetRange)
-    ∷ (list_any (λ (r : Reach). not (nat_le (r.at + r.len) script.memory)) from, BadOriginRange)
-    ∷ (list_any (λ c. not (nat_lt c script.counters)) (counters_of s), BadCounter)
-    ∷ (long_by script to from s, TooLong)
+abbrev pub reach_tests : Sizes → (to from : List Reach) → Statement → List (Bool × Refusal)
+reach_tests sizes to from s =
+    (option_any (λ t. not (nat_lt t sizes.tasks)) (target_of s), BadTask)
+    ∷ (list_any (λ (r : Reach). r.known && not (nat_le (r.at + r.len) sizes.memory)) to, BadTargetRange)
+    ∷ (list_any (λ (r : Reach). not (nat_le (r.at + r.len) sizes.memory)) from, BadOriginRange)
+    ∷ (list_any (λ c. not (nat_lt c sizes.counters)) (counters_of s), BadCounter)
+    ∷ (long_by sizes to from s, TooLong)
     ∷ (list_any (λ (r : Reach). not r.known) to, NoTable)
-    ∷ late_tests rules to from s
+    ∷ late_tests sizes.headers to from s
+
+-- the first reason that applies to a call of a task, by where its pieces lie
+abbrev pub reason_by_reach : Sizes → (known : ℕ → Bool) → (given : ℕ → ℕ → ℕ) → (task : ℕ) → Statement → Option Refusal
+reason_by_reach sizes known given a s =
+    first_reason (reach_tests sizes (map (reach_of known given (peer_of a s)) (target_pieces s)) (map (reach_of known given (peer_of a s)) (origin_pieces s)) s)
 
 -- why a statement is refused, if it is, where these rounds are known
 abbrev pub why_told : Setting → (known : ℕ → Bool) → (task i : ℕ) → Option Refusal
 why_told setting known a i = refusal_by setting.script.now (rules_of setting) (is_told known) a i
+
+-- this is the record's reason, in every script with these sizes in which the call is a statement of the task
+abbrev pub IsRefusal : Sizes → (known : ℕ → Bool) → (given : ℕ → ℕ → ℕ) → (task : ℕ) → Statement → Option Refusal → Type 0
+IsRefusal sizes known given a s found =
+    (script : Script) (rules : Rules) (i : ℕ) → sizes ≡ sizes_of script (length rules.headers) → IsCall script known given a i s → found ≡ refusal_by script rules (is_told known) a i
+
+-- and after every journal by which the task has passed the rounds that are known
+abbrev pub IsRefusalAfter : Sizes → (known : ℕ → Bool) → (given : ℕ → ℕ → ℕ) → (task : ℕ) → Statement → Option Refusal → Type 0
+IsRefusalAfter sizes known given a s found =
+    (script : Script) (rules : Rules) (J : List Event) (i : ℕ)
+    → sizes ≡ sizes_of script (length rules.headers)
+    → IsCall script known given a i s
+    → KnowsPassed script J a known
+    → found ≡ refusal_of script rules J a i

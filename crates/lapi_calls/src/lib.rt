@@ -4,21 +4,27 @@
 #![tactic(auto)]
 
 mod entries;
+mod head;
+mod length;
 mod name;
+mod no_table;
 mod pieces;
 mod reach;
 mod reason;
 mod setting;
+mod sizes;
+mod spans;
 mod statement;
 
 pub use entries::Entries;
+pub use head::{go_head, join_head};
+pub use length::message_length;
 pub use name::{is_go, place_of, receiver, target};
-pub use reason::why_refused;
+pub use reason::{refusal_of, why_refused};
 pub use setting::Setting;
+pub use sizes::Sizes;
+pub use spans::{origin_spans, target_spans};
 pub use statement::{
     completion_counter, has_back, is_data, is_entered, is_issued, is_message, is_passed,
-    origin_counter, own_counter, target_counter, target_of,
+    origin_counter, own_counter, peer, target_counter, target_of,
 };
-
-#[cfg(test)]
-mod tests;

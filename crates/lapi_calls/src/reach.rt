@@ -4,6 +4,7 @@ ghost use Rattle.std.specs.List.{list_any, sum, zip};
 ghost use Rattle.lapi_calls.specs.Reaches as reaches;
 
 use arrayvec::ArrayVec;
+use lapi_base::{Span, Spans};
 use std::marker::Model;
 
 /// Whether a piece's address is known, the address, and how many bytes it has.
@@ -100,6 +101,20 @@ impl Reaches {
         ensures { result ≡ list_any (λ r. not (r.at % 4 == 0)) self.now }
     {
         self.as_slice().iter().any(|reach| reach.at % 4 != 0)
+    }
+
+    /// Where the pieces lie, whether or not their addresses are known.
+    pub fn spans(&self) -> Spans
+        ensures { result ≡ reaches.spans_of self.now }
+    {
+        let mut spans = Spans::new();
+        for reach in self.as_slice() {
+            spans.push(Span {
+                at: reach.at,
+                len: reach.len,
+            });
+        }
+        spans
     }
 
     /// How many bytes the pieces have together.

@@ -1,28 +1,46 @@
 //! Why a statement is refused.
-ghost use Rattle.std.specs.Prelude.{◌≡◌, ◌%◌, ◌==◌, ◌||◌, ◌&&◌, not, nat_lt, true, length, option_to_list, unwrap_or};
+ghost use Rattle.std.specs.Prelude.{◌≡◌, ◌%◌, ◌==◌, ◌||◌, ◌&&◌, not, nat_lt, true, length, option_to_list, None};
 ghost use Rattle.std.specs.List.{list_any, zip};
 ghost use Rattle.lapi_base.specs.Record.Atomic.{has_statement};
 ghost use Rattle.lapi_base.specs.Record.Handlers.{handler_of};
 ghost use Rattle.lapi_base.specs.Record.Operations as operations;
 ghost use Rattle.lapi_base.specs.Record.Refusals as refusals;
 ghost use Rattle.lapi_base.specs.Record.Refusals.{option_any, counters_of};
-ghost use Rattle.lapi_base.specs.Record.Valid.{ValidScript};
+ghost use Rattle.lapi_base.specs.Record.Valid.{ValidScript, ValidStatement};
 ghost use Rattle.lapi_calls.specs.Entries.{AreGiven};
 ghost use Rattle.lapi_calls.specs.Reasons as reasons;
-ghost use Rattle.lapi_calls.specs.Reasons.{why_told};
-ghost use Rattle.lapi_calls.specs.Setting.{rules_of, HasStatement};
+ghost use Rattle.lapi_calls.specs.Calls.{MaySend};
+ghost use Rattle.lapi_calls.specs.Reasons.{why_told, IsRefusal, IsRefusalAfter};
+ghost use Rattle.lapi_calls.specs.Setting.{HasStatement};
 
 use crate::entries::Entries;
 use crate::pieces::{origins, targets};
 use crate::reach::Reaches;
 use crate::setting::Setting;
+use crate::sizes::Sizes;
 use crate::statement::{
-    completion_counter, origin_counter, own_counter, target_counter, target_of,
+    completion_counter, origin_counter, own_counter, peer, target_counter, target_of,
 };
-use lapi_base::{Refusal, Script, Statement, Vector};
+use lapi_base::{Refusal, Statement, Vector};
 
-/// Why statement `i` of a task is refused, if it is, where the task knows these addresses: the first
-/// reason that applies, in the order of `Refusal`.
+/// Why a call of a task is refused, if it is, where the task knows these addresses: the first reason that
+/// applies, in the order of `Refusal`.
+pub fn refusal_of<E: Entries>(
+    sizes: &Sizes,
+    entries: &E,
+    task: u32,
+    statement: &Statement,
+) -> Option<Refusal>
+    requires asked { E.valid entries.now }
+    requires statement { ValidStatement statement.now }
+    ensures told { IsRefusal sizes.now (E.is_known entries.now) (E.given entries.now) task statement.now result }
+    ensures after { IsRefusalAfter sizes.now (E.is_known entries.now) (E.given entries.now) task statement.now result }
+    ensures sendable { result ≡ None → MaySend sizes.now (E.is_known entries.now) (E.given entries.now) task statement.now }
+{
+    reason_by_reach(sizes, entries, task, statement)
+}
+
+/// Why statement `i` of a task is refused, if it is, where the task knows these addresses.
 pub fn why_refused<E: Entries>(
     setting: &Setting<'_>,
     entries: &E,
@@ -35,36 +53,47 @@ pub fn why_refused<E: Entries>(
     requires given { AreGiven setting.now.script.now (E.is_known entries.now) (E.given entries.now) }
     ensures { result ≡ why_told setting.now (E.is_known entries.now) task i }
 {
-    let statement = setting.at(task, i);
-    let target = target_or(task, statement);
+    refusal_of(&setting.sizes(), entries, task, setting.at(task, i))
+}
+
+/// The first reason that applies, by where the pieces lie.
+fn reason_by_reach<E: Entries>(
+    sizes: &Sizes,
+    entries: &E,
+    task: u32,
+    statement: &Statement,
+) -> Option<Refusal>
+    requires asked { E.valid entries.now }
+    requires statement { ValidStatement statement.now }
+    ensures { result ≡ reasons.reason_by_reach sizes.now (E.is_known entries.now) (E.given entries.now) task statement.now }
+{
+    let target = peer(task, statement);
     let to = targets(entries, target, statement);
     let from = origins(entries, target, statement);
-    first_reason(&tests(setting, statement, &to, &from))
+    first_reason(&tests(sizes, statement, &to, &from))
 }
 
 /// The reasons in their order, with the tests that tell which apply.
 fn tests(
-    setting: &Setting<'_>,
+    sizes: &Sizes,
     statement: &Statement,
     to: &Reaches,
     from: &Reaches,
 ) -> [(bool, Refusal); 12]
-    ensures { result ≡ reasons.reach_tests setting.now.script.now (rules_of setting.now) to.now from.now statement.now }
+    ensures { result ≡ reasons.reach_tests sizes.now to.now from.now statement.now }
 {
-    let script = setting.script;
-    let memory = script.memory;
-    let handlers = setting.headers.len();
+    let memory = sizes.memory;
     [
-        (lacks_task(script.tasks, statement), Refusal::BadTask),
+        (lacks_task(sizes.tasks, statement), Refusal::BadTask),
         (to.any_outside(memory), Refusal::BadTargetRange),
         (from.any_beyond(memory), Refusal::BadOriginRange),
         (
-            misses_counter(script.counters, statement),
+            misses_counter(sizes.counters, statement),
             Refusal::BadCounter,
         ),
-        (is_too_long(script, statement, to, from), Refusal::TooLong),
+        (is_too_long(sizes, statement, to, from), Refusal::TooLong),
         (to.any_unknown(), Refusal::NoTable),
-        (lacks_handler(handlers, statement), Refusal::BadHandler),
+        (lacks_handler(sizes.headers, statement), Refusal::BadHandler),
         (has_bad_header(statement), Refusal::BadUserHeader),
         (counts_differ(statement, to, from), Refusal::VecCount),
         (lengths_differ(statement, to, from), Refusal::VecLength),
@@ -94,13 +123,6 @@ fn misses_counter(counters: u32, statement: &Statement) -> bool
     any_of(own, target, origin, completion)
 }
 
-/// The target of the statement, or this task.
-fn target_or(task: u32, statement: &Statement) -> u32
-    ensures { result ≡ unwrap_or (operations.target_of statement.now) task }
-{
-    target_of(statement).unwrap_or(task)
-}
-
 fn any_of(a: bool, b: bool, c: bool, d: bool) -> bool
     ensures { result ≡ (((a || b) || c) || d) }
 {
@@ -128,14 +150,14 @@ fn lacks_task(tasks: u32, statement: &Statement) -> bool
 }
 
 /// Whether the message is longer than its layout allows, in bytes; a vector, on either side.
-fn is_too_long(script: &Script, statement: &Statement, to: &Reaches, from: &Reaches) -> bool
-    ensures { result ≡ reasons.long_by script.now to.now from.now statement.now }
+fn is_too_long(sizes: &Sizes, statement: &Statement, to: &Reaches, from: &Reaches) -> bool
+    ensures { result ≡ reasons.long_by sizes.now to.now from.now statement.now }
 {
     match statement {
-        Statement::Put { len, .. } | Statement::Get { len, .. } => *len > script.longest(),
-        Statement::Am { len, .. } => *len > script.longest_active(),
+        Statement::Put { len, .. } | Statement::Get { len, .. } => *len > sizes.longest,
+        Statement::Am { len, .. } => *len > sizes.longest_active,
         Statement::Putv { .. } | Statement::Getv { .. } => {
-            to.total() > script.longest() as u64 || from.total() > script.longest() as u64
+            to.total() > sizes.longest as u64 || from.total() > sizes.longest as u64
         }
         Statement::Store { .. }
         | Statement::Rmw { .. }

@@ -2,6 +2,7 @@
 ghost use Rattle.std.specs.Prelude.{◌≡◌};
 ghost use Rattle.lapi_base.specs.Record.Atomic as atomic;
 ghost use Rattle.lapi_base.specs.Record.Operations as kinds;
+ghost use Rattle.lapi_calls.specs.Calls.{peer_of};
 
 use lapi_base::Statement;
 
@@ -100,6 +101,13 @@ pub fn target_of(statement: &Statement) -> Option<u32>
         | Statement::Gfence
         | Statement::Addr { .. } => None,
     }
+}
+
+/// The task at which a call of this task works: its target, or the task itself.
+pub fn peer(task: u32, statement: &Statement) -> u32
+    ensures { result ≡ peer_of task statement.now }
+{
+    target_of(statement).unwrap_or(task)
 }
 
 /// The target counter that an operation names, if it names one.

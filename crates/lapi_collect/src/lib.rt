@@ -5,6 +5,8 @@
 mod flag_words;
 mod outstanding;
 mod rounds;
+mod unacknowledged;
 
 pub use outstanding::Outstanding;
 pub use rounds::{AddressTable, Rounds};
+pub use unacknowledged::Unacknowledged;

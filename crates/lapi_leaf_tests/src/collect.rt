@@ -1,4 +1,4 @@
-use lapi_collect::{AddressTable, Outstanding, Rounds};
+use lapi_collect::{AddressTable, Outstanding, Rounds, Unacknowledged};
 use std::test::Fail;
 
 #[test]
@@ -13,6 +13,17 @@ fn a_fence_waits_for_the_last_earlier_operation(rt: HostRuntime) -> Result<(), F
     assert!(rt; outstanding.clear_before(400) && !outstanding.clear_before(401));
     outstanding.done(400);
     assert!(rt; outstanding.clear_before(512));
+    Ok(())
+}
+
+#[test]
+fn the_last_acknowledged_number_is_told(rt: HostRuntime) -> Result<(), Fail> {
+    let mut left = Unacknowledged::new(rt.alloc(), 512)?;
+    left.begin(511, 2);
+    left.begin(0, 1);
+    assert!(rt; !left.acked(511));
+    assert!(rt; left.acked(0));
+    assert!(rt; left.acked(511));
     Ok(())
 }
 

@@ -3,11 +3,15 @@
 #![tactic(auto)]
 
 #[cfg(test)]
+mod calls;
+#[cfg(test)]
 mod collect;
 #[cfg(test)]
 mod counters;
 #[cfg(test)]
 mod handlers;
+#[cfg(test)]
+mod jobs;
 #[cfg(test)]
 mod lists;
 #[cfg(test)]
