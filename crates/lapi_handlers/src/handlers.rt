@@ -6,7 +6,7 @@ use crate::completion_fn::CompletionFn;
 use crate::finished::Finished;
 use crate::header_fn::HeaderFn;
 use crate::job::Job;
-use lapi_base::{HeaderIn, HeaderOut};
+use lapi_base::{HeaderIn, HeaderOut, LONGEST_ACTIVE};
 
 /// The handlers of a run, by their numbers.
 #[derive(Drop)]
@@ -68,7 +68,7 @@ impl Handlers {
     /// Calls the job's completion handler, once.
     pub fn complete(&self, job: Job) -> Finished
         requires completion { job.completion < length (rules_of self.now).completions }
-        requires buffer { length job.buffer ≤ 16384 }
+        requires buffer { length job.buffer ≤ LONGEST_ACTIVE }
         ensures effect { result.effect ≡ completion_answer (completion_rule (rules_of self.now) job.completion) job.user job.buffer }
         ensures message { result.name ≡ job.name }
         ensures place { (result.task ≡ job.task) × (result.worker ≡ job.worker) }

@@ -1,7 +1,7 @@
 -- What the sending end of a link stands for: its window, and the packets of the numbers that were not sent yet.
 use Rattle.std.specs.Prelude.{◌≡◌, ℕ, ◌+◌, ◌-◌, ◌≤◌, min, false, ◌||◌, List, [], ◌∷◌, ◌++◌, length, map, take, drop}
 use Rattle.std.specs.List.{AllByRecursion, filter_map}
-use Rattle.lapi_base.specs.declared.frame.TheConstants.{FRAME_ROOM}
+use Rattle.lapi_base.specs.declared.layout.TheConstants.{FRAME_ROOM}
 use Rattle.lapi_base.specs.declared.wire.WireEntry.{WireEntry}
 use Rattle.lapi_window.specs.NumberSet.{is_covered}
 use Rattle.lapi_window.specs.SendWindow.{Sending, sent_count, is_acked, base_of, bytes_of, unacked}
