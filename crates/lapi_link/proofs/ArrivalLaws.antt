@@ -14,16 +14,17 @@ use Rattle.lapi_base.specs.Packet.Layout.{unit_of, window_of}
 use Rattle.lapi_base.specs.Record.Names.{name_eq}
 use Rattle.lapi_base.specs.Record.Operations.{numbers_below}
 use Rattle.lapi_base.specs.Record.Wires.{has_number}
-use Rattle.lapi_base.specs.Record.Arrived.{is_fragment, has_fragment, whole_by, payload_of, assembled, count_of}
+use Rattle.lapi_base.specs.Record.Arrived.{is_fragment, has_fragment, some_packet, whole_by, payload_of, assembled, count_of}
 use Rattle.lapi_base.proofs.NameLaws.{name_eq-refl, name_eq-true}
 use Rattle.lapi_base.proofs.PacketNumbers.{some-there}
 use Rattle.lapi_window.specs.RecvWindow.{Receiving, is_taken, base_of}
 use Rattle.lapi_reassembly.specs.Partial.{Gathered, nothing_of, with_fragment, is_whole, message, fragment}
 use Rattle.lapi_reassembly.specs.Partials.{Gathering, partial, is_there, HasRoom, Agrees, IsMissing, kept_of}
 use Rattle.lapi_link.specs.declared.arrival.Arrival.TheVariants.{Repeat, Part, Whole}
-use Rattle.lapi_link.specs.Receiver.{ReceivingEnd, packet_of, is_complete, fragment_at, gathered_by, partial_by, partial_of, ReceivesFor, IsPartOnly, MayArrive, message_of, arrival_of, gathered_with, arrival_with}
+use Rattle.lapi_link.specs.Receiver.{ReceivingEnd, is_complete, fragment_at, gathered_by, partial_by, partial_of, ReceivesFor, IsPartOnly, MayArrive, message_of, arrival_of, gathered_with, arrival_with}
 use Rattle.lapi_link.proofs.FragmentLists.{every-all, joined-map, told-at, none-yet, one-more}
-use Rattle.lapi_link.proofs.HeldPackets.{number-more, number-known, packet-found, none-found, no-fragment, fragment-there, is_some-at, bytes-at, missing-at, first-at, later-at, held-at}
+use Rattle.lapi_base.proofs.HeldPackets.{number-more, number-known, packet-found, none-found, no-fragment, fragment-there}
+use Rattle.lapi_link.proofs.HeldFragments.{is_some-at, bytes-at, missing-at, first-at, later-at, held-at}
 use Rattle.lapi_link.proofs.LeastNumbers.{base-is}
 
 module _ (script : Script) where
@@ -60,10 +61,10 @@ module _ (script : Script) where
     other-fragments j = later-at script ps m j p (false_from_ne_true _ (λ e. both_ways _ other (and_parts (name_eq m p.name) (p.fragment == j) e).0))
 
     other-partial : partial_of script (Data p ∷ ps) m ≡ partial_of script ps m
-    unfolding partial_of packet_of
+    unfolding partial_of some_packet
     other-partial =
-        ap (λ b. partial_by script (Data p ∷ ps) m (cond b (Some p) (packet_of ps m))) other
-        ∙ same-fragments ps (Data p ∷ ps) m (packet_of ps m) other-fragments
+        ap (λ b. partial_by script (Data p ∷ ps) m (cond b (Some p) (some_packet ps m))) other
+        ∙ same-fragments ps (Data p ∷ ps) m (some_packet ps m) other-fragments
 
   all-partials : (ps : List Packet) (p : DataPacket) (old now : MsgName → Option Gathered) → ((m : MsgName) → old m ≡ partial_of script ps m) → ((m : MsgName) → m ≢ p.name → now m ≡ old m) → now p.name ≡ partial_of script (Data p ∷ ps) p.name → (m : MsgName) → now m ≡ partial_of script (Data p ∷ ps) m
   all-partials ps p old now told others own m =
@@ -75,16 +76,16 @@ module _ (script : Script) where
       ] refl
 
   own-partial : (ps : List Packet) (p : DataPacket) → partial_of script (Data p ∷ ps) p.name ≡ partial_by script (Data p ∷ ps) p.name (Some p)
-  unfolding partial_of packet_of
-  own-partial ps p = ap (λ b. partial_by script (Data p ∷ ps) p.name (cond b (Some p) (packet_of ps p.name))) (name_eq-refl p.name)
+  unfolding partial_of some_packet
+  own-partial ps p = ap (λ b. partial_by script (Data p ∷ ps) p.name (cond b (Some p) (some_packet ps p.name))) (name_eq-refl p.name)
 
   -- A packet that may come.
   module _ (ps : List Packet) (p : DataPacket) (fits : MayArrive script ps p) where
     -- nothing of its message has come, or a packet with its head and length
-    before : ((packet_of ps p.name ≡ None) × (partial_of script ps p.name ≡ None)) ⊎ (partial_of script ps p.name ≡ partial_by script ps p.name (Some p))
+    before : ((some_packet ps p.name ≡ None) × (partial_of script ps p.name ≡ None)) ⊎ (partial_of script ps p.name ≡ partial_by script ps p.name (Some p))
     unfolding partial_of
     before =
-        elim (packet_of ps p.name) as (λ o. packet_of ps p.name ≡ o → ((o ≡ None) × (partial_by script ps p.name o ≡ None)) ⊎ (partial_by script ps p.name o ≡ partial_by script ps p.name (Some p))) [
+        elim (some_packet ps p.name) as (λ o. some_packet ps p.name ≡ o → ((o ≡ None) × (partial_by script ps p.name o ≡ None)) ⊎ (partial_by script ps p.name o ≡ partial_by script ps p.name (Some p))) [
           | None ↦ λ e. inl (refl, refl)
           | Some q ↦ λ e. let r = packet-found ps p.name q e in inr (same-head ps p.name p q (fits.heads r.0 q r.1 r.2))
         ] refl
@@ -113,13 +114,13 @@ module _ (script : Script) where
       known-partial =
           let at = fits.known known in
           ⊎_elim
-          (λ (x : (packet_of ps p.name ≡ None) × (partial_of script ps p.name ≡ None)). absurd (both_ways _ (none-found ps p.name x.0) (some-there ps at.0 p at.1)))
+          (λ (x : (some_packet ps p.name ≡ None) × (partial_of script ps p.name ≡ None)). absurd (both_ways _ (none-found ps p.name x.0) (some-there ps at.0 p at.1)))
           (λ (x : partial_of script ps p.name ≡ partial_by script ps p.name (Some p)). x ∙ sym (same-fragments ps (Data p ∷ ps) p.name (Some p) known-fragments) ∙ sym (own-partial ps p))
           before
 
     -- Its number is new.
     module _ (fresh : has_number ps p.seq ≡ false) where
-      open-before : ((packet_of ps p.name ≡ None) × (partial_of script ps p.name ≡ None)) ⊎ (partial_of script ps p.name ≡ Some (gathered_by script ps p.name p))
+      open-before : ((some_packet ps p.name ≡ None) × (partial_of script ps p.name ≡ None)) ⊎ (partial_of script ps p.name ≡ Some (gathered_by script ps p.name p))
       open-before =
           elim before [
             | inl x ↦ inl x
@@ -134,7 +135,7 @@ module _ (script : Script) where
       so-far =
           let nothing = nothing_of (unit_of script) p.name p.head p.length in
           ⊎_elim
-          (λ (x : (packet_of ps p.name ≡ None) × (partial_of script ps p.name ≡ None)).
+          (λ (x : (some_packet ps p.name ≡ None) × (partial_of script ps p.name ≡ None)).
           ap (λ o. unwrap_or o nothing) x.1
           ∙ ap (λ xs. record nothing { fragments = xs }) (none-yet (fragment_at script ps p.name) (fragments_in (unit_of script) p.length) (λ j. missing-at script ps p.name j (no-fragment ps p.name j (none-found ps p.name x.0)))))
           (λ (x : partial_of script ps p.name ≡ Some (gathered_by script ps p.name p)). ap (λ o. unwrap_or o nothing) x)
@@ -169,14 +170,14 @@ module _ (script : Script) where
         agrees : Agrees s p.name p.head p.length
         agrees =
             ⊎_elim
-            (λ (x : (packet_of ps p.name ≡ None) × (partial_of script ps p.name ≡ None)). subst (λ o. IfSome o (λ g. (g.head ≡ p.head) × (g.length ≡ p.length))) (sym (told ∙ x.1)) tt)
+            (λ (x : (some_packet ps p.name ≡ None) × (partial_of script ps p.name ≡ None)). subst (λ o. IfSome o (λ g. (g.head ≡ p.head) × (g.length ≡ p.length))) (sym (told ∙ x.1)) tt)
             (λ (x : partial_of script ps p.name ≡ Some (gathered_by script ps p.name p)). subst (λ o. IfSome o (λ g. (g.head ≡ p.head) × (g.length ≡ p.length))) (sym (told ∙ x)) (refl, refl))
             open-before
 
         missing-now : IsMissing s p.name p.fragment
         missing-now =
             ⊎_elim
-            (λ (x : (packet_of ps p.name ≡ None) × (partial_of script ps p.name ≡ None)). subst (λ o. IfSome o (λ g. fragment g p.fragment ≡ None)) (sym (told ∙ x.1)) tt)
+            (λ (x : (some_packet ps p.name ≡ None) × (partial_of script ps p.name ≡ None)). subst (λ o. IfSome o (λ g. fragment g p.fragment ≡ None)) (sym (told ∙ x.1)) tt)
             (λ (x : partial_of script ps p.name ≡ Some (gathered_by script ps p.name p)).
             subst (λ o. IfSome o (λ g. fragment g p.fragment ≡ None)) (sym (told ∙ x))
             (told-at (fragment_at script ps p.name) (fragments_in (unit_of script) p.length) p.fragment within ∙ missing-at script ps p.name p.fragment (fits.missing fresh)))
@@ -186,7 +187,7 @@ module _ (script : Script) where
   part-only : (ps : List Packet) (m : MsgName) → is_some (partial_of script ps m) ≡ true → IsPartOnly script ps m
   unfolding partial_of
   part-only ps m there =
-      elim (packet_of ps m) as (λ o. packet_of ps m ≡ o → is_some (partial_by script ps m o) ≡ true → IsPartOnly script ps m) [
+      elim (some_packet ps m) as (λ o. some_packet ps m ≡ o → is_some (partial_by script ps m o) ≡ true → IsPartOnly script ps m) [
         | None ↦ λ e t. absurd (false≢true t)
         | Some p ↦ λ e t. (
           p,
@@ -202,7 +203,7 @@ module _ (script : Script) where
   has-room : (ps : List Packet) (p : DataPacket) (s : Gathering) → MayArrive script ps p → has_number ps p.seq ≡ false → s.names ≡ window_of script → ((m : MsgName) → partial s m ≡ partial_of script ps m) → (is_there s p.name ≡ true) ⊎ HasRoom s
   has-room ps p s fits fresh names told =
       ⊎_elim
-      (λ (x : (packet_of ps p.name ≡ None) × (partial_of script ps p.name ≡ None)).
+      (λ (x : (some_packet ps p.name ≡ None) × (partial_of script ps p.name ≡ None)).
       inr (λ ms apart all. subst (λ n. length ms < n) (sym names) (fits.room fresh (none-found ps p.name x.0) ms apart (parts-only ps s told ms all))))
       (λ (x : partial_of script ps p.name ≡ Some (gathered_by script ps p.name p)). inl (ap is_some (told p.name ∙ x)))
       (open-before ps p fits fresh)
@@ -271,7 +272,7 @@ module _ (script : Script) (ps : List Packet) (p : DataPacket) (w : Receiving) (
 
 -- Before anything came.
 pub nothing-came : (script : Script) (w : Receiving) (g : Gathering) → w.window ≡ window_of script → (g.names ≡ window_of script) × (g.unit ≡ unit_of script) → ((n : ℕ) → is_taken w n ≡ false) → ((m : MsgName) → partial g m ≡ None) → ReceivesFor script (record { window = w; partials = g }) []
-unfolding has_number packet_of partial_of
+unfolding has_number some_packet partial_of
 nothing-came script w g window sizes none empty = record {
   window = window;
   sizes = sizes;

@@ -1,5 +1,5 @@
 pub mod ArrivalLaws
 pub mod FragmentLists
-pub mod HeldPackets
+pub mod HeldFragments
 pub mod LeastNumbers
 pub mod SenderLaws

@@ -4,14 +4,14 @@ use Rattle.std.specs.List.{AllByRecursion, IsDistinct}
 use Rattle.lapi_base.specs.declared.script.Script.{Script}
 use Rattle.lapi_base.specs.declared.message.MsgName.{MsgName}
 use Rattle.lapi_base.specs.declared.packet.Packet.{Packet}
-use Rattle.lapi_base.specs.declared.packet.Packet.TheVariants.{Data, Ack}
+use Rattle.lapi_base.specs.declared.packet.Packet.TheVariants.{Data}
 use Rattle.lapi_base.specs.declared.packet.DataPacket.{DataPacket}
 use Rattle.lapi_base.specs.Packet.Layout.{unit_of, window_of}
 use Rattle.lapi_base.specs.Record.Names.{name_eq}
 use Rattle.lapi_base.specs.Record.Operations.{numbers_below}
 use Rattle.lapi_base.specs.Record.Fragments.{fragments_in}
 use Rattle.lapi_base.specs.Record.Wires.{has_number}
-use Rattle.lapi_base.specs.Record.Arrived.{has_fragment, has_some, whole_by, payload_of, assembled, least_number, count_of, IsKnown}
+use Rattle.lapi_base.specs.Record.Arrived.{has_fragment, has_some, some_packet, whole_by, payload_of, assembled, least_number, count_of, IsKnown}
 use Rattle.lapi_window.specs.RecvWindow.{Receiving, is_taken}
 use Rattle.lapi_reassembly.specs.Partial.{Gathered, is_whole, message}
 use Rattle.lapi_reassembly.specs.Partials.{Gathering, partial, gathered}
@@ -25,12 +25,6 @@ use Rattle.lapi_link.specs.declared.arrival.Arrival.TheVariants.{Repeat, Part, W
 pub record ReceivingEnd : Type 0 where
   pub window : Receiving
   pub partials : Gathering
-
--- a packet of message m among these
-unfoldable pub packet_of : List Packet → MsgName → Option DataPacket
-packet_of [] m = None
-packet_of (Data p ∷ ps) m = cond (name_eq m p.name) (Some p) (packet_of ps m)
-packet_of (Ack from to base bits ∷ ps) m = packet_of ps m
 
 module _ (script : Script) where
   -- all fragments of a message with so many bytes are among these packets
@@ -51,7 +45,7 @@ module _ (script : Script) where
   partial_by ps m (Some p) = cond (is_complete ps m p.length) None (Some (gathered_by ps m p))
 
   unfoldable pub partial_of : List Packet → MsgName → Option Gathered
-  partial_of ps m = partial_by ps m (packet_of ps m)
+  partial_of ps m = partial_by ps m (some_packet ps m)
 
   -- The end is that of a link on which these packets were handed over, with numbers that are small enough for a least one that is missing.
   pub record ReceivesFor (s : ReceivingEnd) (ps : List Packet) : Type 0 where
@@ -63,7 +57,7 @@ module _ (script : Script) where
 
   -- some packet of the message is there, and not all
   abbrev pub IsPartOnly : List Packet → MsgName → Type 0
-  IsPartOnly ps m = (p : DataPacket) × (packet_of ps m ≡ Some p) × (is_complete ps m p.length ≡ false)
+  IsPartOnly ps m = (p : DataPacket) × (some_packet ps m ≡ Some p) × (is_complete ps m p.length ≡ false)
 
   -- A packet may come to these: its fragment is one of its message, and its head and length are those of the message's packets that came before, and its payload that of those with its fragment;
   pub record MayArrive (ps : List Packet) (p : DataPacket) : Type 0 where
