@@ -41,8 +41,8 @@ impl Receiver {
         requires unit { IsUnit unit }
         ensures { IfOk result (λ made. IsNewReceiver window unit made) }
     {
-        let partials = Partials::sized(alloc, window, unit)?;
-        let window = RecvWindow::sized(window);
+        let partials = Partials::new(alloc, window, unit)?;
+        let window = RecvWindow::new(window);
         Ok(Receiver { window, partials })
     }
 
@@ -60,8 +60,7 @@ impl Receiver {
     }
 
     /// The least number that was not taken, and which of the next ones were.
-    pub fn ack(&self) -> (u32, u32)
-        requires { (script : Script) × (ps : List Packet) × (window_of script ≤ 32) × ReceivesFor script self.now ps }
+    pub fn ack(&self) -> (u32, u64)
         ensures { (script : Script) (ps : List Packet) → ReceivesFor script self.now ps → (result.0 ≡ least_number ps) × (result.1 ≡ bits_of (window_of script) (λ i. has_number ps (least_number ps + i))) }
     {
         self.window.ack()

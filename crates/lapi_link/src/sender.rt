@@ -33,7 +33,7 @@ impl Sender {
         requires { (1 ≤ window) × (window ≤ 64) }
         ensures { IfOk result (IsNewSender window) }
     {
-        let window = SendWindow::sized(alloc, window)?;
+        let window = SendWindow::new(alloc, window)?;
         Ok(Sender {
             window,
             waiting: VecDeque::new(alloc),
@@ -91,9 +91,8 @@ impl Sender {
     }
 
     /// Notes what an acknowledgement covers.
-    pub fn acked(&mut self, base: u32, bits: u32)
-        requires sent { (n : ℕ) → is_covered base bits n ≡ true → n < sent_count self.old.window }
-        requires narrow { self.old.window.window ≤ 32 }
+    pub fn acked(&mut self, base: u32, bits: u64)
+        requires { (n : ℕ) → is_covered base bits n ≡ true → n < sent_count self.old.window }
         ensures { IsAcked self.old self.new base bits }
     {
         self.window.acked(base, bits);

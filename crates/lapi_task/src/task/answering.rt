@@ -32,7 +32,7 @@ impl Task {
             from: self.number,
             to: from,
             base,
-            bits,
+            bits: bits as u32,
         };
         let bytes = spelled(alloc, &packet)?;
         entries.push(WireEntry { to: from, bytes })
@@ -43,6 +43,6 @@ impl Task {
         requires { (x : ℕ) × (y : ℕ) × IsOnWire self.old from (Ack x y base bits) }
         ensures { (script : Script) (t k x y : ℕ) (r : Run) (out : Outcome) → IsSupported script → IsAt script t self.old r → from < script.tasks → slice_get (r.wire from t) k ≡ Some (Ack x y base bits) → HasEffect script t r (deliver script no_rules r from t k) self.new out out }
     {
-        self.senders[from as usize].acked(base, bits);
+        self.senders[from as usize].acked(base, bits as u64);
     }
 }

@@ -2,7 +2,7 @@ use Rattle.std.proofs.Common.{◌≡◌, ℕ, ◌+◌, ◌-◌, List, length, dr
 use Rattle.circular_buffer.specs.Buffer.{Buffer}
 use Rattle.lapi_window.specs.SendWindow.{Sending, sent_count, bytes_of}
 use Rattle.lapi_window.proofs.SendLaws.{acked-base, IsAcked, acked-all}
-use Rattle.lapi_window.proofs.send_window.SendWindow.acked_wide.Goals as goal
+use Rattle.lapi_window.proofs.send_window.SendWindow.acked.Goals as goal
 
 pub overflow_sub-sent : goal.overflow_sub-sent
 overflow_sub-sent c =
