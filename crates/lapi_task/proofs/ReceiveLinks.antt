@@ -72,7 +72,7 @@ module _ (script : Script) where
     waiting = λ i. h.waiting i ∙ sym (g.packets _);
   }
 
-  sends-grow : (r w : Run) (K : List Event) (x y : ℕ) (s : SendingEnd) (bytes : List ℕ) → Settled r w x y → Grows r.journal K x y bytes → SendsFor script s r x y → SendsFor script (appended s bytes) (told w K) x y
+  sends-grow : (r w : Run) (K : List Event) (x y : ℕ) (s : SendingEnd) (bytes : List ℕ) → Settled r w x y → Grows r.journal K x y bytes → SendsFor script s r x y → SendsFor script (appended s bytes None) (told w K) x y
   unfolding bytes_of
   sends-grow r w K x y s bytes m g h =
       let count = length (numbered script r.journal x y) in
@@ -247,16 +247,16 @@ module _ (script : Script) where
           let here : slice_get ends a ≡ Some s = found.1 in
           let bytes = λ (k : ℕ). written.packet (Data (note_packet t a k m c)) in
           let count : length (numbered script J t a) ≡ s.window.numbers = ap (λ (ps : List (MsgName × ℕ)). length ps) (numbered-land m r.journal t a) ∙ sym found.2.numbers.numbers in
-          let ends2 = slice_set ends a (appended s (bytes s.window.numbers)) in
+          let ends2 = slice_set ends a (appended s (bytes s.window.numbers) None) in
           let is2 : noted_at t a m c (slice_get ends a) ends ≡ ends2 = ap (λ o. noted_at t a m c o ends) here in
           let grown = grows-copy m put is c named J t a atomic own.0 own.1 in
           let whole : Grows r.journal K t a (bytes s.window.numbers) = subst (λ k. Grows r.journal K t a (bytes k)) count (grows-over J r.journal K t a (bytes (length (numbered script J t a))) (stays-land m r.journal t a landed) grown) in
           subst (λ xs. SenderAt script (told w K) t b (slice_get xs b)) (sym is2)
           (⊎_elim
-          (λ (same : b ≡ a). subst (λ y. SenderAt script (told w K) t y (slice_get ends2 y)) (sym same) (subst (SenderAt script (told w K) t a) (sym (get-set ends a s (appended s (bytes s.window.numbers)) here)) (sends-grow r w K t a s (bytes s.window.numbers) (moves a) whole found.2)))
+          (λ (same : b ≡ a). subst (λ y. SenderAt script (told w K) t y (slice_get ends2 y)) (sym same) (subst (SenderAt script (told w K) t a) (sym (get-set ends a s (appended s (bytes s.window.numbers) None) here)) (sends-grow r w K t a s (bytes s.window.numbers) (moves a) whole found.2)))
           (λ (apart : b ≡ a → ⊥).
           let other : (sender script n == t && receiver script n == b) ≡ false = and_right (sender script n == t) (receiver script n == b) (ne_eqb (receiver script n) b (λ e. apart (sym e ∙ own.1))) in
-          subst (SenderAt script (told w K) t b) (sym (get-set-other ends a b (appended s (bytes s.window.numbers)) apart)) (sender-stay r w K t b (slice_get ends b) (moves b) (stays-then r.journal J K t b (stays-land m r.journal t b landed) (stays-copy n J t b atomic other)) (all b l)))
+          subst (SenderAt script (told w K) t b) (sym (get-set-other ends a b (appended s (bytes s.window.numbers) None) apart)) (sender-stay r w K t b (slice_get ends b) (moves b) (stays-then r.journal J K t b (stays-land m r.journal t b landed) (stays-copy n J t b atomic other)) (all b l)))
           (cases_eq b a))
 
       ends-put : (known whole : Bool) (cmpl : Option ℕ) (bytes : List ℕ) → put.cmpl ≡ cmpl → let arrival = come known whole m (heads.Put put.to put.tgt cmpl) bytes in let K = followed r.journal (events_of arrival) in Atomic script no_rules K → Ends K (ends_after t a arrival ends)

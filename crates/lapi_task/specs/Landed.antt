@@ -30,7 +30,7 @@ note_packet t a n m c = record { from = t; to = a; seq = n; name = message m.ori
 -- the sending ends of task t with the notice to task a, if a counter is named
 abbrev pub noted_at : (t a : ℕ) → MsgName → (counter : ℕ) → Option SendingEnd → List SendingEnd → List SendingEnd
 noted_at t a m c None ends = ends
-noted_at t a m c (Some s) ends = slice_set ends a (appended s (written.packet (Data (note_packet t a s.window.numbers m c))))
+noted_at t a m c (Some s) ends = slice_set ends a (appended s (written.packet (Data (note_packet t a s.window.numbers m c))) None)
 
 abbrev pub with_note : (t a : ℕ) → MsgName → Option ℕ → List SendingEnd → List SendingEnd
 with_note t a m None ends = ends

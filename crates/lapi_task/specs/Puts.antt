@@ -34,9 +34,9 @@ put_bytes unit put t i n bytes j = written.packet (Data (put_packet put t i (n +
 abbrev pub put_packets : (unit : ℕ) → Put → (t i n : ℕ) → (bytes : List ℕ) → List (List ℕ)
 put_packets unit put t i n bytes = map (put_bytes unit put t i n bytes) (numbers_below (fragments_in unit put.len))
 
--- an end with these packets more that wait
+-- an end with these packets more that wait, without a tag
 abbrev pub extended : SendingEnd → List (List ℕ) → SendingEnd
-extended s packets = record s { window = record s.window { numbers = s.window.numbers + length packets }; waiting = s.waiting ++ packets }
+extended s packets = record s { window = record s.window { numbers = s.window.numbers + length packets }; waiting = s.waiting ++ packets; tags = s.tags ++ map (λ _. None) packets }
 
 -- an end with the packets of a put more that wait
 abbrev pub with_put : (unit : ℕ) → Put → (t i : ℕ) → (bytes : List ℕ) → SendingEnd → SendingEnd

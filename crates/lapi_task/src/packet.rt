@@ -1,5 +1,5 @@
 //! Packets that leave the task.
-ghost use Rattle.std.specs.Prelude.{◌≡◌, ◌*◌, ◌≤◌, length, IfOk, OnOk};
+ghost use Rattle.std.specs.Prelude.{◌≡◌, ◌*◌, ◌≤◌, length, None, IfOk, OnOk};
 ghost use Rattle.lapi_base.specs.Packet.Spelling.{HasSpelling};
 ghost use Rattle.lapi_base.specs.Packet.PacketBytes as written;
 ghost use Rattle.lapi_reassembly.specs.Partial.{IsUnit};
@@ -26,10 +26,10 @@ pub fn spelled(alloc: Global, packet: &Packet) -> Result<Bytes, Memory>
 /// Gives the next number of a link to a packet, which is sent by a poll.
 pub fn append(alloc: Global, sender: &mut Sender, packet: &Packet) -> Result<(), Memory>
     requires { HasSpelling packet.now }
-    ensures { OnOk result (sender.new ≡ appended sender.old (written.packet packet.now)) }
+    ensures { OnOk result (sender.new ≡ appended sender.old (written.packet packet.now) None) }
 {
     let bytes = spelled(alloc, packet)?;
-    sender.append(bytes)
+    sender.append(bytes, None)
 }
 
 /// Gives numbers to all fragments of a put, which is statement `i` of task `t`; each but the last has `unit` bytes.

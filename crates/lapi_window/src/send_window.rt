@@ -61,6 +61,14 @@ impl SendWindow {
         self.numbers
     }
 
+    /// The least number that is not acknowledged.
+    pub fn base(&self) -> u32
+        ensures least { result ≡ base_of self.now }
+        ensures base { result ≡ self.now.acked.base }
+    {
+        self.acked.least_absent()
+    }
+
     /// How many more numbers may be sent now.
     pub fn room(&self) -> u32
         ensures { result ≡ min (self.now.numbers - sent_count self.now) (base_of self.now + self.now.window - sent_count self.now) }
@@ -101,6 +109,7 @@ impl SendWindow {
         ensures acked { (n : ℕ) → is_acked self.new n ≡ (is_acked self.old n || is_covered base bits n) }
         ensures bytes { (n : ℕ) → is_acked self.new n ≡ false → bytes_of self.new n ≡ bytes_of self.old n }
         ensures sent { sent_count self.new ≡ sent_count self.old }
+        ensures base { self.old.acked.base ≤ self.new.acked.base }
         ensures same { (self.new.numbers ≡ self.old.numbers) × (self.new.window ≡ self.old.window) }
     {
         let sent = self.sent_end();
@@ -112,7 +121,7 @@ impl SendWindow {
     /// How many numbers were sent and are not acknowledged.
     pub fn unacked_len(&self) -> usize
         ensures count { result ≡ length (unacked self.now) }
-        ensures bounded { result ≤ self.now.window }
+        ensures bounded { (result ≤ self.now.window) × (self.now.window ≤ 64) }
     {
         self.acked.absent_count(self.sent_end()) as usize
     }
@@ -122,6 +131,7 @@ impl SendWindow {
         requires { i < length (unacked self.now) }
         ensures number { slice_get (unacked self.now) i ≡ Some result.0 }
         ensures bytes { bytes_of self.now result.0 ≡ Some result.1.now }
+        ensures place { self.now.acked.base ≤ result.0 }
     {
         let number = self.acked.absent_at(i, self.sent_end());
         let place = (number - self.acked.least_absent()) as usize;

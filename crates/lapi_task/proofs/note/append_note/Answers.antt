@@ -1,4 +1,4 @@
-use Rattle.std.proofs.Common.{◌≡◌, ℕ, get_or, Some, refl, sym, ap, ◌∙◌, subst, arith}
+use Rattle.std.proofs.Common.{◌≡◌, ℕ, List, get_or, Some, None, refl, sym, ap, ◌∙◌, subst, arith}
 use Rattle.std.specs.Prelude.{slice_get, slice_set}
 use Rattle.std.proofs.lemmas.Option.{slice_get_read}
 use Rattle.lapi_base.specs.declared.packet.DataPacket.{DataPacket}
@@ -23,6 +23,6 @@ returns c =
     let number : c.numbers-seq.result ≡ end.window.numbers = cc in
     let bytes : written.packet (Data c.packet_of.result) ≡ note end.window.numbers = ap (λ (d : DataPacket). written.packet (Data d)) c.packet_of.ensures ∙ ap note number in
     on-ok _ _ c.append.result
-    (λ (e : c.append.new.sender ≡ appended (get_or ends a end) (written.packet (Data c.packet_of.result))).
-    ap (slice_set ends a) (e ∙ ap (λ (s : SendingEnd). appended s (written.packet (Data c.packet_of.result))) (sym c.index-senders-to.is) ∙ ap (appended end) bytes) ∙ sym (ap (λ o. noted_at c.args.from a c.args.name c.args.cmpl o ends) here))
+    (λ (e : c.append.new.sender ≡ appended (get_or ends a end) (written.packet (Data c.packet_of.result)) None).
+    ap (slice_set ends a) (e ∙ ap (λ (s : SendingEnd). appended s (written.packet (Data c.packet_of.result)) None) (sym c.index-senders-to.is) ∙ ap (λ (bs : List ℕ). appended end bs None) bytes) ∙ sym (ap (λ o. noted_at c.args.from a c.args.name c.args.cmpl o ends) here))
     c.append.ensures

@@ -1,4 +1,4 @@
-use Rattle.std.proofs.Common.{◌≡◌, ℕ, ◌+◌, ◌<◌, map, max, sym, ap, ◌∙◌, subst, arith}
+use Rattle.std.proofs.Common.{◌≡◌, ℕ, ◌+◌, ◌<◌, None, map, max, sym, ap, ◌∙◌, subst, arith}
 use Rattle.lapi_base.specs.declared.packet.DataPacket.{DataPacket}
 use Rattle.lapi_base.specs.declared.packet.Packet.TheVariants.{Data}
 use Rattle.lapi_base.specs.Record.Fragments.{fragments_in, fragment_bytes}
@@ -29,7 +29,7 @@ loop-fragment-preserved c =
     let seq : c.numbers-seq.result ≡ s.window.numbers + j = c.numbers-seq.ensures ∙ ap (λ (w : _). w.numbers) c.window.ensures ∙ ap (λ (x : SendingEnd). x.window.numbers) c.loop-fragment.invariant ∙ extended-count s f j in
     let packet : c.packet.result ≡ put_packet put t i (s.window.numbers + j) j (fragment_bytes c.args.unit j bytes) = c.packet.ensures ∙ (λ k. put_packet put t i (seq k) j (c.payload_of-payload.ensures k)) in
     c.in_ok-append.ensures
-    ∙ (λ k. appended (c.loop-fragment.invariant k) (written.packet (Data (packet k))))
+    ∙ (λ k. appended (c.loop-fragment.invariant k) (written.packet (Data (packet k))) None)
     ∙ extended-more s f j
 
 pub loop-fragment-init : goal.loop-fragment-init

@@ -9,4 +9,4 @@ acked-requires c =
     covers-sent w.script w.run c.args.from w.task w.place x y c.args.base c.args.bits c.args.self.now w.at w.from_known w.entry c.index_mut.result.now c.index_mut.ensures.value
 
 pub returns : goal.returns
-returns c = λ script t k x y r out performed at known entry. acked-does script r c.args.from t k x y c.args.base c.args.bits c.args.self.now at known entry c.index_mut.result.now c.index_mut.ensures.value c.acked.new.self c.acked.ensures out
+returns c = λ script t k x y r out performed at known entry. acked-does script r c.args.from t k x y c.args.base c.args.bits c.args.self.now at known entry c.index_mut.result.now c.index_mut.ensures.value c.acked.new.self c.acked.ensures.acked out

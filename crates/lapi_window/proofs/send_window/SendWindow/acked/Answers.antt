@@ -39,3 +39,9 @@ returns-clause-bytes c = λ n e. (acked c).bytes n e ∙ ap (λ (s : Sending). b
 
 pub returns-clause-sent : goal.returns-clause-sent
 returns-clause-sent c = (acked c).sent ∙ ap sent_count c.self.view_is
+
+pub returns-clause-base : goal.returns-clause-base
+returns-clause-base c =
+    let grows = (acked c).base in
+    let base = ap (λ (s : Sending). s.acked.base) c.self.view_is in
+    omega (arith, grows, base)
