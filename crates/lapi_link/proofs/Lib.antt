@@ -3,3 +3,4 @@ pub mod FragmentLists
 pub mod HeldFragments
 pub mod LeastNumbers
 pub mod SenderLaws
+pub mod Unanswered

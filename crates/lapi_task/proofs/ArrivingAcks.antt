@@ -1,5 +1,5 @@
 -- What an acknowledgement that comes in tells the sending end of the link.
-use Rattle.std.proofs.Common.{◌≡◌, ℕ, ◌+◌, ◌<◌, ◌≤◌, ◌==◌, true, false, cond, ◌&&◌, ◌||◌, List, [], ◌∷◌, length, map, get_or, Option, Some, None, refl, sym, ap, ◌∙◌, subst, arith}
+use Rattle.std.proofs.Common.{◌≡◌, ℕ, ◌+◌, ◌<◌, ◌==◌, true, false, cond, ◌&&◌, ◌||◌, List, [], ◌∷◌, length, map, get_or, Option, Some, None, refl, sym, ap, ◌∙◌, subst}
 use Rattle.std.specs.Prelude.{slice_get, slice_set, nat_lt}
 use Rattle.std.specs.Vec.{with_item}
 use Rattle.std.proofs.Math.Bool.{or_comm}
@@ -16,13 +16,11 @@ use Rattle.lapi_base.specs.Record.Arrived.{has_fragment, some_packet, payload_of
 use Rattle.lapi_base.specs.Record.Wires.{Run, has_number, has_ack}
 use Rattle.lapi_base.specs.Record.Acts.{with_handed, hand_over, deliver_entry, deliver, reply_with, followed}
 use Rattle.lapi_base.specs.Record.WorldView.{no_rules}
-use Rattle.lapi_base.specs.Record.Valid.{ValidScript}
 use Rattle.lapi_base.specs.Packet.PacketBytes as written
 use Rattle.lapi_base.proofs.ListLaws.{at-place, get-set, get-set-other}
 use Rattle.lapi_base.proofs.TestLaws.{eqb-refl}
 use Rattle.lapi_link.specs.Receiver.{ReceivingEnd, partial_by, partial_of, ReceivesFor}
 use Rattle.lapi_link.specs.Sender.{SendingEnd, IsAcked}
-use Rattle.lapi_parts.proofs.FirstLayout.{first-window}
 use Rattle.lapi_parts.proofs.Receivable.{acks-cover-sent}
 use Rattle.lapi_window.specs.NumberSet.{is_covered}
 use Rattle.lapi_window.specs.SendWindow.{sent_count}
@@ -52,7 +50,7 @@ module _ (script : Script) (ps : List Packet) (x y base bits : ℕ) where
 
   receiver-ack : (o : Option ReceivingEnd) → ReceiverAt script ps o → ReceiverAt script (Ack x y base bits ∷ ps) o
   receiver-ack None h = absurd h
-  receiver-ack (Some s) h = receives-ack s h
+  receiver-ack (Some s) h = (receives-ack s h.0, h.1)
 
   -- but of what it covers.
   acks-more : (n : ℕ) → has_ack (Ack x y base bits ∷ ps) n ≡ (is_covered base bits n || has_ack ps n)

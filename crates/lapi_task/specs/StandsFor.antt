@@ -13,7 +13,7 @@ use Rattle.lapi_base.specs.Record.Wires.{Run}
 use Rattle.lapi_base.specs.Record.Refusals.{next, refusals}
 use Rattle.lapi_base.specs.Record.WorldView.{no_rules}
 use Rattle.lapi_base.specs.Record.Values.{memory_bytes}
-use Rattle.lapi_link.specs.Receiver.{ReceivingEnd, ReceivesFor}
+use Rattle.lapi_link.specs.Receiver.{ReceivingEnd, ReceivesFor, IsUnanswered}
 use Rattle.lapi_link.specs.Sender.{SendingEnd}
 use Rattle.lapi_task.specs.declared.task.Task.{Task}
 use Rattle.lapi_task.specs.Sends.{SendsFor}
@@ -28,7 +28,7 @@ SenderAt script r a b (Some s) = SendsFor script s r a b
 
 abbrev pub ReceiverAt : Script → List Packet → Option ReceivingEnd → Type 0
 ReceiverAt script ps None = ⊥
-ReceiverAt script ps (Some s) = ReceivesFor script s ps
+ReceiverAt script ps (Some s) = ReceivesFor script s ps × IsUnanswered s
 
 -- what the task did and holds is what the record says of task t
 pub record HoldsFor (script : Script) (t : ℕ) (task : Task) (J : List Event) : Type 0 where

@@ -10,10 +10,10 @@ ghost use Rattle.lapi_base.specs.Record.Acts.{deliver};
 ghost use Rattle.lapi_base.specs.Record.WorldView.{no_rules};
 ghost use Rattle.lapi_base.specs.Packet.Spelling.{Spells, HasSpelling, decoded};
 ghost use Rattle.lapi_link.specs.declared.arrival.Arrival.TheVariants as arrivals;
-ghost use Rattle.lapi_link.specs.Receiver.{ReceivingEnd, ReceivesFor, MayArrive, arrival_of};
+ghost use Rattle.lapi_link.specs.Receiver.{ReceivingEnd, ReceivesFor, MayArrive, answer_of, arrival_of};
 ghost use Rattle.lapi_task.specs.Supported.{IsSupported};
 ghost use Rattle.lapi_task.specs.HasEffect.{IsAt, HasEffect, IsOnWire, received_as};
-ghost use Rattle.lapi_task.specs.Landed.{ArrivalMayLand, HeadMayLand, HasArrived, note_packet, with_note, MayTake, HasCome};
+ghost use Rattle.lapi_task.specs.Landed.{ArrivalMayLand, HeadMayLand, HasArrived, landed, note_packet, with_note, MayTake, HasCome};
 
 use crate::counting::announce;
 use crate::note::{append_note, note_of};
@@ -78,12 +78,14 @@ impl Task {
         events: &mut Events,
     ) -> Result<(), Memory>
         requires link { from < length self.old.senders.items }
-        requires allowed { ArrivalMayLand self.old.number from arrival.now self.old.memory self.old.counters }
-        ensures { OnOk result (HasArrived from arrival.now self.old self.new events.old events.new) }
+        requires allowed { ArrivalMayLand self.old.number from (landed arrival.now) self.old.memory self.old.counters }
+        ensures { OnOk result (HasArrived from (landed arrival.now) self.old self.new events.old events.new) }
     {
         match arrival {
-            Arrival::Whole(message) => self.land(alloc, from, message, events),
-            _ => Ok(()),
+            Arrival::Whole(message) | Arrival::FirstWhole(message) => {
+                self.land(alloc, from, message, events)
+            }
+            Arrival::Repeat | Arrival::First | Arrival::More => Ok(()),
         }
     }
 
@@ -97,7 +99,7 @@ impl Task {
     ) -> Result<(), Memory>
         requires link { from < length self.old.senders.items }
         requires allowed { HeadMayLand self.old.number from message.now.name message.now.head message.now.bytes self.old.memory self.old.counters }
-        ensures { OnOk result (HasArrived from (arrivals.Whole message.now) self.old self.new events.old events.new) }
+        ensures { OnOk result (HasArrived from (landed (arrivals.Whole message.now)) self.old self.new events.old events.new) }
     {
         events.push(Event::Land(message.name))?;
         match &message.head {
@@ -143,7 +145,7 @@ fn take(
 ) -> Result<Arrival, Memory>
     requires { MayTake receivers.old from packet.now }
     ensures taken { OnOk result ((end : ReceivingEnd) → slice_get receivers.old from ≡ Some end → HasCome receivers.old receivers.new from packet.now end) }
-    ensures arrival { IfOk result (λ arrival. (end : ReceivingEnd) (script : Script) (packets : List ThePacket) → slice_get receivers.old from ≡ Some end → ReceivesFor script end packets → MayArrive script packets packet.now → arrival ≡ arrival_of script packets packet.now) }
+    ensures arrival { IfOk result (λ arrival. (end : ReceivingEnd) (script : Script) (packets : List ThePacket) → slice_get receivers.old from ≡ Some end → ReceivesFor script end packets → MayArrive script packets packet.now → arrival ≡ arrival_of script packets packet.now (answer_of end packet.now.name)) }
 {
     receivers[from as usize].arrive(alloc, packet)
 }
