@@ -1,4 +1,5 @@
 ghost use Rattle.std.specs.Prelude.{◌≤◌};
+ghost use Rattle.lapi_base.specs.declared.layout.TheConstants.{LONGEST_INPUT};
 
 use crate::directive::{Case, Directive};
 use crate::input::Input;
