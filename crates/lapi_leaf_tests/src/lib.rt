@@ -9,6 +9,8 @@ mod counters;
 #[cfg(test)]
 mod handlers;
 #[cfg(test)]
+mod link;
+#[cfg(test)]
 mod lists;
 #[cfg(test)]
 mod memory;
