@@ -1,10 +1,8 @@
 ghost use Rattle.std.specs.Prelude.{◌≡◌, ◌<◌, ◌≤◌, ◌+◌, [], ◌∷◌, ◌++◌, length};
 
+use crate::layout::FRAME_ROOM;
 use arrayvec::ArrayVec;
 use std::marker::Model;
-
-/// The most bytes that a frame has room for.
-pub const FRAME_ROOM: usize = 640;
 
 /// Room for the bytes of one packet.
 #[derive(Clone, Debug, Drop, Eq, PartialEq)]
@@ -14,7 +12,7 @@ pub struct Frame {
 
 impl Model for Frame {
     ghost use Rattle.std.specs.Prelude.{List, ℕ, length, ◌≤◌};
-    ghost use Rattle.lapi_base.specs.declared.frame.TheConstants.{FRAME_ROOM};
+    ghost use Rattle.lapi_base.specs.declared.layout.TheConstants.{FRAME_ROOM};
 
     ghost Value = { List ℕ };
 

@@ -5,9 +5,6 @@ use crate::schedule::Schedule;
 use crate::script::Script;
 use std::alloc::AllocError;
 
-/// The most bytes of an input text.
-pub const LONGEST_INPUT: usize = 4_194_304;
-
 /// What an input text says.
 #[derive(Debug, Drop)]
 pub struct Input {

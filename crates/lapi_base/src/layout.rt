@@ -1,9 +1,69 @@
-//! What a script's layout of packets sets.
+//! What a script's layout of packets sets, and the constants of packets and inputs.
 
 ghost use Rattle.std.specs.Prelude.{◌≡◌, ◌⊎◌, ◌≤◌};
-ghost use Rattle.lapi_base.specs.Packet.Layout.{layout_of, most_lines, most_injected, unit_of, window_of, longest_of, longest_active_of, may_answer};
+ghost use Rattle.lapi_base.specs.Packet.Layout.{layout_of, unit, longest, most_lines, most_injected, unit_of, window_of, longest_of, longest_active_of, may_answer};
 
 use crate::script::Script;
+use crate::sizes::Sizes;
+
+/// The bytes of each fragment but the last, in the first layout.
+pub const FIRST_UNIT: u32 = 256;
+
+const SECOND_UNIT: u32 = 1_024;
+
+/// The bytes of the longest message that isn't an active message, in the first layout.
+pub const FIRST_LONGEST: u32 = 16_384;
+
+const SECOND_LONGEST: u32 = 65_536;
+
+/// The bytes of the longest active message, in each layout.
+pub const LONGEST_ACTIVE: u32 = 16_384;
+
+const FIRST_WINDOW: u32 = 32;
+
+const SECOND_WINDOW: u32 = 64;
+
+/// The packets of the widest window.
+pub const WIDEST_WINDOW: usize = 64;
+
+/// The most bytes that a payload has room for.
+pub const PAYLOAD_ROOM: usize = 256;
+
+/// The most bytes that a frame has room for.
+pub const FRAME_ROOM: usize = 640;
+
+/// The most bytes that are shown.
+pub const MOST_SHOWN: usize = 640;
+
+/// The most bytes of an input text.
+pub const LONGEST_INPUT: usize = 4_194_304;
+
+impl Sizes {
+    /// The bytes of each fragment but the last.
+    #[tactic(auto, using(crate::proofs::LayoutLaws::unit_by))]
+    pub fn unit(self) -> u32
+        ensures unit { result ≡ unit (layout_of self.layout) }
+        ensures one { (result ≡ 256) ⊎ (result ≡ 1024) }
+    {
+        if self.layout == 2 {
+            SECOND_UNIT
+        } else {
+            FIRST_UNIT
+        }
+    }
+
+    /// The bytes of the longest message that isn't an active message.
+    #[tactic(auto, using(crate::proofs::LayoutLaws::longest_by))]
+    pub fn longest(self) -> u32
+        ensures { result ≡ longest (layout_of self.layout) }
+    {
+        if self.layout == 2 {
+            SECOND_LONGEST
+        } else {
+            FIRST_LONGEST
+        }
+    }
+}
 
 impl Script {
     /// The bytes of each fragment but the last.
@@ -21,7 +81,11 @@ impl Script {
         ensures window { result ≡ window_of self.now }
         ensures bounded { (1 ≤ result) × (result ≤ 64) }
     {
-        if self.layout == 2 { 64 } else { 32 }
+        if self.layout == 2 {
+            SECOND_WINDOW
+        } else {
+            FIRST_WINDOW
+        }
     }
 
     /// The bytes of the longest message that isn't an active message.
@@ -37,7 +101,7 @@ impl Script {
     pub fn longest_active(&self) -> u32
         ensures { result ≡ longest_active_of self.now }
     {
-        16_384
+        LONGEST_ACTIVE
     }
 
     /// Whether a completion handler may answer the origin.

@@ -36,15 +36,19 @@ pub use address::Addr;
 pub use bytes::Bytes;
 pub use command::{Command, View};
 pub use event::{Event, Events};
-pub use frame::{FRAME_ROOM, Frame};
+pub use frame::Frame;
 pub use handler::{Effect, HeaderIn, HeaderOut};
 pub use head::{Head, NoteOp};
-pub use input::{Input, LONGEST_INPUT, LineError, ReadFault, Which};
+pub use input::{Input, LineError, ReadFault, Which};
+pub use layout::{
+    FIRST_LONGEST, FIRST_UNIT, FRAME_ROOM, LONGEST_ACTIVE, LONGEST_INPUT, MOST_SHOWN, PAYLOAD_ROOM,
+    WIDEST_WINDOW,
+};
 pub use memory::Memory;
 pub use message::{Leg, MsgName};
 pub use numbers::Numbers;
 pub use packet::{DataPacket, Packet};
-pub use payload::{PAYLOAD_ROOM, Payload};
+pub use payload::Payload;
 pub use piece::{Piece, PieceList};
 pub use refusal::Refusal;
 pub use reply::{Bad, Reason, Replies, Reply};

@@ -1,10 +1,8 @@
 ghost use Rattle.std.specs.Prelude.{◌≡◌, ◌<◌, ◌≤◌, ◌+◌, [], ◌∷◌, ◌++◌, length};
 
+use crate::layout::PAYLOAD_ROOM;
 use arrayvec::ArrayVec;
 use std::marker::Model;
-
-/// The most bytes that a payload has room for.
-pub const PAYLOAD_ROOM: usize = 256;
 
 /// The bytes of one fragment.
 #[derive(Clone, Debug, Drop, Eq, PartialEq)]
@@ -14,7 +12,7 @@ pub struct Payload {
 
 impl Model for Payload {
     ghost use Rattle.std.specs.Prelude.{List, ℕ, length, ◌≤◌};
-    ghost use Rattle.lapi_base.specs.declared.payload.TheConstants.{PAYLOAD_ROOM};
+    ghost use Rattle.lapi_base.specs.declared.layout.TheConstants.{PAYLOAD_ROOM};
 
     ghost Value = { List ℕ };
 

@@ -1,5 +1,5 @@
-ghost use Rattle.std.specs.Prelude.{◌≡◌, ◌⊎◌};
-ghost use Rattle.lapi_base.specs.Packet.Layout.{layout_of, unit, longest, sizes_of};
+ghost use Rattle.std.specs.Prelude.{◌≡◌};
+ghost use Rattle.lapi_base.specs.Packet.Layout.{sizes_of};
 
 use crate::script::Script;
 
@@ -16,25 +16,6 @@ pub struct Sizes {
     pub counters: u32,
     /// How many workers run completion handlers at each task.
     pub workers: u32,
-}
-
-impl Sizes {
-    /// The bytes of each fragment but the last.
-    #[tactic(auto, using(crate::proofs::LayoutLaws::unit_by))]
-    pub fn unit(self) -> u32
-        ensures unit { result ≡ unit (layout_of self.layout) }
-        ensures one { (result ≡ 256) ⊎ (result ≡ 1024) }
-    {
-        if self.layout == 2 { 1_024 } else { 256 }
-    }
-
-    /// The bytes of the longest message that isn't an active message.
-    #[tactic(auto, using(crate::proofs::LayoutLaws::longest_by))]
-    pub fn longest(self) -> u32
-        ensures { result ≡ longest (layout_of self.layout) }
-    {
-        if self.layout == 2 { 65_536 } else { 16_384 }
-    }
 }
 
 impl Script {

@@ -8,7 +8,8 @@ use crate::finished::Finished;
 use crate::header_fn::HeaderFn;
 use crate::job::Job;
 use lapi_base::{
-    CompletionRule, CompletionRules, HeaderIn, HeaderOut, HeaderRule, HeaderRules, Memory, Rules,
+    CompletionRule, CompletionRules, HeaderIn, HeaderOut, HeaderRule, HeaderRules, LONGEST_ACTIVE,
+    Memory, Rules,
 };
 use std::alloc::Global;
 
@@ -119,7 +120,7 @@ impl Handlers {
     /// Calls the job's completion handler, once.
     pub fn complete(&self, job: Job) -> Finished
         requires completion { job.completion < length (rules_of self.now).completions }
-        requires buffer { length job.buffer ≤ 16384 }
+        requires buffer { length job.buffer ≤ LONGEST_ACTIVE }
         ensures effect { result.effect ≡ completion_answer (completion_rule (rules_of self.now) job.completion) job.user job.buffer }
         ensures message { result.name ≡ job.name }
         ensures place { (result.task ≡ job.task) × (result.worker ≡ job.worker) }

@@ -12,6 +12,7 @@ mod counters;
 mod handlers;
 #[cfg(test)]
 mod jobs;
+mod link;
 #[cfg(test)]
 mod lists;
 #[cfg(test)]

@@ -14,12 +14,12 @@ const TAKEN: [(u32, Took, u32, u64); 6] = [
 
 #[test]
 fn an_acknowledgement_tells_what_was_taken(rt: HostRuntime) {
-    let mut window = RecvWindow::sized(64);
+    let mut window = RecvWindow::new(64);
     for (seq, took, base, bits) in TAKEN {
         assert_eq!(rt; window.take(seq), took, "{seq}");
-        assert_eq!(rt; window.wide_ack(), (base, bits), "{seq}");
+        assert_eq!(rt; window.ack(), (base, bits), "{seq}");
     }
-    let mut window = RecvWindow::new();
+    let mut window = RecvWindow::new(32);
     assert_eq!(rt; window.take(32), Took::Beyond);
     assert_eq!(rt; window.take(31), Took::Fresh);
     assert_eq!(rt; window.ack(), (0, 0x8000_0000));
@@ -27,7 +27,7 @@ fn an_acknowledgement_tells_what_was_taken(rt: HostRuntime) {
 
 #[test]
 fn a_window_of_two_lends_two_packets(rt: HostRuntime) -> Result<(), Fail> {
-    let mut window = SendWindow::sized(rt.alloc(), 2)?;
+    let mut window = SendWindow::new(rt.alloc(), 2)?;
     window.append(3);
     for number in 0..3u8 {
         let next = window.next();
@@ -47,6 +47,6 @@ fn a_window_of_two_lends_two_packets(rt: HostRuntime) -> Result<(), Fail> {
         assert_eq!(rt; (number, frame.as_slice()), (1, [1].as_slice()));
     }
     assert!(rt; window.all_acked(0, 0) && !window.all_acked(0, 1));
-    assert_eq!(rt; SendWindow::new(rt.alloc())?.next(), None);
+    assert_eq!(rt; SendWindow::new(rt.alloc(), 64)?.next(), None);
     Ok(())
 }

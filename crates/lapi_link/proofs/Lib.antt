@@ -1,5 +1,6 @@
 pub mod ArrivalLaws
 pub mod FragmentLists
-pub mod HeldPackets
+pub mod HeldFragments
 pub mod LeastNumbers
 pub mod SenderLaws
+pub mod Unanswered

@@ -1,13 +1,18 @@
 -- Laws of what the sending end of a link stands for.
-use Rattle.std.proofs.Common.{◌≡◌, ℕ, ◌+◌, List, [], ◌∷◌, ◌++◌, take, drop, Option, Some, slice_get, sym, ap, ◌∙◌, append_assoc}
-use Rattle.std.specs.List.{filter_map, cons_option}
+use Rattle.std.proofs.Common.{◌≡◌, ℕ, ◌+◌, ◌-◌, ◌<◌, ◌≤◌, nat_lt, true, false, not, ◌&&◌, List, [], ◌∷◌, ◌++◌, take, drop, Option, Some, None, slice_get, refl, sym, ap, ◌∙◌, ⊎_elim, arith, append_assoc}
+use Rattle.std.specs.Prelude.{slice_index_or}
+use Rattle.std.specs.List.{AllByRecursion, filter_map, cons_option}
+use Rattle.std.proofs.lemmas.Bool.{cases_lt, both_ways, and_parts, or_left, not-true, cond-true, cond-false, false_from_ne_true, lt-ltb, le-ltb}
 use Rattle.std.proofs.Math.Seq.{take-add}
-use Rattle.std.proofs.lemmas.List.{drop-drop, map-append, take_more}
+use Rattle.std.proofs.lemmas.List.{drop-drop, map-append, take_more, get_or-drop}
 use Rattle.std.proofs.lemmas.List.Elements.{filter_map-append}
 use Rattle.std.proofs.lemmas.Option.{slice_get_within, get_or_from_slice_get}
 use Rattle.lapi_base.specs.declared.wire.WireEntry.{WireEntry}
-use Rattle.lapi_window.specs.SendWindow.{Sending, bytes_of, unacked}
-use Rattle.lapi_link.specs.Sender.{SendingEnd, sent, entries_to}
+use Rattle.lapi_base.proofs.BelowLaws.{below-all}
+use Rattle.lapi_base.proofs.ListLaws.{all-weaker}
+use Rattle.lapi_window.specs.NumberSet.{Members, flag_at, is_in, is_covered}
+use Rattle.lapi_window.specs.SendWindow.{Sending, is_sent, is_acked, bytes_of, unacked}
+use Rattle.lapi_link.specs.Sender.{SendingEnd, sent, entries_to, tag_of, covered_tag, newly_acked}
 
 -- `send`
 pub sent_one_more : (s : SendingEnd) (i : ℕ) → sent (sent s i) 1 ≡ sent s (i + 1)
@@ -28,10 +33,15 @@ entries_one_more entries to i waiting entry e =
 abbrev pub kept_among : Sending → List ℕ → List (List ℕ)
 kept_among s numbers = filter_map (bytes_of s) numbers
 
+-- what f gives of one number more
+pub filter_map_more : {Y : Type 0} (f : ℕ → Option Y) (numbers : List ℕ) (i n : ℕ) → slice_get numbers i ≡ Some n → filter_map f (take (i + 1) numbers) ≡ filter_map f (take i numbers) ++ cons_option (f n) []
+filter_map_more f numbers i n at =
+    ap (filter_map f) (take_more numbers i n (slice_get_within numbers i n at) ∙ ap (λ k. take i numbers ++ k ∷ []) (get_or_from_slice_get numbers i n n at))
+    ∙ filter_map-append f (take i numbers) (n ∷ [])
+
 pub kept_one_more : (s : Sending) (numbers : List ℕ) (i n : ℕ) (bytes : List ℕ) → slice_get numbers i ≡ Some n → bytes_of s n ≡ Some bytes → kept_among s (take (i + 1) numbers) ≡ kept_among s (take i numbers) ++ bytes ∷ []
 kept_one_more s numbers i n bytes at there =
-    ap (kept_among s) (take_more numbers i n (slice_get_within numbers i n at) ∙ ap (λ k. take i numbers ++ k ∷ []) (get_or_from_slice_get numbers i n n at))
-    ∙ filter_map-append (bytes_of s) (take i numbers) (n ∷ [])
+    filter_map_more (bytes_of s) numbers i n at
     ∙ ap (λ (o : Option (List ℕ)). kept_among s (take i numbers) ++ cons_option o []) there
 
 pub resent_one_more : (entries : List WireEntry) (to i n : ℕ) (s : Sending) (bytes : List ℕ) → slice_get (unacked s) i ≡ Some n → bytes_of s n ≡ Some bytes → (entries ++ entries_to to (kept_among s (take i (unacked s)))) ++ record { to = to; bytes = bytes } ∷ [] ≡ entries ++ entries_to to (kept_among s (take (i + 1) (unacked s)))
@@ -39,3 +49,49 @@ resent_one_more entries to i n s bytes at there =
     append_assoc entries (entries_to to (kept_among s (take i (unacked s)))) (entries_to to (bytes ∷ []))
     ∙ ap (λ (xs : List WireEntry). entries ++ xs) (sym (map-append (λ (b : List ℕ). record { to = to; bytes = b }) (kept_among s (take i (unacked s))) (bytes ∷ [])))
     ∙ ap (λ (xs : List (List ℕ)). entries ++ entries_to to xs) (sym (kept_one_more s (unacked s) i n bytes at there))
+
+-- `acked`
+filter_map-none : {X Y : Type 0} (f : X → Option Y) (xs : List X) → AllByRecursion (λ x. f x ≡ None) xs → filter_map f xs ≡ []
+filter_map-none f [] h = refl
+filter_map-none f (x ∷ xs) h = ap (λ o. cons_option o (filter_map f xs)) h.0 ∙ filter_map-none f xs h.1
+
+not-covered : (s : SendingEnd) (base bits : ℕ) → ((n : ℕ) → is_covered base bits n ≡ true → is_acked s.window n ≡ true) → (n : ℕ) → (is_sent s.window n && not (is_acked s.window n)) ≡ true → covered_tag s base bits n ≡ None
+not-covered s base bits all n waits =
+    cond-false (is_covered base bits n) (tag_of s n) None
+    (false_from_ne_true _ (λ covered. both_ways (is_acked s.window n) (not-true (is_acked s.window n) (and_parts (is_sent s.window n) (not (is_acked s.window n)) waits).1) (all n covered)))
+
+-- nothing is new where all that is covered is acknowledged
+pub none-new : (s : SendingEnd) (base bits : ℕ) → ((n : ℕ) → is_covered base bits n ≡ true → is_acked s.window n ≡ true) → newly_acked s base bits ≡ []
+none-new s base bits all =
+    let waits = λ (n : ℕ). is_sent s.window n && not (is_acked s.window n) in
+    filter_map-none (covered_tag s base bits) (unacked s.window)
+    (all-weaker (λ n. (n < s.window.numbers) × (waits n ≡ true)) (λ n. covered_tag s base bits n ≡ None) (λ n h. not-covered s base bits all n h.1) (unacked s.window) (below-all s.window.numbers waits))
+
+above-base : (m : Members) (n : ℕ) → is_in m n ≡ false → m.base ≤ n
+unfolding is_in
+above-base m n absent =
+    ⊎_elim
+    (λ (lt : n < m.base). absurd (both_ways (is_in m n) absent (or_left (nat_lt n m.base) (flag_at m.flags (n - m.base)) (lt-ltb n m.base lt))))
+    (λ (ge : m.base ≤ n). ge)
+    (cases_lt n m.base)
+
+-- the tags that stay are those of the numbers from the new base on
+pub tags-stay : (old new : SendingEnd) → old.window.acked.base ≤ new.window.acked.base → new.tags ≡ drop (new.window.acked.base - old.window.acked.base) old.tags → (n : ℕ) → is_acked new.window n ≡ false → tag_of new n ≡ tag_of old n
+unfolding tag_of
+tags-stay old new grows dropped n absent =
+    let a = old.window.acked.base in
+    let b = new.window.acked.base in
+    let above = above-base new.window.acked n absent in
+    let low : a ≤ n = omega (arith, above, grows) in
+    let place : (b - a) + (n - b) ≡ n - a = omega (arith, above, grows) in
+    cond-false (nat_lt n b) None (slice_index_or new.tags (n - b) None) (le-ltb n b above)
+    ∙ ap (λ xs. slice_index_or xs (n - b) None) dropped
+    ∙ get_or-drop (b - a) old.tags (n - b) None
+    ∙ ap (λ k. slice_index_or old.tags k None) place
+    ∙ sym (cond-false (nat_lt n a) None (slice_index_or old.tags (n - a) None) (le-ltb n a low))
+
+-- the tag at its place
+pub covered-at : (s : SendingEnd) (base bits n : ℕ) → is_covered base bits n ≡ true → s.window.acked.base ≤ n → slice_index_or s.tags (n - s.window.acked.base) None ≡ covered_tag s base bits n
+unfolding tag_of
+covered-at s base bits n covered above =
+    sym (cond-true (is_covered base bits n) (tag_of s n) None covered ∙ cond-false (nat_lt n s.window.acked.base) None (slice_index_or s.tags (n - s.window.acked.base) None) (le-ltb n s.window.acked.base above))

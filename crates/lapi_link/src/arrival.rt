@@ -5,8 +5,12 @@ use lapi_reassembly::Message;
 pub enum Arrival {
     /// Its number was taken before.
     Repeat,
-    /// Fragments of its message are missing still.
-    Part,
-    /// With it, no fragment of its message is missing.
+    /// It is the first fragment of its message, and others are missing.
+    First,
+    /// Others came before, and others are missing still.
+    More,
+    /// Others came before, and none is missing.
     Whole(Message),
+    /// It is the only fragment of its message.
+    FirstWhole(Message),
 }

@@ -4,7 +4,9 @@
 mod arrival;
 mod receiver;
 mod sender;
+mod tags;
 
 pub use arrival::Arrival;
 pub use receiver::Receiver;
 pub use sender::Sender;
+pub use tags::Tags;

@@ -1,4 +1,4 @@
-ghost use Rattle.std.specs.Prelude.{◌≡◌, ◌≢◌, ◌⊎◌, ℕ, ◌+◌, ◌*◌, ◌<◌, ◌≤◌, ◌∷◌, true, List, [], IfOk, OnOk};
+ghost use Rattle.std.specs.Prelude.{◌≡◌, ◌≢◌, ◌⊎◌, ℕ, ◌+◌, ◌*◌, ◌<◌, ◌≤◌, ◌∷◌, true, List, [], Some, IfOk, OnOk};
 ghost use Rattle.lapi_base.specs.declared.script.Script.{Script};
 ghost use Rattle.lapi_base.specs.declared.packet.Packet.{Packet};
 ghost use Rattle.lapi_base.specs.declared.packet.Packet.TheVariants.{Data};
@@ -10,10 +10,11 @@ ghost use Rattle.lapi_base.specs.Record.Wires.{has_number};
 ghost use Rattle.lapi_base.specs.Record.Arrived.{least_number};
 ghost use Rattle.lapi_reassembly.specs.Partial.{IsUnit};
 ghost use Rattle.lapi_reassembly.specs.Partials.{partial, is_there, HasRoom, Agrees, IsMissing, kept_of};
-ghost use Rattle.lapi_link.specs.Receiver.{ReceivesFor, IsNewReceiver, MayArrive, arrival_of, arrival_by, arrival_with, gathered_with};
+ghost use Rattle.lapi_link.specs.declared.arrival.Arrival.TheVariants.{First};
+ghost use Rattle.lapi_link.specs.Receiver.{ReceivesFor, IsNewReceiver, MayArrive, is_partial, answer_of, arrival_of, arrival_by, arrival_with, gathered_with};
 
 use crate::arrival::Arrival;
-use lapi_base::{DataPacket, Memory};
+use lapi_base::{DataPacket, HeaderOut, Memory, MsgName};
 use lapi_reassembly::{Partials, Put};
 use lapi_window::{RecvWindow, Took};
 use std::alloc::Global;
@@ -41,8 +42,8 @@ impl Receiver {
         requires unit { IsUnit unit }
         ensures { IfOk result (λ made. IsNewReceiver window unit made) }
     {
-        let partials = Partials::sized(alloc, window, unit)?;
-        let window = RecvWindow::sized(window);
+        let partials = Partials::new(alloc, window, unit)?;
+        let window = RecvWindow::new(window);
         Ok(Receiver { window, partials })
     }
 
@@ -50,7 +51,9 @@ impl Receiver {
     pub fn arrive(&mut self, alloc: Global, packet: &DataPacket) -> Result<Arrival, Memory>
         requires { (script : Script) × (ps : List Packet) × ReceivesFor script self.old ps × MayArrive script ps packet.now }
         ensures kept { OnOk result ((script : Script) (ps : List Packet) → ReceivesFor script self.old ps → MayArrive script ps packet.now → ReceivesFor script self.new (Data packet.now ∷ ps)) }
-        ensures arrival { IfOk result (λ arrival. (script : Script) (ps : List Packet) → ReceivesFor script self.old ps → MayArrive script ps packet.now → arrival ≡ arrival_of script ps packet.now) }
+        ensures arrival { IfOk result (λ arrival. (script : Script) (ps : List Packet) → ReceivesFor script self.old ps → MayArrive script ps packet.now → arrival ≡ arrival_of script ps packet.now (answer_of self.old packet.now.name)) }
+        ensures first { IfOk result (λ arrival. arrival ≡ First → is_partial self.new packet.now.name ≡ true) }
+        ensures answers { OnOk result ((m : MsgName) → is_partial self.new m ≡ true → answer_of self.new m ≡ answer_of self.old m) }
     {
         match self.window.take(packet.seq) {
             Took::Fresh => put(&mut self.partials, alloc, packet),
@@ -59,9 +62,18 @@ impl Receiver {
         }
     }
 
+    /// Keeps what the header handler answered for a message of which fragments are missing.
+    pub fn answer(&mut self, name: MsgName, out: HeaderOut)
+        requires { is_partial self.old name ≡ true }
+        ensures kept { (script : Script) (ps : List Packet) → ReceivesFor script self.old ps → ReceivesFor script self.new ps }
+        ensures answer { answer_of self.new name ≡ Some out }
+        ensures others { (other : MsgName) → other ≢ name → answer_of self.new other ≡ answer_of self.old other }
+    {
+        self.partials.answer(name, out);
+    }
+
     /// The least number that was not taken, and which of the next ones were.
-    pub fn ack(&self) -> (u32, u32)
-        requires { (script : Script) × (ps : List Packet) × (window_of script ≤ 32) × ReceivesFor script self.now ps }
+    pub fn ack(&self) -> (u32, u64)
         ensures { (script : Script) (ps : List Packet) → ReceivesFor script self.now ps → (result.0 ≡ least_number ps) × (result.1 ≡ bits_of (window_of script) (λ i. has_number ps (least_number ps + i))) }
     {
         self.window.ack()
@@ -89,7 +101,8 @@ fn put(partials: &mut Partials, alloc: Global, packet: &DataPacket) -> Result<Ar
     requires missing { IsMissing partials.old packet.now.name packet.now.fragment }
     requires payload { IsPayload partials.old.unit packet.now.length packet.now.fragment packet.now.payload }
     requires room { (is_there partials.old packet.now.name ≡ true) ⊎ HasRoom partials.old }
-    ensures answer { IfOk result (λ arrival. arrival ≡ arrival_with (gathered_with partials.old packet.now)) }
+    ensures answer { IfOk result (λ arrival. arrival ≡ arrival_with (is_there partials.old packet.now.name) (gathered_with partials.old packet.now)) }
+    ensures first { IfOk result (λ arrival. arrival ≡ First → is_there partials.new packet.now.name ≡ true) }
     ensures name { OnOk result (partial partials.new packet.now.name ≡ kept_of (gathered_with partials.old packet.now)) }
     ensures others { (other : MsgName) → other ≢ packet.now.name → partial partials.new other ≡ partial partials.old other }
     ensures sizes { (partials.new.names ≡ partials.old.names) × (partials.new.unit ≡ partials.old.unit) }
@@ -110,7 +123,9 @@ fn arrival_by(put: Put) -> Arrival
     ensures { result ≡ arrival_by put }
 {
     match put {
-        Put::First | Put::More => Arrival::Part,
-        Put::Whole(message) | Put::FirstWhole(message) => Arrival::Whole(message),
+        Put::First => Arrival::First,
+        Put::More => Arrival::More,
+        Put::Whole(message) => Arrival::Whole(message),
+        Put::FirstWhole(message) => Arrival::FirstWhole(message),
     }
 }

@@ -21,12 +21,7 @@ ghost use Rattle.lapi_packet.specs.Reader.{Reads};
 use crate::fault::{Fault, cut_short, refused};
 use crate::number::{read_four, read_two};
 use crate::operation::Operation;
-use lapi_base::{Leg, PAYLOAD_ROOM, Payload, Reason};
-
-/// The longest message.
-pub(crate) const LONGEST: u32 = 16_384;
-/// The bytes of each fragment but the last.
-const UNIT: u32 = 256;
+use lapi_base::{FIRST_LONGEST, FIRST_UNIT, Leg, PAYLOAD_ROOM, Payload, Reason};
 
 #[tactic(auto, unfolding(lapi_base::specs::Packet::Spelling::length_form))]
 pub(crate) fn read_length(
@@ -49,11 +44,11 @@ fn is_length(leg: Leg, operation: Operation, length: u32) -> bool
     match leg {
         Leg::Go => match operation {
             Operation::Get | Operation::Getv | Operation::Rmw => length == 0,
-            _ => length <= LONGEST,
+            _ => length <= FIRST_LONGEST,
         },
         Leg::Back => match operation {
             Operation::Rmw => length == 4,
-            _ => length <= LONGEST,
+            _ => length <= FIRST_LONGEST,
         },
         Leg::Echo => length == 4,
         Leg::Note | Leg::Join(_) => length == 0,
@@ -75,7 +70,7 @@ pub(crate) fn read_number(length: u32, bytes: &[u8]) -> Result<(u32, &[u8]), Fau
 fn fragments(length: u32) -> u32
     ensures { result ≡ fragments_in (unit First) length }
 {
-    length.div_ceil(UNIT).max(1)
+    length.div_ceil(FIRST_UNIT).max(1)
 }
 
 /// How many bytes a fragment of a message has.
@@ -83,7 +78,7 @@ fn size_of(length: u32, fragment: u32) -> usize
     ensures size { result ≡ fragment_length (unit First) length fragment }
     ensures bounded { result ≤ PAYLOAD_ROOM }
 {
-    UNIT.min(length.saturating_sub(fragment.saturating_mul(UNIT))) as usize
+    FIRST_UNIT.min(length.saturating_sub(fragment.saturating_mul(FIRST_UNIT))) as usize
 }
 
 #[tactic(auto, using(lapi_base::proofs::FormLists::read_bytes))]

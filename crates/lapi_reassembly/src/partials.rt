@@ -32,17 +32,9 @@ impl Model for Partials {
 }
 
 impl Partials {
-    /// Room for 32 messages, with fragments of 256 bytes.
-    pub fn new(alloc: Global) -> Result<Partials, Memory>
-        ensures sizes { IfOk result (λ made. (made.names ≡ 32) × (made.unit ≡ 256)) }
-        ensures none { IfOk result (λ made. (name : Name) → partial made name ≡ None) }
-    {
-        Partials::sized(alloc, 32, 256)
-    }
-
     /// Room for that many messages, with fragments of that many bytes.
     #[tactic(auto, unfolding(crate::specs::Partials::found))]
-    pub fn sized(alloc: Global, names: u32, unit: u32) -> Result<Partials, Memory>
+    pub fn new(alloc: Global, names: u32, unit: u32) -> Result<Partials, Memory>
         requires names { (1 ≤ names) × (names ≤ 64) }
         requires unit { IsUnit unit }
         ensures sizes { IfOk result (λ made. (made.names ≡ names) × (made.unit ≡ unit)) }

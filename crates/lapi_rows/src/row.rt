@@ -1,4 +1,5 @@
 ghost use Rattle.std.specs.Prelude.{◌≤◌};
+ghost use Rattle.lapi_base.specs.declared.layout.TheConstants.{LONGEST_INPUT};
 
 use crate::directive::{Case, Directive};
 use crate::input::Input;
@@ -6,12 +7,10 @@ use crate::ran::Ran;
 use crate::repeats::written_out;
 use anyhow::{Context, Result, bail, ensure};
 use lapi_handlers::Handlers;
+use lapi_base::LONGEST_INPUT;
 use lapi_io::{MemSink, MemSource};
 use lapi_tool::run;
 use std::alloc::Global;
-
-/// The most bytes that a sink has room for.
-const MOST_ROOM: usize = 4_194_304;
 
 /// The words and the input of a command, how its reads and writes go, and what is to come of it.
 #[derive(Drop)]
@@ -28,7 +27,7 @@ pub struct Row {
     text: String,
     ghost reads_move: { 1 ≤ read_step },
     ghost writes_move: { 1 ≤ write_step },
-    ghost few: { room ≤ 4194304 },
+    ghost few: { room ≤ LONGEST_INPUT },
 }
 
 impl Row {
@@ -102,7 +101,7 @@ impl Row {
                 self.write_step = n;
             }
             Directive::Room(n) => {
-                ensure!(n <= MOST_ROOM, "too much room");
+                ensure!(n <= LONGEST_INPUT, "too much room");
                 self.room = n;
             }
             _ => return self.take_input(alloc, directive),

@@ -32,7 +32,7 @@ module _ (script : Script) where
   receives-at ps ends n end there read =
       elim (slice_get ends n) as (λ o. slice_get ends n ≡ o → ReceiverAt script ps o → ReceivesFor script end ps) [
         | None ↦ λ _ h. absurd h
-        | Some x ↦ λ e h. subst (λ y. ReceivesFor script y ps) (sym (at-place ends n x end e read)) h
+        | Some x ↦ λ e h. subst (λ y. ReceivesFor script y ps) (sym (at-place ends n x end e read)) h.0
       ] refl there
 
   -- what is told of these packets, from task number

@@ -1,5 +1,5 @@
 -- What an acknowledgement that comes in tells the sending end of the link.
-use Rattle.std.proofs.Common.{◌≡◌, ℕ, ◌+◌, ◌<◌, ◌≤◌, ◌==◌, true, false, cond, ◌&&◌, ◌||◌, List, [], ◌∷◌, length, map, get_or, Option, Some, None, refl, sym, ap, ◌∙◌, subst, arith}
+use Rattle.std.proofs.Common.{◌≡◌, ℕ, ◌+◌, ◌<◌, ◌==◌, true, false, cond, ◌&&◌, ◌||◌, List, [], ◌∷◌, length, map, get_or, Option, Some, None, refl, sym, ap, ◌∙◌, subst}
 use Rattle.std.specs.Prelude.{slice_get, slice_set, nat_lt}
 use Rattle.std.specs.Vec.{with_item}
 use Rattle.std.proofs.Math.Bool.{or_comm}
@@ -13,16 +13,15 @@ use Rattle.lapi_base.specs.declared.packet.Packet.{Packet}
 use Rattle.lapi_base.specs.declared.packet.Packet.TheVariants.{Ack}
 use Rattle.lapi_base.specs.declared.packet.DataPacket.{DataPacket}
 use Rattle.lapi_base.specs.declared.reply.Reply.TheVariants.{Did}
-use Rattle.lapi_base.specs.Record.Arrived.{has_fragment, payload_of, whole_by}
+use Rattle.lapi_base.specs.Record.Arrived.{has_fragment, some_packet, payload_of, whole_by}
 use Rattle.lapi_base.specs.Record.Wires.{Run, has_number, has_ack}
 use Rattle.lapi_base.specs.Record.Acts.{with_handed, hand_over, deliver_entry, deliver, reply_with, followed}
 use Rattle.lapi_base.specs.Record.Valid.{ValidScript}
 use Rattle.lapi_base.specs.Packet.PacketBytes as written
 use Rattle.lapi_base.proofs.ListLaws.{at-place, get-set, get-set-other}
 use Rattle.lapi_base.proofs.TestLaws.{eqb-refl}
-use Rattle.lapi_link.specs.Receiver.{ReceivingEnd, packet_of, partial_by, partial_of, ReceivesFor}
+use Rattle.lapi_link.specs.Receiver.{ReceivingEnd, partial_by, partial_of, ReceivesFor}
 use Rattle.lapi_link.specs.Sender.{SendingEnd, IsAcked}
-use Rattle.lapi_parts.proofs.FirstLayout.{first-window}
 use Rattle.lapi_parts.proofs.Receivable.{acks-cover-sent}
 use Rattle.lapi_window.specs.NumberSet.{is_covered}
 use Rattle.lapi_window.specs.SendWindow.{sent_count}
@@ -41,18 +40,18 @@ module _ (script : Script) (ps : List Packet) (x y base bits : ℕ) where
   same-partial m (Some p) = refl
 
   receives-ack : (s : ReceivingEnd) → ReceivesFor script s ps → ReceivesFor script s (Ack x y base bits ∷ ps)
-  unfolding has_number packet_of partial_of
+  unfolding has_number some_packet partial_of
   receives-ack s h = record {
     window = h.window;
     sizes = h.sizes;
     taken = h.taken;
     numbers = h.numbers;
-    partials = λ m. h.partials m ∙ same-partial m (packet_of ps m);
+    partials = λ m. h.partials m ∙ same-partial m (some_packet ps m);
   }
 
   receiver-ack : (o : Option ReceivingEnd) → ReceiverAt script ps o → ReceiverAt script (Ack x y base bits ∷ ps) o
   receiver-ack None h = absurd h
-  receiver-ack (Some s) h = receives-ack s h
+  receiver-ack (Some s) h = (receives-ack s h.0, h.1)
 
   -- but of what it covers.
   acks-more : (n : ℕ) → has_ack (Ack x y base bits ∷ ps) n ≡ (is_covered base bits n || has_ack ps n)
@@ -168,9 +167,6 @@ module _ (script : Script) (rules : Rules) (r : Run) (from t k x y base bits : �
     pub covers-sent : (n : ℕ) → is_covered base bits n ≡ true → n < sent_count end.window
     unfolding is_covered
     covers-sent n covered = ltb-true n (sent_count end.window) (sym (here.1.numbers.sent n) ∙ acks-cover-sent script rules r at.recorded from t k n (Ack x y base bits) entry covered)
-
-    pub is-narrow : ValidScript script → end.window.window ≤ 32
-    is-narrow valid = let size = here.1.numbers.size in let width = first-window script valid in omega (arith, size, width)
 
     -- and so the task is told of it.
     pub acked-does : (new : SendingEnd) → IsAcked end new base bits → (out : Outcome) → HasEffect script rules t r (deliver script rules r from t k) (with_sender task new) out out

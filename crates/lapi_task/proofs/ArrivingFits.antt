@@ -22,7 +22,7 @@ use Rattle.lapi_laws.proofs.Out.{numbered-copied}
 use Rattle.lapi_laws.proofs.Shorts.{copied-short}
 use Rattle.lapi_laws.proofs.Sound.{Fits as IsOf}
 use Rattle.lapi_link.specs.Receiver.{is_complete, IsPartOnly, MayArrive}
-use Rattle.lapi_link.proofs.HeldPackets.{packet-found}
+use Rattle.lapi_base.proofs.HeldPackets.{packet-found}
 use Rattle.lapi_parts.proofs.ArrivingPackets.{counts-is, length-is, repeats-known}
 use Rattle.lapi_parts.proofs.ExactBytes.{Exact, record-exact}
 use Rattle.lapi_parts.proofs.InReach.{packets-in-reach}

@@ -26,3 +26,4 @@ pub mod StepLaws
 pub mod StepMemories
 pub mod StillLaws
 pub mod TickLaws
+mod Unanswered

@@ -1,5 +1,5 @@
 -- The packets of a message, one after another.
-use Rattle.std.proofs.Common.{◌≡◌, ℕ, ◌+◌, ◌*◌, ◌<◌, ◌≤◌, List, [], ◌∷◌, ◌++◌, map, length, max, refl, sym, ap, ◌∙◌, arith, append_assoc, add-one, subst, inl, inr}
+use Rattle.std.proofs.Common.{◌≡◌, ℕ, ◌+◌, ◌*◌, ◌<◌, ◌≤◌, List, [], ◌∷◌, ◌++◌, Option, None, map, length, max, refl, sym, ap, ◌∙◌, arith, append_assoc, add-one, subst, inl, inr}
 use Rattle.std.proofs.lemmas.List.{append-nil, length-append, length-map, map-append}
 use Rattle.std.specs.Int.{div_ceil}
 use Rattle.lapi_base.specs.Record.Fragments.{fragments_in}
@@ -12,15 +12,17 @@ use Rattle.lapi_task.specs.Outgoing.{extended}
 
 pub extended-none : (s : SendingEnd) (f : ℕ → List ℕ) → s ≡ extended s (map f (numbers_below 0))
 unfolding numbers_below below
-extended-none s f = λ i. record { window = record { window = s.window.window; numbers = sym (let e : s.window.numbers + 0 ≡ s.window.numbers = omega arith in e) i; acked = s.window.acked; packets = s.window.packets }; waiting = sym (append-nil s.waiting) i }
+extended-none s f = λ i. record { window = record { window = s.window.window; numbers = sym (let e : s.window.numbers + 0 ≡ s.window.numbers = omega arith in e) i; acked = s.window.acked; packets = s.window.packets }; waiting = sym (append-nil s.waiting) i; tags = sym (append-nil s.tags) i }
 
-pub extended-more : (s : SendingEnd) (f : ℕ → List ℕ) (n : ℕ) → appended (extended s (map f (numbers_below n))) (f n) ≡ extended s (map f (numbers_below (n + 1)))
+pub extended-more : (s : SendingEnd) (f : ℕ → List ℕ) (n : ℕ) → appended (extended s (map f (numbers_below n))) (f n) None ≡ extended s (map f (numbers_below (n + 1)))
 extended-more s f n =
     let xs = map f (numbers_below n) in
     let more : map f (numbers_below (n + 1)) ≡ xs ++ f n ∷ [] = ap (map f) (numbers_below-more n) ∙ map-append f (numbers_below n) (n ∷ []) in
     let count : s.window.numbers + length xs + 1 ≡ s.window.numbers + length (map f (numbers_below (n + 1))) = sym (ap (λ (ys : List (List ℕ)). s.window.numbers + length ys) more ∙ (let e = length-append xs (f n ∷ []) in omega (arith, e))) in
     let list : (s.waiting ++ xs) ++ f n ∷ [] ≡ s.waiting ++ map f (numbers_below (n + 1)) = append_assoc s.waiting xs (f n ∷ []) ∙ ap (λ (ys : List (List ℕ)). s.waiting ++ ys) (sym more) in
-    λ i. record { window = record { window = s.window.window; numbers = count i; acked = s.window.acked; packets = s.window.packets }; waiting = list i }
+    let bare = λ (bytes : List ℕ). let none : Option ℕ = None in none in
+    let tags : (s.tags ++ map bare xs) ++ None ∷ [] ≡ s.tags ++ map bare (map f (numbers_below (n + 1))) = append_assoc s.tags (map bare xs) (None ∷ []) ∙ ap (λ (ys : List (Option ℕ)). s.tags ++ ys) (sym (ap (map bare) more ∙ map-append bare xs (f n ∷ []))) in
+    λ i. record { window = record { window = s.window.window; numbers = count i; acked = s.window.acked; packets = s.window.packets }; waiting = list i; tags = tags i }
 
 pub extended-count : (s : SendingEnd) (f : ℕ → List ℕ) (n : ℕ) → (extended s (map f (numbers_below n))).window.numbers ≡ s.window.numbers + n
 extended-count s f n = ap (λ k. s.window.numbers + k) (length-map (numbers_below n) f ∙ numbers_below-length n)

@@ -22,6 +22,7 @@ use Rattle.lapi_link.specs.Receiver.{IsNewReceiver}
 use Rattle.lapi_task.proofs.StepMemories.{memory-blank}
 use Rattle.lapi_base.proofs.BelowLaws.{below-none}
 use Rattle.lapi_base.proofs.ListLaws.{all-get, get-some}
+use Rattle.lapi_task.proofs.Unanswered.{new-unanswered}
 
 -- the task has happened nothing
 pub record IsNew (script : Script) (rules : Rules) (t : ℕ) (task : Task) : Type 0 where
@@ -75,5 +76,6 @@ module _ (script : Script) (rules : Rules) where
         subst (SenderAt script rules start t b) (sym x.1) (fresh-sends t b x.0 (all-get (IsNewSender (window_of script)) task.senders.items b x.0 h.senders.1 x.1));
     receivers = λ a l.
         let x = get-some task.receivers.items a (let n = h.receivers.0 in omega (arith, l, n)) in
-        subst (ReceiverAt script []) (sym x.1) (all-get (IsNewReceiver (window_of script) (unit_of script)) task.receivers.items a x.0 h.receivers.1 x.1 script refl refl);
+        let fresh = all-get (IsNewReceiver (window_of script) (unit_of script)) task.receivers.items a x.0 h.receivers.1 x.1 script refl refl in
+        subst (ReceiverAt script []) (sym x.1) (fresh, new-unanswered script x.0 fresh);
   }

@@ -6,6 +6,7 @@ use Rattle.lapi_base.specs.declared.script.Script.{Script}
 use Rattle.lapi_base.specs.declared.rule.Rules.{Rules}
 use Rattle.lapi_base.specs.declared.event.Event.{Event}
 use Rattle.lapi_base.specs.declared.event.Event.TheVariants.{Copy, Land}
+use Rattle.lapi_base.specs.declared.handler.HeaderOut.{HeaderOut}
 use Rattle.lapi_base.specs.declared.head.Head.{Head}
 use Rattle.lapi_base.specs.declared.head.Head.TheVariants as heads
 use Rattle.lapi_base.specs.declared.message.Leg.{Leg}
@@ -25,16 +26,16 @@ use Rattle.lapi_base.specs.Record.Wires.{has_number}
 use Rattle.lapi_base.specs.Record.Acts.{followed}
 use Rattle.lapi_base.specs.Record.Refusals.{next, refusals}
 use Rattle.lapi_base.proofs.NameLaws.{happened-other}
-use Rattle.lapi_link.specs.declared.arrival.Arrival.{Arrival}
-use Rattle.lapi_link.specs.declared.arrival.Arrival.TheVariants.{Repeat, Part, Whole}
-use Rattle.lapi_link.specs.Receiver.{arrival_of}
-use Rattle.lapi_task.specs.Landed.{head_events, events_of}
+use Rattle.lapi_reassembly.specs.declared.message.Message.{Message}
+use Rattle.lapi_link.specs.declared.arrival.Arrival.TheVariants.{Repeat}
+use Rattle.lapi_link.specs.Receiver.{came, message_of, arrival_of}
+use Rattle.lapi_task.specs.Landed.{landed, head_events, events_of}
 use Rattle.lapi_task.specs.StandsFor.{is_uncopied}
 use Rattle.lapi_task.proofs.ReceiveKinds.{IsKind}
 
--- What comes of a packet: by whether its number was known and its message is whole.
-abbrev pub come : (known whole : Bool) → MsgName → Head → List ℕ → Arrival
-come known whole m h bytes = cond known Repeat (cond whole (Whole (record { name = m; head = h; bytes = bytes; out = None })) Part)
+-- What lands with a packet: by whether its number was known and its message is whole.
+abbrev pub come : (known whole : Bool) → MsgName → Head → List ℕ → Option Message
+come known whole m h bytes = cond known None (cond whole (Some (record { name = m; head = h; bytes = bytes; out = None })) None)
 
 abbrev pub came_bytes : Script → List Packet → DataPacket → List ℕ
 came_bytes script ps p = assembled (count_of script p.length) (Data p ∷ ps) p.name
@@ -42,9 +43,16 @@ came_bytes script ps p = assembled (count_of script p.length) (Data p ∷ ps) p.
 abbrev pub is_all : Script → List Packet → DataPacket → Bool
 is_all script ps p = whole_by (count_of script p.length) (Data p ∷ ps) p.name
 
-pub come-is : (script : Script) (ps : List Packet) (p : DataPacket) → arrival_of script ps p ≡ come (has_number ps p.seq) (is_all script ps p) p.name p.head (came_bytes script ps p)
+landed-come : (known some whole : Bool) (m : Message) → landed (cond known Repeat (came some whole m)) ≡ come known whole m.name m.head m.bytes
+landed-come true some whole m = refl
+landed-come false true true m = refl
+landed-come false false true m = refl
+landed-come false true false m = refl
+landed-come false false false m = refl
+
+pub come-is : (script : Script) (ps : List Packet) (p : DataPacket) (out : Option HeaderOut) → landed (arrival_of script ps p out) ≡ come (has_number ps p.seq) (is_all script ps p) p.name p.head (came_bytes script ps p)
 unfolding arrival_of
-come-is script ps p = refl
+come-is script ps p out = landed-come (has_number ps p.seq) (has_some ps p.name) (is_all script ps p) (message_of script ps p out)
 
 brings : (h : Head) → IsKind h → (some whole completion : Bool) (m : MsgName) → cond (is_active h && some) (Event.Head m ∷ []) [] ++ cond whole (Land m ∷ follows h completion m) [] ≡ cond whole (head_events m h) []
 unfolding follows

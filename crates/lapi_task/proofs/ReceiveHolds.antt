@@ -30,7 +30,7 @@ use Rattle.lapi_parts.proofs.CarriedLengths.{carried-length}
 use Rattle.lapi_parts.proofs.Deliveries.{deliveries-write, deliveries-announce}
 use Rattle.lapi_parts.proofs.WholeMessages.{assembled-bytes}
 use Rattle.lapi_task.specs.declared.state.State.{State}
-use Rattle.lapi_link.specs.declared.arrival.Arrival.{Arrival}
+use Rattle.lapi_reassembly.specs.declared.message.Message.{Message}
 use Rattle.lapi_task.specs.Landed.{memory_after, counters_after, HasArrived}
 use Rattle.lapi_task.specs.StandsFor.{HoldsFor, is_uncopied}
 use Rattle.lapi_task.proofs.ReceiveCounts.{announced-length, announced-at}
@@ -39,7 +39,7 @@ use Rattle.lapi_task.proofs.ReceiveKinds.{IsKind, Comes}
 use Rattle.lapi_task.proofs.StepMemories.{written-over}
 
 -- what comes of a packet took effect in what a task holds
-pub record Lands (arrival : Arrival) (before after : State) : Type 0 where
+pub record Lands (arrival : Option Message) (before after : State) : Type 0 where
   pub memory : after.memory ≡ memory_after arrival before.memory
   pub counters : after.counters ≡ counters_after arrival before.counters
   pub rest : after ≡ record before { memory = after.memory; counters = after.counters }

@@ -33,8 +33,9 @@ use Rattle.lapi_base.proofs.ListLaws.{get-set, get-set-other}
 use Rattle.lapi_base.proofs.NameLaws.{happened-head}
 use Rattle.lapi_base.proofs.TestLaws.{eqb-refl}
 use Rattle.lapi_laws.proofs.Lines.{deliver-sound}
+use Rattle.lapi_reassembly.specs.declared.message.Message.{Message}
 use Rattle.lapi_link.specs.declared.arrival.Arrival.{Arrival}
-use Rattle.lapi_link.specs.Receiver.{ReceivingEnd, ReceivesFor, MayArrive, arrival_of}
+use Rattle.lapi_link.specs.Receiver.{ReceivingEnd, ReceivesFor, MayArrive, answer_of, IsUnanswered, arrival_of}
 use Rattle.lapi_link.specs.Sender.{entries_to}
 use Rattle.lapi_parts.proofs.ArrivingPackets.{arrivals-told, next-acks-told}
 use Rattle.lapi_parts.proofs.Records.{record-sound}
@@ -43,7 +44,7 @@ use Rattle.lapi_task.specs.declared.outcome.Outcome.{Outcome}
 use Rattle.lapi_task.specs.declared.task.Task.{Task}
 use Rattle.lapi_task.specs.Acknowledging.{HasTaken, answer}
 use Rattle.lapi_task.specs.HasEffect.{IsAt, HasEffect, bytes_to}
-use Rattle.lapi_task.specs.Landed.{note_name, note_of, ends_after, events_of, ArrivalMayLand, HeadMayLand, HasArrived, MayTake, HasCome}
+use Rattle.lapi_task.specs.Landed.{note_name, note_of, ends_after, events_of, ArrivalMayLand, HeadMayLand, HasArrived, MayTake, HasCome, landed, note_packet}
 use Rattle.lapi_task.specs.Supported.{IsSupported}
 use Rattle.lapi_task.proofs.Forms.{Put, statement_of}
 use Rattle.lapi_task.specs.Outgoing.{packet_of, AreSpelled}
@@ -63,6 +64,7 @@ use Rattle.lapi_task.proofs.ReceiveHolds.{came-length, holds-arrived}
 use Rattle.lapi_task.proofs.ReceiveKinds.{IsKind, IsPut, IsNote, Comes, comes as what-comes, is-kind}
 use Rattle.lapi_task.proofs.ReceiveLinks.{told, Settled, notice-is, notice-carries, notice-ends, ends-come, ends-length}
 use Rattle.lapi_task.proofs.SenderLaws.{bytes-here, bytes-there}
+use Rattle.lapi_task.proofs.Unanswered.{still-unanswered}
 use Rattle.lapi_task.proofs.StepMemories.{memory-length}
 use Rattle.lapi_parts.proofs.FirstLayout.{holds-nothing, told-at-once}
 
@@ -79,7 +81,7 @@ abbrev pub Takes : (a : ℕ) → DataPacket → (before after : List ReceivingEn
 Takes a p before after = (end : ReceivingEnd) → slice_get before a ≡ Some end → HasCome before after a p end
 
 abbrev pub Tells : (a : ℕ) → DataPacket → Arrival → List ReceivingEnd → Type 0
-Tells a p first_delivery ends = (end : ReceivingEnd) (script : Script) (ps : List Packet) → slice_get ends a ≡ Some end → ReceivesFor script end ps → MayArrive script ps p → first_delivery ≡ arrival_of script ps p
+Tells a p first_delivery ends = (end : ReceivingEnd) (script : Script) (ps : List Packet) → slice_get ends a ≡ Some end → ReceivesFor script end ps → MayArrive script ps p → first_delivery ≡ arrival_of script ps p (answer_of end p.name)
 
 pub takes-over : {Z : Type 0} (v : Vec ReceivingEnd Z) (a : ℕ) (p : DataPacket) (before after : List ReceivingEnd) → before ≡ v.items → Takes a p before after → Takes a p v.items (with_items v after).items
 takes-over v a p before after e h = λ end here.
@@ -91,7 +93,7 @@ or-none : (x : Bool) → (x || (false || false)) ≡ x
 or-none true = refl
 or-none false = refl
 
-receiver-there : (script : Script) (ps : List Packet) (o : Option ReceivingEnd) → ReceiverAt script ps o → (end : ReceivingEnd) × (o ≡ Some end) × ReceivesFor script end ps
+receiver-there : (script : Script) (ps : List Packet) (o : Option ReceivingEnd) → ReceiverAt script ps o → (end : ReceivingEnd) × (o ≡ Some end) × (ReceivesFor script end ps × IsUnanswered end)
 receiver-there script ps None h = absurd h
 receiver-there script ps (Some end) h = (end, refl, h)
 
@@ -141,7 +143,7 @@ module _ (script : Script) (rules : Rules) where
       ∙ ap (λ xs. map written.packet old ++ xs) (sym (bytes-there a b bytes (ne_eqb a b (λ e. apart (sym e))))))
       (cases_eq b a)
 
-  handed-ends : (r : Run) (a t : ℕ) (p : DataPacket) (q : Packet) (ends after : List ReceivingEnd) (old new : ReceivingEnd) → slice_get ends a ≡ Some old → after ≡ slice_set ends a new → ReceivesFor script new (Data p ∷ r.handed a t) → ((x : ℕ) → x < script.tasks → ReceiverAt script (r.handed x t) (slice_get ends x)) → (x : ℕ) → x < script.tasks → ReceiverAt script ((handed_on r a t p q).handed x t) (slice_get after x)
+  handed-ends : (r : Run) (a t : ℕ) (p : DataPacket) (q : Packet) (ends after : List ReceivingEnd) (old new : ReceivingEnd) → slice_get ends a ≡ Some old → after ≡ slice_set ends a new → ReceivesFor script new (Data p ∷ r.handed a t) × IsUnanswered new → ((x : ℕ) → x < script.tasks → ReceiverAt script (r.handed x t) (slice_get ends x)) → (x : ℕ) → x < script.tasks → ReceiverAt script ((handed_on r a t p q).handed x t) (slice_get after x)
   handed-ends r a t p q ends after old new here set stands all x l =
       subst (λ xs. ReceiverAt script ((handed_on r a t p q).handed x t) (slice_get xs x)) (sym set)
       (⊎_elim
@@ -197,7 +199,7 @@ module _ (script : Script) (rules : Rules) where
   -- ---- a delivery
 
   module _ (t : ℕ) (r : Run) (task : Task) (at : IsAt script rules t task r) (a k : ℕ) (known_task : a < script.tasks) (p : DataPacket) (entry : slice_get (r.wire a t) k ≡ Some (Data p)) where
-    abbrev arrives : Arrival
+    abbrev arrives : Option Message
     arrives = come (is_delivered r a t p.seq) (is_all script (r.handed a t) p) p.name p.head (came_bytes script (r.handed a t) p)
 
     abbrev then : List Event
@@ -209,11 +211,11 @@ module _ (script : Script) (rules : Rules) where
     kind : IsKind p.head
     kind = is-kind script rules at.stands.calls.supported at.stands.calls.rules_valid p.name p.head packet-comes.kind
 
-    end-there : (end : ReceivingEnd) × (slice_get task.receivers.items a ≡ Some end) × ReceivesFor script end (r.handed a t)
+    end-there : (end : ReceivingEnd) × (slice_get task.receivers.items a ≡ Some end) × (ReceivesFor script end (r.handed a t) × IsUnanswered end)
     end-there = receiver-there script (r.handed a t) (slice_get task.receivers.items a) (at.stands.receivers a known_task)
 
     pub may-take : MayTake task.receivers.items a p
-    may-take = record { end = end-there.0; there = end-there.1; script = script; packets = r.handed a t; stands = end-there.2; fits = arriving-fits script rules at.stands.calls.supported at.stands.calls.rules_valid r a t k p at.recorded entry }
+    may-take = record { end = end-there.0; there = end-there.1; script = script; packets = r.handed a t; stands = end-there.2.0; fits = arriving-fits script rules at.stands.calls.supported at.stands.calls.rules_valid r a t k p at.recorded entry }
 
     abbrev next_run : Run
     next_run = told script rules (handed_on r a t p (ack_of script (Data p ∷ r.handed a t) a t)) then
@@ -237,13 +239,13 @@ module _ (script : Script) (rules : Rules) where
     atomic : Atomic script rules then
     atomic = subst (λ (x : Run). Atomic script rules x.journal) delivered (deliver-sound script rules r a t k (record-sound script rules r at.recorded)).atomic
 
-    pub arrival-is : (first_delivery : Arrival) → Tells a p first_delivery task.receivers.items → first_delivery ≡ arrives
-    arrival-is first_delivery h = h end-there.0 script (r.handed a t) end-there.1 end-there.2 (arriving-fits script rules at.stands.calls.supported at.stands.calls.rules_valid r a t k p at.recorded entry) ∙ come-is script (r.handed a t) p
+    pub arrival-is : (first_delivery : Arrival) → Tells a p first_delivery task.receivers.items → landed first_delivery ≡ arrives
+    arrival-is first_delivery h = ap landed (h end-there.0 script (r.handed a t) end-there.1 end-there.2.0 (arriving-fits script rules at.stands.calls.supported at.stands.calls.rules_valid r a t k p at.recorded entry)) ∙ come-is script (r.handed a t) p (answer_of end-there.0 p.name)
 
     unit-then : (mid : Task) → KeepsRest task mid → task_unit mid ≡ unit_of script
     unit-then mid g = ap (λ (z : _). unit (layout_of z.layout)) g.sizes ∙ unit-is script rules t task at.stands.calls
 
-    pub suits-arrival : (mid : Task) (first_delivery : Arrival) → KeepsRest task mid → first_delivery ≡ arrives → ArrivalMayLand (task_unit mid) mid.state.number a first_delivery mid.state.memory mid.state.counters
+    pub suits-arrival : (mid : Task) (first_delivery : Arrival) → KeepsRest task mid → landed first_delivery ≡ arrives → ArrivalMayLand (task_unit mid) mid.state.number a (landed first_delivery) mid.state.memory mid.state.counters
     suits-arrival mid first_delivery g e =
         let h = at.stands.holds in
         let c = packet-comes in
@@ -262,12 +264,12 @@ module _ (script : Script) (rules : Rules) where
     pub link-there : (mid : Task) → KeepsRest task mid → a < length mid.senders.items
     link-there mid g = let n = ap length g.senders ∙ at.stands.sender_count in let l = known_task in omega (arith, n, l)
 
-    receives : (mid after : Task) → Takes a p task.receivers.items mid.receivers.items → after.receivers.items ≡ mid.receivers.items → (end : ReceivingEnd) × (after.receivers.items ≡ slice_set task.receivers.items a end) × ReceivesFor script end (Data p ∷ r.handed a t)
+    receives : (mid after : Task) → Takes a p task.receivers.items mid.receivers.items → after.receivers.items ≡ mid.receivers.items → (end : ReceivingEnd) × (after.receivers.items ≡ slice_set task.receivers.items a end) × (ReceivesFor script end (Data p ∷ r.handed a t) × IsUnanswered end)
     receives mid after took same =
         let x = took end-there.0 end-there.1 in
-        (x.end, same ∙ x.ends, x.stands script (r.handed a t) end-there.2 (arriving-fits script rules at.stands.calls.supported at.stands.calls.rules_valid r a t k p at.recorded entry))
+        (x.end, same ∙ x.ends, (x.stands script (r.handed a t) end-there.2.0 (arriving-fits script rules at.stands.calls.supported at.stands.calls.rules_valid r a t k p at.recorded entry), still-unanswered end-there.0 x.end end-there.2.1 x.answers))
 
-    pub has-taken : (mid after : Task) (first_delivery : Arrival) (old new : List Event) → KeepsRest task mid → Takes a p task.receivers.items mid.receivers.items → HasArrived a first_delivery mid after old new → HasTaken script t after a (Data p ∷ r.handed a t)
+    pub has-taken : (mid after : Task) (first_delivery : Arrival) (old new : List Event) → KeepsRest task mid → Takes a p task.receivers.items mid.receivers.items → HasArrived a (landed first_delivery) mid after old new → HasTaken script t after a (Data p ∷ r.handed a t)
     has-taken mid after first_delivery old new g took h =
         let x = receives mid after took (ap (λ (x : Task). x.receivers.items) h.rest) in
         record {
@@ -278,7 +280,7 @@ module _ (script : Script) (rules : Rules) where
           receiver = subst (ReceiverAt script (Data p ∷ r.handed a t)) (sym (ap (λ xs. slice_get xs a) x.1 ∙ get-set task.receivers.items a end-there.0 x.0 end-there.1)) x.2;
         }
 
-    pub arrived-does : (mid after : Task) (first_delivery : Arrival) (old new : Outcome) → KeepsRest task mid → first_delivery ≡ arrives → Takes a p task.receivers.items mid.receivers.items → HasArrived a first_delivery mid after old.events new.events → new.entries ≡ old.entries ++ answer script (Data p ∷ r.handed a t) a t ∷ [] → HasEffect script rules t r (deliver script rules r a t k) after old new
+    pub arrived-does : (mid after : Task) (first_delivery : Arrival) (old new : Outcome) → KeepsRest task mid → landed first_delivery ≡ arrives → Takes a p task.receivers.items mid.receivers.items → HasArrived a (landed first_delivery) mid after old.events new.events → new.entries ≡ old.entries ++ answer script (Data p ∷ r.handed a t) a t ∷ [] → HasEffect script rules t r (deliver script rules r a t k) after old new
     arrived-does mid after first_delivery old new g e took h added =
         let ps = Data p ∷ r.handed a t in
         let q = ack_of script ps a t in

@@ -1,5 +1,5 @@
 -- What the arrival of a packet makes of a task.
-use Rattle.std.specs.Prelude.{◌≡◌, ℕ, ◌<◌, ◌^◌, List, [], ◌∷◌, ◌++◌, length, slice_get, slice_set, Option, Some, None}
+use Rattle.std.specs.Prelude.{◌≡◌, ℕ, ◌<◌, ◌^◌, true, List, [], ◌∷◌, ◌++◌, length, slice_get, slice_set, Option, Some, None}
 use Rattle.lapi_base.specs.declared.event.Event.{Event}
 use Rattle.lapi_base.specs.declared.event.Event.TheVariants.{Land}
 use Rattle.lapi_base.specs.declared.head.Head.{Head}
@@ -16,10 +16,11 @@ use Rattle.lapi_base.specs.Record.Names.{message}
 use Rattle.lapi_base.specs.Packet.Spelling.{HasSpelling}
 use Rattle.lapi_base.specs.Packet.PacketBytes as written
 use Rattle.lapi_memory.specs.TaskMemory as memories
+use Rattle.lapi_reassembly.specs.declared.message.Message.{Message}
 use Rattle.lapi_link.specs.declared.arrival.Arrival.{Arrival}
-use Rattle.lapi_link.specs.declared.arrival.Arrival.TheVariants.{Whole}
-use Rattle.lapi_link.specs.Receiver.{ReceivingEnd, ReceivesFor, MayArrive}
-use Rattle.lapi_link.specs.Sender.{SendingEnd}
+use Rattle.lapi_link.specs.declared.arrival.Arrival.TheVariants.{Whole, Repeat, First, More, FirstWhole}
+use Rattle.lapi_link.specs.Receiver.{ReceivingEnd, ReceivesFor, MayArrive, is_partial, answer_of}
+use Rattle.lapi_link.specs.Sender.{SendingEnd, appended}
 use Rattle.lapi_task.specs.Outgoing.{with_message, AreSpelled}
 use Rattle.lapi_task.specs.StandsFor.{task_unit}
 use Rattle.lapi_task.specs.declared.task.Task.{Task}
@@ -69,29 +70,37 @@ HeadMayLand unit t a m (heads.Put at tgt cmpl) bytes memory counters =
 HeadMayLand unit t a m (heads.Note op cmpl) bytes memory counters = cmpl < length counters
 HeadMayLand unit t a m _ bytes memory counters = Unit {0}
 
--- The same of what comes of a packet.
-abbrev pub memory_after : Arrival → (memory : List ℕ) → List ℕ
-memory_after (Whole m) memory = head_memory m.head m.bytes memory
-memory_after _ memory = memory
+-- the message that is whole with a packet, whatever was answered to its header
+abbrev pub landed : Arrival → Option Message
+landed (Whole m) = Some (record m { out = None })
+landed (FirstWhole m) = Some (record m { out = None })
+landed Repeat = None
+landed First = None
+landed More = None
 
-abbrev pub counters_after : Arrival → (counters : List ℕ) → List ℕ
-counters_after (Whole m) counters = head_counters m.head counters
-counters_after _ counters = counters
+-- The same of the message that is whole with a packet, if one is.
+abbrev pub memory_after : Option Message → (memory : List ℕ) → List ℕ
+memory_after (Some m) memory = head_memory m.head m.bytes memory
+memory_after None memory = memory
 
-abbrev pub ends_after : (unit t a : ℕ) → Arrival → (ends : List SendingEnd) → List SendingEnd
-ends_after unit t a (Whole m) ends = head_ends unit t a m.name m.head ends
-ends_after unit t a _ ends = ends
+abbrev pub counters_after : Option Message → (counters : List ℕ) → List ℕ
+counters_after (Some m) counters = head_counters m.head counters
+counters_after None counters = counters
 
-abbrev pub events_of : Arrival → List Event
-events_of (Whole m) = head_events m.name m.head
-events_of _ = []
+abbrev pub ends_after : (unit t a : ℕ) → Option Message → (ends : List SendingEnd) → List SendingEnd
+ends_after unit t a (Some m) ends = head_ends unit t a m.name m.head ends
+ends_after unit t a None ends = ends
 
-abbrev pub ArrivalMayLand : (unit t a : ℕ) → Arrival → (memory counters : List ℕ) → Type 0
-ArrivalMayLand unit t a (Whole m) memory counters = HeadMayLand unit t a m.name m.head m.bytes memory counters
-ArrivalMayLand unit t a _ memory counters = Unit {0}
+abbrev pub events_of : Option Message → List Event
+events_of (Some m) = head_events m.name m.head
+events_of None = []
+
+abbrev pub ArrivalMayLand : (unit t a : ℕ) → Option Message → (memory counters : List ℕ) → Type 0
+ArrivalMayLand unit t a (Some m) memory counters = HeadMayLand unit t a m.name m.head m.bytes memory counters
+ArrivalMayLand unit t a None memory counters = Unit {0}
 
 -- What came from task a took effect at the task.
-pub record HasArrived (a : ℕ) (arrival : Arrival) (before after : Task) (old new : List Event) : Type 0 where
+pub record HasArrived (a : ℕ) (arrival : Option Message) (before after : Task) (old new : List Event) : Type 0 where
   pub memory : after.state.memory ≡ memory_after arrival before.state.memory
   pub counters : after.state.counters ≡ counters_after arrival before.state.counters
   pub senders : after.senders.items ≡ ends_after (task_unit before) before.state.number a arrival before.senders.items
@@ -112,3 +121,4 @@ pub record HasCome (before after : List ReceivingEnd) (a : ℕ) (p : DataPacket)
   pub end : ReceivingEnd
   pub ends : after ≡ slice_set before a end
   pub stands : (script : Script) (packets : List Packet) → ReceivesFor script old packets → MayArrive script packets p → ReceivesFor script end (Data p ∷ packets)
+  pub answers : (m : MsgName) → is_partial end m ≡ true → answer_of end m ≡ answer_of old m

@@ -1,5 +1,5 @@
 -- Messages that leave a task, and their packets.
-use Rattle.std.specs.Prelude.{ℕ, ◌+◌, ◌<◌, ◌^◌, List, [], ◌++◌, length, map}
+use Rattle.std.specs.Prelude.{ℕ, ◌+◌, ◌<◌, ◌^◌, List, [], ◌++◌, length, map, None}
 use Rattle.lapi_base.specs.declared.script.Script.{Script}
 use Rattle.lapi_base.specs.declared.message.MsgName.{MsgName}
 use Rattle.lapi_base.specs.declared.packet.Packet.{Packet}
@@ -29,7 +29,7 @@ packets_of o unit n bytes = map (bytes_of o unit n bytes) (numbers_below (fragme
 
 -- an end with these packets more that wait
 abbrev pub extended : SendingEnd → List (List ℕ) → SendingEnd
-extended s packets = record s { window = record s.window { numbers = s.window.numbers + length packets }; waiting = s.waiting ++ packets }
+extended s packets = record s { window = record s.window { numbers = s.window.numbers + length packets }; waiting = s.waiting ++ packets; tags = s.tags ++ map (λ _. None) packets }
 
 -- an end with the packets of a message more that wait
 abbrev pub with_message : (unit : ℕ) → DataPacket → (bytes : List ℕ) → SendingEnd → SendingEnd

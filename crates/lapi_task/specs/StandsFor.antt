@@ -14,7 +14,7 @@ use Rattle.lapi_base.specs.Record.Jobs.{runs}
 use Rattle.lapi_base.specs.Record.Wires.{Run}
 use Rattle.lapi_base.specs.Record.Refusals.{next, refusals}
 use Rattle.lapi_base.specs.Record.Values.{memory_bytes}
-use Rattle.lapi_link.specs.Receiver.{ReceivingEnd, ReceivesFor}
+use Rattle.lapi_link.specs.Receiver.{ReceivingEnd, ReceivesFor, IsUnanswered}
 use Rattle.lapi_link.specs.Sender.{SendingEnd}
 use Rattle.lapi_base.specs.Packet.Layout.{layout_of, unit, sizes_of}
 use Rattle.lapi_base.specs.Record.Valid.{ValidRules}
@@ -33,7 +33,7 @@ SenderAt script rules r a b (Some s) = SendsFor script rules s r a b
 
 abbrev pub ReceiverAt : Script → List Packet → Option ReceivingEnd → Type 0
 ReceiverAt script ps None = ⊥
-ReceiverAt script ps (Some s) = ReceivesFor script s ps
+ReceiverAt script ps (Some s) = ReceivesFor script s ps × IsUnanswered s
 
 -- what a task with these sizes holds before its first line
 pub record IsNewState (sizes : Sizes) (task : ℕ) (state : State) : Type 0 where

@@ -1,5 +1,5 @@
 //! Packets that leave the task.
-ghost use Rattle.std.specs.Prelude.{◌≡◌, ◌*◌, ◌≤◌, length, IfOk, OnOk};
+ghost use Rattle.std.specs.Prelude.{◌≡◌, ◌*◌, ◌≤◌, length, IfOk, OnOk, None};
 ghost use Rattle.lapi_base.specs.declared.packet.Packet.TheVariants.{Data};
 ghost use Rattle.lapi_base.specs.Record.Fragments.{fragment_bytes};
 ghost use Rattle.lapi_base.specs.Packet.Spelling.{HasSpelling};
@@ -38,10 +38,10 @@ fn spelled_data(alloc: Global, packet: &DataPacket) -> Result<Bytes, Memory>
 /// Gives the next number of a link to a data packet, which is sent by a poll.
 fn append(alloc: Global, sender: &mut Sender, packet: &DataPacket) -> Result<(), Memory>
     requires { HasSpelling (Data packet.now) }
-    ensures { OnOk result (sender.new ≡ appended sender.old (written.packet (Data packet.now))) }
+    ensures { OnOk result (sender.new ≡ appended sender.old (written.packet (Data packet.now)) None) }
 {
     let bytes = spelled_data(alloc, packet)?;
-    sender.append(bytes)
+    sender.append(bytes, None)
 }
 
 /// Gives numbers to all fragments of a message with these bytes; each but the last has `unit` bytes. The packet has what

@@ -2,11 +2,8 @@ ghost use Rattle.std.specs.Prelude.{◌≡◌, IfOk, map};
 ghost use Rattle.lapi_base.specs.Output.Commands as spec;
 
 use hex::FromHexError;
-use lapi_base::{Bytes, Command, Memory, View};
+use lapi_base::{Bytes, Command, MOST_SHOWN, Memory, View};
 use std::alloc::Global;
-
-/// The most bytes that are shown.
-const MOST_SHOWN: usize = 640;
 
 /// What the words ask for, the arguments after the program's name; None where they are no command.
 #[tactic(auto, unfolding(lapi_base::specs::Output::Commands::command_of))]

@@ -170,6 +170,7 @@ some_of_copied (Some r) x e = refl
 pub record IsAcked (s t : Sending) (capacity : ℕ) : Type 0 where
   pub sending : IsSending t capacity
   pub sent : sent_count t ≡ sent_count s
+  pub base : s.acked.base ≤ t.acked.base
   pub bytes : (n : ℕ) → is_in t.acked n ≡ false → bytes_of t n ≡ bytes_of s n
 
 pub acked-all : (s : Sending) (capacity : ℕ) (new : Members) (base bits : ℕ) (packets : List (List ℕ)) → IsSending s capacity → ((n : ℕ) → is_in new n ≡ (is_in s.acked n || is_covered base bits n)) → is_in new new.base ≡ false → ((n : ℕ) → is_covered base bits n ≡ true → n < sent_count s) → packets ≡ drop (length s.packets - (sent_count s - new.base)) s.packets → IsAcked s (record s { acked = new; packets = packets }) capacity
@@ -190,5 +191,6 @@ acked-all s capacity new base bits packets h set absent covered kept =
         near = λ n e. let lt = acked-near s.acked new base bits (sent_count s) n set h.near covered e in omega (arith, lt, same);
       };
       sent = same;
+      base = grows;
       bytes = λ n e. acked-bytes s (record s { acked = new; packets = packets }) n grows fits kept e;
     }

@@ -6,6 +6,7 @@ mod recv_window;
 mod send_window;
 mod took;
 
+pub use number_set::covers;
 pub use recv_window::RecvWindow;
 pub use send_window::SendWindow;
 pub use took::Took;

@@ -54,7 +54,7 @@ impl NumberSet {
     pub fn contains(self, n: u32) -> bool
         ensures { result ≡ is_in self n }
     {
-        n < self.base || shifted(self.above, n - self.base) % 2 == 1
+        covers(self.base, self.above, n)
     }
 
     /// For each i, whether the number i above the least absent one is in the set.
@@ -116,6 +116,13 @@ impl NumberSet {
         }
         number
     }
+}
+
+/// Whether an acknowledgement covers a number: one below its base, or base + i for a bit i that is set.
+pub fn covers(base: u32, bits: u64, n: u32) -> bool
+    ensures { result ≡ is_covered base bits n }
+{
+    n < base || shifted(bits, n - base) % 2 == 1
 }
 
 // The word without its lowest bits.

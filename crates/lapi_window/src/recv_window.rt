@@ -26,16 +26,8 @@ impl Model for RecvWindow {
 }
 
 impl RecvWindow {
-    /// A window of 32 numbers, none of them taken.
-    pub fn new() -> RecvWindow
-        ensures window { result.window ≡ 32 }
-        ensures none { (n : ℕ) → is_taken result n ≡ false }
-    {
-        RecvWindow::sized(32)
-    }
-
     /// A window of that many numbers, none of them taken.
-    pub fn sized(window: u32) -> RecvWindow
+    pub fn new(window: u32) -> RecvWindow
         requires { (1 ≤ window) × (window ≤ 64) }
         ensures window { result.window ≡ window }
         ensures none { (n : ℕ) → is_taken result n ≡ false }
@@ -68,17 +60,7 @@ impl RecvWindow {
     }
 
     /// The least number that was not taken, and which of the next ones were.
-    pub fn ack(&self) -> (u32, u32)
-        requires { self.now.window ≤ 32 }
-        ensures base { result.0 ≡ base_of self.now }
-        ensures bits { result.1 ≡ bits_of self.now.window (λ i. is_taken self.now (base_of self.now + i)) }
-    {
-        let (base, bits) = self.wide_ack();
-        (base, bits as u32)
-    }
-
-    /// As `ack`, for a window of any size.
-    pub fn wide_ack(&self) -> (u32, u64)
+    pub fn ack(&self) -> (u32, u64)
         ensures base { result.0 ≡ base_of self.now }
         ensures bits { result.1 ≡ bits_of self.now.window (λ i. is_taken self.now (base_of self.now + i)) }
     {

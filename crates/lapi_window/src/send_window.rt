@@ -30,17 +30,8 @@ impl Model for SendWindow {
 }
 
 impl SendWindow {
-    /// A window of 32 packets, with no number yet.
-    pub fn new(alloc: Global) -> Result<SendWindow, Memory>
-        ensures window { IfOk result (λ made. made.window ≡ 32) }
-        ensures numbers { IfOk result (λ made. (made.numbers ≡ 0) × (sent_count made ≡ 0)) }
-        ensures none { IfOk result (λ made. (n : ℕ) → is_acked made n ≡ false) }
-    {
-        SendWindow::sized(alloc, 32)
-    }
-
     /// A window of that many packets, with no number yet.
-    pub fn sized(alloc: Global, window: u32) -> Result<SendWindow, Memory>
+    pub fn new(alloc: Global, window: u32) -> Result<SendWindow, Memory>
         requires { (1 ≤ window) × (window ≤ 64) }
         ensures window { IfOk result (λ made. made.window ≡ window) }
         ensures numbers { IfOk result (λ made. (made.numbers ≡ 0) × (sent_count made ≡ 0)) }
@@ -68,6 +59,14 @@ impl SendWindow {
         ensures { result ≡ self.now.numbers }
     {
         self.numbers
+    }
+
+    /// The least number that is not acknowledged.
+    pub fn base(&self) -> u32
+        ensures least { result ≡ base_of self.now }
+        ensures base { result ≡ self.now.acked.base }
+    {
+        self.acked.least_absent()
     }
 
     /// How many more numbers may be sent now.
@@ -105,23 +104,12 @@ impl SendWindow {
     }
 
     /// Notes what an acknowledgement covers.
-    pub fn acked(&mut self, base: u32, bits: u32)
-        requires sent { (n : ℕ) → is_covered base bits n ≡ true → n < sent_count self.old }
-        requires narrow { self.old.window ≤ 32 }
-        ensures acked { (n : ℕ) → is_acked self.new n ≡ (is_acked self.old n || is_covered base bits n) }
-        ensures bytes { (n : ℕ) → is_acked self.new n ≡ false → bytes_of self.new n ≡ bytes_of self.old n }
-        ensures sent { sent_count self.new ≡ sent_count self.old }
-        ensures same { (self.new.numbers ≡ self.old.numbers) × (self.new.window ≡ self.old.window) }
-    {
-        self.acked_wide(base, bits as u64);
-    }
-
-    /// As `acked`, for a window of any size.
-    pub fn acked_wide(&mut self, base: u32, bits: u64)
+    pub fn acked(&mut self, base: u32, bits: u64)
         requires { (n : ℕ) → is_covered base bits n ≡ true → n < sent_count self.old }
         ensures acked { (n : ℕ) → is_acked self.new n ≡ (is_acked self.old n || is_covered base bits n) }
         ensures bytes { (n : ℕ) → is_acked self.new n ≡ false → bytes_of self.new n ≡ bytes_of self.old n }
         ensures sent { sent_count self.new ≡ sent_count self.old }
+        ensures base { self.old.acked.base ≤ self.new.acked.base }
         ensures same { (self.new.numbers ≡ self.old.numbers) × (self.new.window ≡ self.old.window) }
     {
         let sent = self.sent_end();
@@ -133,7 +121,7 @@ impl SendWindow {
     /// How many numbers were sent and are not acknowledged.
     pub fn unacked_len(&self) -> usize
         ensures count { result ≡ length (unacked self.now) }
-        ensures bounded { result ≤ self.now.window }
+        ensures bounded { (result ≤ self.now.window) × (self.now.window ≤ 64) }
     {
         self.acked.absent_count(self.sent_end()) as usize
     }
@@ -143,6 +131,7 @@ impl SendWindow {
         requires { i < length (unacked self.now) }
         ensures number { slice_get (unacked self.now) i ≡ Some result.0 }
         ensures bytes { bytes_of self.now result.0 ≡ Some result.1.now }
+        ensures place { self.now.acked.base ≤ result.0 }
     {
         let number = self.acked.absent_at(i, self.sent_end());
         let place = (number - self.acked.least_absent()) as usize;

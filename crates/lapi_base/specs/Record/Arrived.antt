@@ -1,6 +1,6 @@
 -- What the packets that were handed over on a link tell, without the journal: which fragments are there, the
 -- acknowledgement, the events of the next packet, and the bytes of a message. These are words of this project.
-use Rattle.std.specs.Prelude.{◌≡◌, ℕ, suc, ◌+◌, max, ◌==◌, Bool, true, false, cond, ◌&&◌, not, List, [], ◌∷◌, ◌++◌, slice_get, Some}
+use Rattle.std.specs.Prelude.{◌≡◌, ℕ, suc, ◌+◌, max, ◌==◌, Bool, true, false, cond, ◌&&◌, not, List, [], ◌∷◌, ◌++◌, slice_get, Some, Option, None, is_some}
 use Rattle.std.specs.List.{list_any, flat_map}
 use Rattle.lapi_base.specs.declared.script.Script.{Script}
 use Rattle.lapi_base.specs.declared.rule.Rules.{Rules}
@@ -36,6 +36,12 @@ has_fragment packets m j = list_any (is_fragment m j) packets
 
 unfoldable pub has_some : List Packet → MsgName → Bool
 has_some packets m = list_any (is_part_of m) packets
+
+-- a packet of message m among these: the latest
+unfoldable pub some_packet : List Packet → MsgName → Option DataPacket
+some_packet [] m = None
+some_packet (Data p ∷ ps) m = cond (name_eq m p.name) (Some p) (some_packet ps m)
+some_packet (Ack from to base bits ∷ ps) m = some_packet ps m
 
 -- every fragment of m is, of so many
 unfoldable pub whole_by : (count : ℕ) → List Packet → MsgName → Bool

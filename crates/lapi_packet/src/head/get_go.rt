@@ -17,17 +17,16 @@ ghost use Rattle.lapi_base.specs.Packet.PacketBytes as written;
 
 use crate::counter;
 use crate::fault::{Fault, refused};
-use crate::fragment::LONGEST;
 use crate::number::{read_four, write_four};
 use crate::range::read_range;
-use lapi_base::{FRAME_ROOM, Frame, Head, Reason};
+use lapi_base::{FIRST_LONGEST, FRAME_ROOM, Frame, Head, Reason};
 
 #[tactic(auto, using(lapi_base::proofs::FormLaws::read_bind), unfolding(lapi_base::specs::Packet::Heads::get_go_form))]
 pub(crate) fn read(bytes: &[u8]) -> Result<(Head, &[u8]), Fault>
     ensures { Reads (get_go_form First) bytes.now result }
 {
     let (asked, rest) = read_four(bytes)?;
-    if asked > LONGEST {
+    if asked > FIRST_LONGEST {
         return Err(refused(bytes, Reason::Field));
     }
     let (source, rest) = read_range(asked, rest)?;

@@ -16,10 +16,9 @@ ghost use Rattle.lapi_packet.specs.Reader.{Reads};
 ghost use Rattle.lapi_base.specs.Packet.PacketBytes as written;
 
 use crate::fault::Fault;
-use crate::fragment::LONGEST;
 use crate::number::write_one;
 use crate::{counter, spans};
-use lapi_base::{FRAME_ROOM, Frame, Head, Spans};
+use lapi_base::{FIRST_LONGEST, FRAME_ROOM, Frame, Head, Spans};
 
 #[tactic(auto, using(lapi_base::proofs::FormLaws::read_bind), unfolding(lapi_base::specs::Packet::Heads::getv_go_form))]
 pub(crate) fn read(bytes: &[u8]) -> Result<(Head, &[u8]), Fault>
@@ -28,7 +27,7 @@ pub(crate) fn read(bytes: &[u8]) -> Result<(Head, &[u8]), Fault>
     let (tgt, rest) = counter::read(bytes)?;
     let (org, rest) = counter::read(rest)?;
     let (count, rest) = spans::read_count(rest)?;
-    let (source, rest) = spans::read_within(LONGEST, count, rest)?;
+    let (source, rest) = spans::read_within(FIRST_LONGEST, count, rest)?;
     let (dest, rest) = spans::read_matching(source.as_slice(), rest)?;
     let head = Head::GetvGo {
         tgt,

@@ -31,7 +31,7 @@ impl Task {
             from: self.state.number,
             to: from,
             base,
-            bits,
+            bits: bits as u32,
         };
         let bytes = spelled(alloc, &packet)?;
         entries.push(WireEntry { to: from, bytes })
@@ -42,6 +42,6 @@ impl Task {
         requires { (x : ℕ) × (y : ℕ) × IsOnWire self.old from (Ack x y base bits) }
         ensures { (script : Script) (rules : Rules) (t k x y : ℕ) (r : Run) (out : Outcome) → IsAt script rules t self.old r → from < script.tasks → slice_get (r.wire from t) k ≡ Some (Ack x y base bits) → HasEffect script rules t r (deliver script rules r from t k) self.new out out }
     {
-        self.senders[from as usize].acked(base, bits);
+        self.senders[from as usize].acked(base, bits as u64);
     }
 }

@@ -11,12 +11,13 @@ ghost use Rattle.lapi_base.specs.Record.Acts.{deliver};
 ghost use Rattle.lapi_base.specs.Packet.Spelling.{Spells, decoded};
 ghost use Rattle.lapi_handlers.specs.Handlers.{rules_of};
 ghost use Rattle.lapi_link.specs.declared.arrival.Arrival.TheVariants as arrivals;
-ghost use Rattle.lapi_link.specs.Receiver.{ReceivingEnd, ReceivesFor, MayArrive, arrival_of};
+ghost use Rattle.lapi_link.specs.Receiver.{ReceivingEnd, ReceivesFor, MayArrive, arrival_of, answer_of};
 ghost use Rattle.lapi_task.specs.HasEffect.{IsAt, HasEffect, IsOnWire, received_as};
-ghost use Rattle.lapi_task.specs.Landed.{ArrivalMayLand, HeadMayLand, HasArrived, note_of, with_note, MayTake, HasCome};
+ghost use Rattle.lapi_task.specs.Landed.{ArrivalMayLand, HeadMayLand, HasArrived, note_of, with_note, MayTake, HasCome, landed, note_packet};
 ghost use Rattle.lapi_task.specs.Outgoing.{AreSpelled};
 ghost use Rattle.lapi_task.specs.StandsFor.{task_unit};
 ghost use Rattle.lapi_base.specs.declared.payload.TheConstants.{PAYLOAD_ROOM};
+ghost use Rattle.lapi_task.specs.Supported.{IsSupported};
 
 use crate::counting::announce;
 use crate::note::{note_name, note_of};
@@ -84,12 +85,14 @@ impl Task {
         events: &mut Events,
     ) -> Result<(), Memory>
         requires link { (from < length self.old.senders.items) × (task_unit self.old ≤ PAYLOAD_ROOM) }
-        requires allowed { ArrivalMayLand (task_unit self.old) self.old.state.number from arrival.now self.old.state.memory self.old.state.counters }
-        ensures { OnOk result (HasArrived from arrival.now self.old self.new events.old events.new) }
+        requires allowed { ArrivalMayLand (task_unit self.old) self.old.state.number from (landed arrival.now) self.old.state.memory self.old.state.counters }
+        ensures { OnOk result (HasArrived from (landed arrival.now) self.old self.new events.old events.new) }
     {
         match arrival {
-            Arrival::Whole(message) => self.land(alloc, from, message, events),
-            _ => Ok(()),
+            Arrival::Whole(message) | Arrival::FirstWhole(message) => {
+                self.land(alloc, from, message, events)
+            }
+            Arrival::Repeat | Arrival::First | Arrival::More => Ok(()),
         }
     }
 
@@ -103,7 +106,7 @@ impl Task {
     ) -> Result<(), Memory>
         requires link { (from < length self.old.senders.items) × (task_unit self.old ≤ PAYLOAD_ROOM) }
         requires allowed { HeadMayLand (task_unit self.old) self.old.state.number from message.now.name message.now.head message.now.bytes self.old.state.memory self.old.state.counters }
-        ensures { OnOk result (HasArrived from (arrivals.Whole message.now) self.old self.new events.old events.new) }
+        ensures { OnOk result (HasArrived from (landed (arrivals.Whole message.now)) self.old self.new events.old events.new) }
     {
         events.push(Event::Land(message.name))?;
         match &message.head {
@@ -151,7 +154,7 @@ fn take(
 ) -> Result<Arrival, Memory>
     requires { MayTake receivers.old from packet.now }
     ensures taken { OnOk result ((end : ReceivingEnd) → slice_get receivers.old from ≡ Some end → HasCome receivers.old receivers.new from packet.now end) }
-    ensures arrival { IfOk result (λ arrival. (end : ReceivingEnd) (script : Script) (packets : List ThePacket) → slice_get receivers.old from ≡ Some end → ReceivesFor script end packets → MayArrive script packets packet.now → arrival ≡ arrival_of script packets packet.now) }
+    ensures arrival { IfOk result (λ arrival. (end : ReceivingEnd) (script : Script) (packets : List ThePacket) → slice_get receivers.old from ≡ Some end → ReceivesFor script end packets → MayArrive script packets packet.now → arrival ≡ arrival_of script packets packet.now (answer_of end packet.now.name)) }
 {
     receivers[from as usize].arrive(alloc, packet)
 }

@@ -1,9 +1,18 @@
+use Rattle.std.proofs.Common.{◌<◌, ◌^◌, ◌+◌, sym, subst}
+use Rattle.lapi_base.specs.Packet.Layout.{window_of}
+use Rattle.lapi_base.specs.Record.Wires.{has_number}
+use Rattle.lapi_base.specs.Record.Arrived.{least_number}
+use Rattle.lapi_base.proofs.BitLaws.{bits_of-small}
 use Rattle.lapi_task.proofs.AnswerLaws.{answers-for, answer-spelled, answer-put}
 use Rattle.lapi_task.proofs.task.Task.acknowledge.Goals as goal
 use Rattle.lapi_base.proofs.Results.{on-ok}
 
-pub ack-base-requires : goal.ack-base-requires
-ack-base-requires c = let x = c.requires in let y = answers-for x.0 x.1 c.args.self.now c.args.from x.2 x.3 c.index.result.now c.index.ensures in (x.0, x.2, y.0, y.1)
+pub overflow_cast-packet : goal.overflow_cast-packet
+overflow_cast-packet c =
+    let x = c.requires in
+    let receives = answers-for x.0 x.1 c.args.self.now c.args.from x.2 x.3 c.index.result.now c.index.ensures in
+    let bits = (c.ack-base.ensures x.0 x.2 receives.1).1 in
+    record { fits = subst (λ n. n < 2 ^ 32) (sym bits) (bits_of-small (window_of x.0) (λ i. has_number x.2 (least_number x.2 + i)) receives.0) }
 
 pub spelled-requires : goal.spelled-requires
 spelled-requires c = let x = c.requires in answer-spelled x.0 x.1 c.args.self.now c.args.from x.2 x.3 c.index.result.now c.index.ensures c.ack-base.result.0 c.ack-base.result.1 (c.ack-base.ensures x.0 x.2)

@@ -40,3 +40,11 @@ returns-clause-bytes c =
     ∙ ap (λ k. slice_get c.self.inside.packets.items (c.absent_at-number.result - k)) (sym c.least_absent.ensures.base)
     ∙ sym c.get.ensures
     ∙ ap option_copied c.unwrap.ensures
+
+pub returns-clause-place : goal.returns-clause-place
+returns-clause-place c =
+    let s : Sending = record { window = c.self.inside.window; numbers = c.self.inside.numbers; acked = c.self.inside.acked; packets = c.self.inside.packets.items } in
+    let kept = kept_of s c.self.inside.packets.capacity c.sent_end.result c.args.i c.absent_at-number.result c.self.invariant (c.sent_end.ensures ∙ sym (ap sent_count c.self.view_is)) c.absent_at-number.ensures in
+    let above = kept.above in
+    let base = ap (λ (x : Sending). x.acked.base) c.self.view_is in
+    omega (arith, above, base)

@@ -13,4 +13,4 @@ returns-clause-bounded c =
     let h : IsSending c.args.self.now c.self.inside.packets.capacity = subst (λ (s : Sending). IsSending s c.self.inside.packets.capacity) c.self.view_is c.self.invariant in
     let count = returns-clause-count c in
     let le = unacked-bounded c.args.self.now c.self.inside.packets.capacity h in
-    omega (arith, count, le)
+    (omega (arith, count, le), h.size.1)

@@ -1,19 +1,16 @@
 -- What the packets that were handed over tell of a message, before and after one more.
-use Rattle.std.proofs.Common.{◌≡◌, ℕ, suc, ◌==◌, Bool, true, false, cond, ◌&&◌, ◌||◌, List, [], ◌∷◌, Some, None, is_some, refl, sym, ap, ◌∙◌, subst, ⊎_elim}
+use Rattle.std.proofs.Common.{◌≡◌, ℕ, suc, ◌==◌, true, false, cond, ◌&&◌, ◌||◌, List, [], ◌∷◌, Some, None, refl, sym, ap, ◌∙◌, subst, ⊎_elim}
 use Rattle.std.specs.Prelude.{slice_get}
-use Rattle.std.specs.Option.{unwrap_or}
 use Rattle.std.proofs.lemmas.Bool.{false≢true, and_parts, and_from, eqb-true, eq-eqb, ne_eqb, cases_eq}
-use Rattle.lapi_base.specs.declared.script.Script.{Script}
 use Rattle.lapi_base.specs.declared.message.MsgName.{MsgName}
 use Rattle.lapi_base.specs.declared.packet.Packet.{Packet}
 use Rattle.lapi_base.specs.declared.packet.Packet.TheVariants.{Data, Ack}
 use Rattle.lapi_base.specs.declared.packet.DataPacket.{DataPacket}
 use Rattle.lapi_base.specs.Record.Names.{name_eq}
 use Rattle.lapi_base.specs.Record.Wires.{has_number}
-use Rattle.lapi_base.specs.Record.Arrived.{is_fragment, has_fragment, has_some, payload_of}
+use Rattle.lapi_base.specs.Record.Arrived.{is_fragment, has_fragment, has_some, some_packet, payload_of}
 use Rattle.lapi_base.proofs.ListLaws.{any-get}
 use Rattle.lapi_base.proofs.NameLaws.{name_eq-refl, name_eq-true}
-use Rattle.lapi_link.specs.Receiver.{packet_of, fragment_at}
 
 -- Numbers.
 turned : (m n : ℕ) → (m == n) ≡ (n == m)
@@ -36,21 +33,21 @@ number-known p ps n known =
     ] refl
 
 -- A packet of a message.
-pub packet-found : (ps : List Packet) (m : MsgName) (q : DataPacket) → packet_of ps m ≡ Some q → (k : ℕ) × (slice_get ps k ≡ Some (Data q)) × (q.name ≡ m)
-unfolding packet_of
+pub packet-found : (ps : List Packet) (m : MsgName) (q : DataPacket) → some_packet ps m ≡ Some q → (k : ℕ) × (slice_get ps k ≡ Some (Data q)) × (q.name ≡ m)
+unfolding some_packet
 packet-found [] m q h = absurd (cc)
 packet-found (Data p ∷ ps) m q h =
-    elim (name_eq m p.name) as (λ b. name_eq m p.name ≡ b → cond b (Some p) (packet_of ps m) ≡ Some q → (k : ℕ) × (slice_get (Data p ∷ ps) k ≡ Some (Data q)) × (q.name ≡ m)) [
+    elim (name_eq m p.name) as (λ b. name_eq m p.name ≡ b → cond b (Some p) (some_packet ps m) ≡ Some q → (k : ℕ) × (slice_get (Data p ∷ ps) k ≡ Some (Data q)) × (q.name ≡ m)) [
       | true ↦ λ e g. let same : p ≡ q = cc in (0, ap (λ x. Some (Data x)) same, sym (name_eq-true m p.name e ∙ ap (λ x. x.name) same))
       | false ↦ λ e g. let r = packet-found ps m q g in (suc r.0, r.1, r.2)
     ] refl h
 packet-found (Ack from to base bits ∷ ps) m q h = let r = packet-found ps m q h in (suc r.0, r.1, r.2)
 
-pub none-found : (ps : List Packet) (m : MsgName) → packet_of ps m ≡ None → has_some ps m ≡ false
-unfolding packet_of has_some
+pub none-found : (ps : List Packet) (m : MsgName) → some_packet ps m ≡ None → has_some ps m ≡ false
+unfolding some_packet has_some
 none-found [] m h = refl
 none-found (Data p ∷ ps) m h =
-    elim (name_eq m p.name) as (λ b. cond b (Some p) (packet_of ps m) ≡ None → (b || has_some ps m) ≡ false) [
+    elim (name_eq m p.name) as (λ b. cond b (Some p) (some_packet ps m) ≡ None → (b || has_some ps m) ≡ false) [
       | true ↦ λ g. absurd (cc)
       | false ↦ λ g. none-found ps m g
     ] h
@@ -72,15 +69,15 @@ unfolding has_fragment
 fragment-there ps k p at = any-get (is_fragment p.name p.fragment) ps k (Data p) at (and_from _ _ (name_eq-refl p.name) (eq-eqb p.fragment p.fragment refl))
 
 -- the packet that a fragment's payload is of
-record Holds (ps : List Packet) (m : MsgName) (j : ℕ) : Type 0 where
-  place : ℕ
-  packet : DataPacket
-  at : slice_get ps place ≡ Some (Data packet)
-  name : packet.name ≡ m
-  fragment : packet.fragment ≡ j
-  payload : payload_of ps m j ≡ packet.payload
+pub record Holds (ps : List Packet) (m : MsgName) (j : ℕ) : Type 0 where
+  pub place : ℕ
+  pub packet : DataPacket
+  pub at : slice_get ps place ≡ Some (Data packet)
+  pub name : packet.name ≡ m
+  pub fragment : packet.fragment ≡ j
+  pub payload : payload_of ps m j ≡ packet.payload
 
-payload-held : (ps : List Packet) (m : MsgName) (j : ℕ) → has_fragment ps m j ≡ true → Holds ps m j
+pub payload-held : (ps : List Packet) (m : MsgName) (j : ℕ) → has_fragment ps m j ≡ true → Holds ps m j
 unfolding has_fragment payload_of
 payload-held [] m j h = absurd (false≢true h)
 payload-held (Data p ∷ ps) m j h =
@@ -112,7 +109,7 @@ payload-held (Ack from to base bits ∷ ps) m j h =
       payload = r.payload;
     }
 
-no-payload : (ps : List Packet) (m : MsgName) (j : ℕ) → has_fragment ps m j ≡ false → payload_of ps m j ≡ []
+pub no-payload : (ps : List Packet) (m : MsgName) (j : ℕ) → has_fragment ps m j ≡ false → payload_of ps m j ≡ []
 unfolding has_fragment payload_of
 no-payload [] m j h = refl
 no-payload (Data p ∷ ps) m j h =
@@ -121,36 +118,3 @@ no-payload (Data p ∷ ps) m j h =
       | false ↦ λ g. no-payload ps m j g
     ] h
 no-payload (Ack from to base bits ∷ ps) m j h = no-payload ps m j h
-
-module _ (script : Script) (ps : List Packet) (m : MsgName) (j : ℕ) where
-  pub is_some-at : is_some (fragment_at script ps m j) ≡ has_fragment ps m j
-  is_some-at = by_test (has_fragment ps m j)
-    where
-      by_test : (b : Bool) → is_some (cond b (Some (payload_of ps m j)) None) ≡ b
-      by_test true = refl
-      by_test false = refl
-
-  pub bytes-at : unwrap_or (fragment_at script ps m j) [] ≡ payload_of ps m j
-  bytes-at =
-      elim (has_fragment ps m j) as (λ b. has_fragment ps m j ≡ b → unwrap_or (cond b (Some (payload_of ps m j)) None) [] ≡ payload_of ps m j) [
-        | true ↦ λ e. refl
-        | false ↦ λ e. sym (no-payload ps m j e)
-      ] refl
-
-  pub missing-at : has_fragment ps m j ≡ false → fragment_at script ps m j ≡ None
-  missing-at e = ap (λ b. cond b (Some (payload_of ps m j)) None) e
-
-  pub first-at : (p : DataPacket) → is_fragment m j (Data p) ≡ true → fragment_at script (Data p ∷ ps) m j ≡ Some p.payload
-  unfolding has_fragment payload_of
-  first-at p e = ap (λ b. cond (b || has_fragment ps m j) (Some (cond b p.payload (payload_of ps m j))) None) e
-
-  pub later-at : (p : DataPacket) → is_fragment m j (Data p) ≡ false → fragment_at script (Data p ∷ ps) m j ≡ fragment_at script ps m j
-  unfolding has_fragment payload_of
-  later-at p e = ap (λ b. cond (b || has_fragment ps m j) (Some (cond b p.payload (payload_of ps m j))) None) e
-
-  -- a fragment whose packets have one payload
-  pub held-at : (payload : List ℕ) → has_fragment ps m j ≡ true → ((k : ℕ) (q : DataPacket) → slice_get ps k ≡ Some (Data q) → q.name ≡ m → q.fragment ≡ j → q.payload ≡ payload) → fragment_at script ps m j ≡ Some payload
-  held-at payload there one =
-      let h = payload-held ps m j there in
-      ap (λ b. cond b (Some (payload_of ps m j)) None) there
-      ∙ ap Some (h.payload ∙ one h.place h.packet h.at h.name h.fragment)

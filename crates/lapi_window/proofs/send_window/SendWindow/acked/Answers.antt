@@ -2,7 +2,7 @@ use Rattle.std.proofs.Common.{◌≡◌, ℕ, ◌+◌, ◌-◌, List, length, dr
 use Rattle.circular_buffer.specs.Buffer.{Buffer}
 use Rattle.lapi_window.specs.SendWindow.{Sending, sent_count, bytes_of}
 use Rattle.lapi_window.proofs.SendLaws.{acked-base, IsAcked, acked-all}
-use Rattle.lapi_window.proofs.send_window.SendWindow.acked_wide.Goals as goal
+use Rattle.lapi_window.proofs.send_window.SendWindow.acked.Goals as goal
 
 pub overflow_sub-sent : goal.overflow_sub-sent
 overflow_sub-sent c =
@@ -39,3 +39,9 @@ returns-clause-bytes c = λ n e. (acked c).bytes n e ∙ ap (λ (s : Sending). b
 
 pub returns-clause-sent : goal.returns-clause-sent
 returns-clause-sent c = (acked c).sent ∙ ap sent_count c.self.view_is
+
+pub returns-clause-base : goal.returns-clause-base
+returns-clause-base c =
+    let grows = (acked c).base in
+    let base = ap (λ (s : Sending). s.acked.base) c.self.view_is in
+    omega (arith, grows, base)
