@@ -27,7 +27,7 @@ use Rattle.lapi_base.specs.Record.Acts.{after_land, with_handed}
 use Rattle.lapi_base.specs.Record.WorldView.{HoldsOfRecords}
 use Rattle.lapi_base.specs.Laws.Entries.{carried}
 use Rattle.lapi_base.specs.Record.HeadSays.{is_active, noted, answered, follows}
-use Rattle.lapi_base.specs.Record.Arrived.{IsKnown, ack_of, has_some, whole_by, is_whole, count_of, comes, is_active, noted, answered, follows}
+use Rattle.lapi_base.specs.Record.Arrived.{IsKnown, ack_of, has_some, whole_by, is_whole, count_of, comes}
 use Rattle.lapi_base.specs.Laws.Receiving.{AcksAreTold, NextAcksAreTold, ArrivalsAreTold, RepeatsAreKnown}
 use Rattle.lapi_base.proofs.ListLaws.{all-get, some-same}
 use Rattle.lapi_base.proofs.TestLaws.{eqb-refl}

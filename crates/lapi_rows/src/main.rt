@@ -35,10 +35,7 @@ fn main(rt: HostRuntime) -> anyhow::Result<()> {
         PER_ORIGIN,
         Box::new(alloc, |given: &HeaderIn| per_origin(given))?,
     ))?;
-    headers.push(HeaderFn::new(
-        NOWHERE,
-        Box::new(alloc, |given: &HeaderIn| nowhere(given))?,
-    ))?;
+    headers.push(HeaderFn::new(NOWHERE, Box::new(alloc, |given: &HeaderIn| nowhere(given))?))?;
     let mut completions = Vec::new(alloc);
     completions.push(CompletionFn::new(
         CompletionRule::Nothing,

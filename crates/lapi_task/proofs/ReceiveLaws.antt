@@ -44,7 +44,7 @@ use Rattle.lapi_task.specs.declared.outcome.Outcome.{Outcome}
 use Rattle.lapi_task.specs.declared.task.Task.{Task}
 use Rattle.lapi_task.specs.Acknowledging.{HasTaken, answer}
 use Rattle.lapi_task.specs.HasEffect.{IsAt, HasEffect, bytes_to}
-use Rattle.lapi_task.specs.Landed.{note_name, note_of, ends_after, events_of, ArrivalMayLand, HeadMayLand, HasArrived, MayTake, HasCome, landed, note_packet}
+use Rattle.lapi_task.specs.Landed.{note_name, note_of, ends_after, events_of, ArrivalMayLand, HeadMayLand, HasArrived, MayTake, HasCome, landed}
 use Rattle.lapi_task.specs.Supported.{IsSupported}
 use Rattle.lapi_task.proofs.Forms.{Put, statement_of}
 use Rattle.lapi_task.specs.Outgoing.{packet_of, AreSpelled}

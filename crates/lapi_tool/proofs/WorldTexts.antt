@@ -1,5 +1,5 @@
 -- What is written of a world that has taken all lines of an input is what is asked of the input.
-use Rattle.std.proofs.Common.{◌≡◌, false, length, refl, ap, ◌∙◌}
+use Rattle.std.proofs.Common.{◌≡◌, false, length, ap, ◌∙◌}
 use Rattle.lapi_base.specs.declared.rule.Rules.{Rules}
 use Rattle.lapi_base.specs.declared.command.View.{View}
 use Rattle.lapi_base.specs.declared.command.View.TheVariants.{Report, Journal, Wires, Trace}

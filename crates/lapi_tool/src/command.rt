@@ -15,8 +15,8 @@ use crate::text::write_text;
 use crate::views::write_view;
 use crate::words::command_of;
 use lapi_base::{Command, LONGEST_INPUT, ReadFault, Status, View, Which, WriteFault};
-use lapi_io::{ReadAll, Sink, Source, read_all};
 use lapi_handlers::Handlers;
+use lapi_io::{ReadAll, Sink, Source, read_all};
 use lapi_laws::journal_is_atomic;
 use lapi_report::write_packet;
 use lapi_script::read_input;
@@ -48,7 +48,7 @@ pub fn run<S: Source, K: Sink>(
         (commands_of.command_of (map (λ word. word.bytes.items) words.now.items))
         (S.left source.old) (S.left source.new) (K.held sink.old) (K.held sink.new) result }
     // The report is that of the atomic message machine.
-    ensures headline { commands_of.command_of (map (λ word. word.bytes.items) words.now.items) 
+    ensures headline { commands_of.command_of (map (λ word. word.bytes.items) words.now.items)
         ≡ Some (commands.Read Report)
         → result ≡ Status.Ok
         → IsReported (rules_of handlers.now)

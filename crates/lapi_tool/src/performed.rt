@@ -11,11 +11,7 @@ use lapi_world::World;
 use std::alloc::Global;
 
 /// The world of an input after every line of its schedule, in order.
-pub fn performed(
-    alloc: Global,
-    input: Input,
-    handlers: &Handlers,
-) -> Result<World, Memory>
+pub fn performed(alloc: Global, input: Input, handlers: &Handlers) -> Result<World, Memory>
     requires script { ValidScript input.script }
     requires schedule { ValidSchedule input.script spells_packet input.schedule }
     requires built { IsBuilt input }

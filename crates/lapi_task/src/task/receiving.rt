@@ -13,10 +13,10 @@ ghost use Rattle.lapi_handlers.specs.Handlers.{rules_of};
 ghost use Rattle.lapi_link.specs.declared.arrival.Arrival.TheVariants as arrivals;
 ghost use Rattle.lapi_link.specs.Receiver.{ReceivingEnd, ReceivesFor, MayArrive, arrival_of, answer_of};
 ghost use Rattle.lapi_task.specs.HasEffect.{IsAt, HasEffect, IsOnWire, received_as};
-ghost use Rattle.lapi_task.specs.Landed.{ArrivalMayLand, HeadMayLand, HasArrived, note_of, with_note, MayTake, HasCome, landed, note_packet};
+ghost use Rattle.lapi_task.specs.Landed.{ArrivalMayLand, HeadMayLand, HasArrived, note_of, with_note, MayTake, HasCome, landed};
 ghost use Rattle.lapi_task.specs.Outgoing.{AreSpelled};
 ghost use Rattle.lapi_task.specs.StandsFor.{task_unit};
-ghost use Rattle.lapi_base.specs.declared.payload.TheConstants.{PAYLOAD_ROOM};
+ghost use Rattle.lapi_base.specs.declared.layout.TheConstants.{PAYLOAD_ROOM};
 ghost use Rattle.lapi_task.specs.Supported.{IsSupported};
 
 use crate::counting::announce;

@@ -10,7 +10,7 @@ use Rattle.lapi_report.proofs.task.write_counters.Goals as goal
 pub returns-in_err-write_counter : goal.returns-in_err-write_counter
 returns-in_err-write_counter g c =
     let lt : c.loop-c.c < c.args.world.now.script.counters = search rules in
-    let told = c.counter.ensures c.args.world.now.script c.args.t (view_record c.args.world.now) (c.task-task.ensures.stands c.requires.spent).stands lt ∙ ap (λ (rules : Rules). count c.args.world.now.script rules (view_record c.args.world.now).journal c.args.t c.loop-c.c) (sym c.task-task.ensures.rules) in
+    let told = c.counter.ensures c.args.world.now.script c.args.world.now.rules c.args.t (view_record c.args.world.now) (c.task-task.ensures c.requires.spent).stands lt in
     record {
       text = refused _ _ _ _ c.from_residual.ensures.0 (number_stops (counter_text_of c.args.world.now.script c.args.world.now.rules (view_record c.args.world.now) c.args.t) _ _ _ _ _ _ lt c.loop-c.invariant.written (rw told at c.in_err-write_counter.ensures.text));
       cause = search rules;
@@ -20,7 +20,7 @@ returns-in_err-write_counter g c =
 pub loop-c-preserved : goal.loop-c-preserved
 loop-c-preserved g c =
     let lt : c.loop-c.c < c.args.world.now.script.counters = search rules in
-    let told = c.counter.ensures c.args.world.now.script c.args.t (view_record c.args.world.now) (c.task-task.ensures.stands c.requires.spent).stands lt ∙ ap (λ (rules : Rules). count c.args.world.now.script rules (view_record c.args.world.now).journal c.args.t c.loop-c.c) (sym c.task-task.ensures.rules) in
+    let told = c.counter.ensures c.args.world.now.script c.args.world.now.rules c.args.t (view_record c.args.world.now) (c.task-task.ensures c.requires.spent).stands lt in
     record {
       written = number_written (counter_text_of c.args.world.now.script c.args.world.now.rules (view_record c.args.world.now) c.args.t) _ _ _ _ _ _ lt c.loop-c.invariant.written (rw told at c.in_ok-write_counter.ensures.text);
       later = search rules;

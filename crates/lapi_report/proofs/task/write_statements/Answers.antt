@@ -17,13 +17,13 @@ pub loop-s-init : goal.loop-s-init
 loop-s-init g c =
     let w = c.args.world.now in
     let J = (view_record w).journal in
-    let at = c.task-task.ensures.stands c.requires.spent in
-    let rise = c.statements_rise.ensures w.script _ (view_record w) at.recorded c.args.t in
-    let reads-rise = subst (λ (rules : Rules). RiseFrom 0 (reads w.script rules J c.args.t)) (sym c.task-task.ensures.rules) rise.1 in
-    let read = c.reads-reads.ensures w.script c.args.t (view_record w) at.stands ∙ ap (λ (rules : Rules). reads w.script rules J c.args.t) (sym c.task-task.ensures.rules) in
+    let at = c.task-task.ensures c.requires.spent in
+    let rise = c.statements_rise.ensures w.script w.rules (view_record w) at.recorded c.args.t in
+    let reads-rise = rise.1 in
+    let read = c.reads-reads.ensures w.script w.rules c.args.t (view_record w) at.stands in
     record {
       written = starts _ _;
-      refused = c.refusals-refusals.ensures w.script c.args.t (view_record w) at.stands ∙ sym (all_from (refusals J c.args.t) rise.0);
+      refused = c.refusals-refusals.ensures w.script w.rules c.args.t (view_record w) at.stands ∙ sym (all_from (refusals J c.args.t) rise.0);
       read = read ∙ sym (all_from (reads w.script w.rules J c.args.t) reads-rise);
       later = search rules;
       room = search rules;
@@ -32,17 +32,17 @@ loop-s-init g c =
 pub take_at-why-requires : goal.take_at-why-requires
 take_at-why-requires g c =
     let w = c.args.world.now in
-    let at = c.task-task.ensures.stands c.requires.spent in
-    let rise = c.statements_rise.ensures w.script _ (view_record w) at.recorded c.args.t in
+    let at = c.task-task.ensures c.requires.spent in
+    let rise = c.statements_rise.ensures w.script w.rules (view_record w) at.recorded c.args.t in
     subst (RiseFrom c.loop-s.s) (sym c.loop-s.invariant.refused) (from_rises 0 c.loop-s.s (refusals (view_record w).journal c.args.t) rise.0)
 
 pub take_at-value-requires : goal.take_at-value-requires
 take_at-value-requires g c =
     let w = c.args.world.now in
     let J = (view_record w).journal in
-    let at = c.task-task.ensures.stands c.requires.spent in
-    let rise = c.statements_rise.ensures w.script _ (view_record w) at.recorded c.args.t in
-    let reads-rise = subst (λ (rules : Rules). RiseFrom 0 (reads w.script rules J c.args.t)) (sym c.task-task.ensures.rules) rise.1 in
+    let at = c.task-task.ensures c.requires.spent in
+    let rise = c.statements_rise.ensures w.script w.rules (view_record w) at.recorded c.args.t in
+    let reads-rise = rise.1 in
     subst (RiseFrom c.loop-s.s) (sym c.loop-s.invariant.read) (from_rises 0 c.loop-s.s (reads w.script w.rules J c.args.t) reads-rise)
 
 pub returns-in_err-write_statement : goal.returns-in_err-write_statement

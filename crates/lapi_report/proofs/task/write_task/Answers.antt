@@ -37,7 +37,7 @@ returns-in_err-write_counters g c = record {
 pub returns : goal.returns
 unfolding task_text
 returns g c =
-    let told = c.bytes_of.ensures ∙ c.memory.ensures c.args.world.now.script c.args.t (view_record c.args.world.now) (c.task.ensures.stands c.requires.spent).stands ∙ ap (λ (rules : Rules). memory_bytes c.args.world.now.script rules (view_record c.args.world.now).journal c.args.t) (sym c.task.ensures.rules) in
+    let told = c.bytes_of.ensures ∙ c.memory.ensures c.args.world.now.script c.args.world.now.rules c.args.t (view_record c.args.world.now) (c.task.ensures c.requires.spent).stands in
     let memory = rw told at c.write_memory.ensures.text in
     record {
       text = then_wrote _ _ _ _ _ _ c.in_ok-write_standing.ensures.text (then_wrote _ _ _ _ _ _ c.in_ok-write_statements.ensures.text (then_wrote _ _ _ _ _ _ c.in_ok-write_counters.ensures.text memory));

@@ -1,8 +1,7 @@
-use Rattle.std.proofs.Common.{◌≡◌, ℕ, ◌+◌, ◌<◌, map, max, refl, sym, ap, ◌∙◌, subst, arith}
+use Rattle.std.proofs.Common.{◌≡◌, ℕ, ◌+◌, ◌<◌, map, max, None, refl, sym, ap, ◌∙◌, subst, arith}
 use Rattle.lapi_base.specs.declared.packet.DataPacket.{DataPacket}
-use Rattle.lapi_base.specs.declared.packet.Packet.{Packet}
 use Rattle.lapi_base.specs.declared.packet.Packet.TheVariants.{Data}
-use Rattle.lapi_base.specs.Record.Fragments.{fragments_in, fragment_bytes}
+use Rattle.lapi_base.specs.Record.Fragments.{fragments_in}
 use Rattle.lapi_base.specs.Record.Operations.{numbers_below}
 use Rattle.lapi_base.specs.Packet.Spelling.{HasSpelling}
 use Rattle.lapi_base.specs.Packet.PacketBytes as written
@@ -35,7 +34,7 @@ loop-fragment-preserved c =
     record {
       sent =
           c.in_ok-append.ensures
-          ∙ (λ k. appended (c.loop-fragment.invariant.sent k) (written.packet (packet k)))
+          ∙ (λ k. appended (c.loop-fragment.invariant.sent k) (written.packet (packet k)) None)
           ∙ extended-more s f j;
       common = ap (λ (p : DataPacket). record p { seq = c.numbers.result; fragment = j; payload = c.payload_of-packet.result }) c.loop-fragment.invariant.common;
     }

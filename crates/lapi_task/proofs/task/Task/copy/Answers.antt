@@ -1,4 +1,4 @@
-use Rattle.std.proofs.Common.{ℕ, List, refl, sym, ap, ◌∙◌, subst}
+use Rattle.std.proofs.Common.{ℕ, List, refl, sym, ◌∙◌, subst}
 use Rattle.lapi_base.proofs.ListLaws.{at-place}
 use Rattle.lapi_base.proofs.Results.{on-ok}
 use Rattle.lapi_task.specs.Copies.{source}

@@ -5,7 +5,7 @@ use Rattle.lapi_task.specs.declared.copy.DataCopy.{DataCopy}
 use Rattle.lapi_task.specs.declared.task.Task.{Task}
 use Rattle.lapi_task.specs.Copies.{IsCopyable, IsCopied}
 use Rattle.lapi_task.specs.StandsFor.{task_unit}
-use Rattle.lapi_task.proofs.CopyLaws.{popped-is, next-put, put_copy, no-statement, found-copy, no-copy, copyable, copied-stands}
+use Rattle.lapi_task.proofs.CopyLaws.{popped-is, next-put, no-statement, found-copy, no-copy, copyable, copied-stands}
 use Rattle.lapi_task.proofs.task.Task.copy_next.Goals as goal
 
 pub unreachable-requires-in_default-statement_at : goal.unreachable-requires-in_default-statement_at

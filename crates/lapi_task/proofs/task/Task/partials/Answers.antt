@@ -4,6 +4,6 @@ use Rattle.lapi_task.proofs.Unanswered.{lent-partials}
 use Rattle.lapi_task.proofs.task.Task.partials.Goals as goal
 
 pub returns : goal.returns
-returns c = λ script t r stands known m.
+returns c = λ script rules t r stands known m.
     ap (λ (g : Gathering). partial g m) c.partials.ensures
     ∙ lent-partials script (r.handed c.args.a t) c.args.self.now.receivers.items c.args.a c.index.result.now (stands.receivers c.args.a known) c.index.ensures m

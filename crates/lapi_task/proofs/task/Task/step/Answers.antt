@@ -1,5 +1,4 @@
 use Rattle.std.proofs.Common.{refl, sym, ap, ◌∙◌, Some}
-use Rattle.lapi_base.specs.declared.refusal.Refusal.{Refusal}
 use Rattle.lapi_task.specs.Supported.{reason_of}
 use Rattle.lapi_task.proofs.StepLaws.{next-fits, is-suited, idle-does, idle-replies, refused-does, refused-replies, issued-does, issued-replies, passed-does, passed-replies, blocked-does, blocked-replies}
 use Rattle.lapi_task.proofs.task.Task.step.Goals as goal
