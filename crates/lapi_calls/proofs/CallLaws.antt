@@ -19,12 +19,12 @@ use Rattle.lapi_base.specs.Record.Handlers.{user_header}
 use Rattle.lapi_base.specs.Record.Refusals.{first_reason, refusal_by, refusal_of, is_known}
 use Rattle.lapi_base.specs.Record.Valid.{ValidStatement}
 use Rattle.lapi_calls.specs.declared.reach.Reach.{Reach}
-use Rattle.lapi_calls.specs.declared.sizes.Sizes.{Sizes}
+use Rattle.lapi_calls.specs.declared.limits.Limits.{Limits}
 use Rattle.lapi_calls.specs.Calls.{IsCall, peer_of, KnowsPassed, AreTold, MaySend}
 use Rattle.lapi_calls.specs.Entries.{is_told, address_by}
 use Rattle.lapi_calls.specs.Reaches.{total_of, reach_of}
 use Rattle.lapi_calls.specs.Reasons.{reason_tests, long_by, header_is_bad, reach_tests, reason_by_reach}
-use Rattle.lapi_calls.specs.Sizes.{sizes_of}
+use Rattle.lapi_calls.specs.Limits.{limits_of}
 use Rattle.lapi_calls.proofs.PlainLaws.{reason-same}
 use Rattle.lapi_calls.proofs.ReasonLaws.{any-mapped, total-mapped, tests-are, reason-is}
 
@@ -57,32 +57,32 @@ module _ (known : ℕ → Bool) (given : ℕ → ℕ → ℕ) (d : ℕ) where
       let parts = or_parts (is_told known p.at && not (nat_le (address_by given d p.at + p.len) size)) (list_any (λ (p : Piece). is_told known p.at && not (nat_le (address_by given d p.at + p.len) size)) ps) h in
       (one-within size p small told.0 parts.0, each-within size ps small told.1 parts.1)
 
-  is-short : (sizes : Sizes) (s : Statement) → ValidStatement s → sizes.longest < 2 ^ 32 → long_by sizes (map (reach_of known given d) (target_pieces s)) (map (reach_of known given d) (origin_pieces s)) s ≡ false → length_by Go s < 2 ^ 32
-  is-short sizes (Put target to from len tgt org cmpl) valid small h = valid.3
-  is-short sizes (Am target handler header from len tgt org cmpl) valid small h = valid.5
-  is-short sizes (Putv target to from tgt org cmpl) valid small h =
-      let fits = ltb-false sizes.longest (total_of (map (reach_of known given d) (pieces_of from))) (or_parts (nat_lt sizes.longest (total_of (map (reach_of known given d) (pieces_of to)))) (nat_lt sizes.longest (total_of (map (reach_of known given d) (pieces_of from)))) h).1 in
+  is-short : (limits : Limits) (s : Statement) → ValidStatement s → limits.longest < 2 ^ 32 → long_by limits (map (reach_of known given d) (target_pieces s)) (map (reach_of known given d) (origin_pieces s)) s ≡ false → length_by Go s < 2 ^ 32
+  is-short limits (Put target to from len tgt org cmpl) valid small h = valid.3
+  is-short limits (Am target handler header from len tgt org cmpl) valid small h = valid.5
+  is-short limits (Putv target to from tgt org cmpl) valid small h =
+      let fits = ltb-false limits.longest (total_of (map (reach_of known given d) (pieces_of from))) (or_parts (nat_lt limits.longest (total_of (map (reach_of known given d) (pieces_of to)))) (nat_lt limits.longest (total_of (map (reach_of known given d) (pieces_of from)))) h).1 in
       let same = total-mapped known given d (pieces_of from) in
       omega arith
-  is-short sizes _ valid small h = let q : 0 < 2 ^ 32 = omega arith in q
+  is-short limits _ valid small h = let q : 0 < 2 ^ 32 = omega arith in q
 
 -- what isn't refused can be sent
-pub sendable : (known : ℕ → Bool) (given : ℕ → ℕ → ℕ) (sizes : Sizes) (a : ℕ) (s : Statement) → ValidStatement s → reason_by_reach sizes known given a s ≡ None → MaySend sizes known given a s
-sendable known given sizes a s valid e = λ small.
+pub sendable : (known : ℕ → Bool) (given : ℕ → ℕ → ℕ) (limits : Limits) (a : ℕ) (s : Statement) → ValidStatement s → reason_by_reach limits known given a s ≡ None → MaySend limits known given a s
+sendable known given limits a s valid e = λ small.
     let d = peer_of a s in
     let h = reach_of known given d in
-    let none = none-holds (reach_tests sizes (map h (target_pieces s)) (map h (origin_pieces s)) s) e in
+    let none = none-holds (reach_tests limits (map h (target_pieces s)) (map h (origin_pieces s)) s) e in
     let told = each-told known given d (target_pieces s) (sym (any-mapped (λ (r : Reach). not r.known) h (target_pieces s)) ∙ none.1.1.1.1.1.0) in
     record {
       told = told;
-      places = each-within known given d sizes.memory (target_pieces s) small.0 told (sym (any-mapped (λ (r : Reach). r.known && not (nat_le (r.at + r.len) sizes.memory)) h (target_pieces s)) ∙ none.1.0);
-      short = is-short known given d sizes s valid small.1 none.1.1.1.1.0;
+      places = each-within known given d limits.memory (target_pieces s) small.0 told (sym (any-mapped (λ (r : Reach). r.known && not (nat_le (r.at + r.len) limits.memory)) h (target_pieces s)) ∙ none.1.0);
+      short = is-short known given d limits s valid small.1 none.1.1.1.1.0;
       header = header-fits s none.1.1.1.1.1.1.1.0;
     }
 
 -- the first reason is the record's, by what is known
-pub reason-told : (known : ℕ → Bool) (given : ℕ → ℕ → ℕ) (sizes : Sizes) (a : ℕ) (s : Statement) → ValidStatement s → (script : Script) (rules : Rules) (i : ℕ) → sizes ≡ sizes_of script (length rules.headers) → IsCall script known given a i s → reason_by_reach sizes known given a s ≡ refusal_by script rules (is_told known) a i
-reason-told known given sizes a s valid script rules i same call =
+pub reason-told : (known : ℕ → Bool) (given : ℕ → ℕ → ℕ) (limits : Limits) (a : ℕ) (s : Statement) → ValidStatement s → (script : Script) (rules : Rules) (i : ℕ) → limits ≡ limits_of script (length rules.headers) → IsCall script known given a i s → reason_by_reach limits known given a s ≡ refusal_by script rules (is_told known) a i
+reason-told known given limits a s valid script rules i same call =
     let d = peer_of a s in
     (λ k. reason_by_reach (same k) known given a s)
     ∙ reason-same script known given call.are_given d (length rules.headers) s valid

@@ -19,7 +19,7 @@ use Rattle.lapi_base.specs.Record.Valid.{IsPlain, AtPlain, ValidStatement}
 use Rattle.lapi_calls.specs.declared.reach.Reach.{Reach}
 use Rattle.lapi_calls.specs.Entries.{is_told, address_by, AreGiven}
 use Rattle.lapi_calls.specs.Reaches.{reach_of}
-use Rattle.lapi_calls.specs.Sizes.{sizes_of}
+use Rattle.lapi_calls.specs.Limits.{limits_of}
 use Rattle.lapi_calls.specs.Reasons.{reach_tests, late_tests, long_by}
 use Rattle.lapi_calls.proofs.ReasonLaws.{any-mapped, long-is}
 
@@ -101,17 +101,17 @@ module _ (script : Script) (known : ℕ → Bool) (given : ℕ → ℕ → ℕ) 
   outside-same size (p ∷ ps) = λ k. same-outside size p k || outside-same size ps k
 
   -- so the reason is that by the script's entries
-  pub reason-same : (headers : ℕ) (s : Statement) → ValidStatement s → first_reason (reach_tests (sizes_of script headers) (map here (target_pieces s)) (map here (origin_pieces s)) s) ≡ first_reason (reach_tests (sizes_of script headers) (map true_one (target_pieces s)) (map true_one (origin_pieces s)) s)
+  pub reason-same : (headers : ℕ) (s : Statement) → ValidStatement s → first_reason (reach_tests (limits_of script headers) (map here (target_pieces s)) (map here (origin_pieces s)) s) ≡ first_reason (reach_tests (limits_of script headers) (map true_one (target_pieces s)) (map true_one (origin_pieces s)) s)
   reason-same headers s valid =
       let to = target_pieces s in
       let from = origins-same s valid in
       let unknown = list_any (λ (p : Piece). not (is_told known p.at)) to in
       ⊎_elim
       (λ (h : unknown ≡ true). some-unknown h)
-      (λ (h : unknown ≡ false). λ k. first_reason (reach_tests (sizes_of script headers) (told-same to h k) (from k) s))
+      (λ (h : unknown ≡ false). λ k. first_reason (reach_tests (limits_of script headers) (told-same to h k) (from k) s))
       (cases_Bool unknown)
     where
-      some-unknown : list_any (λ (p : Piece). not (is_told known p.at)) (target_pieces s) ≡ true → first_reason (reach_tests (sizes_of script headers) (map here (target_pieces s)) (map here (origin_pieces s)) s) ≡ first_reason (reach_tests (sizes_of script headers) (map true_one (target_pieces s)) (map true_one (origin_pieces s)) s)
+      some-unknown : list_any (λ (p : Piece). not (is_told known p.at)) (target_pieces s) ≡ true → first_reason (reach_tests (limits_of script headers) (map here (target_pieces s)) (map here (origin_pieces s)) s) ≡ first_reason (reach_tests (limits_of script headers) (map true_one (target_pieces s)) (map true_one (origin_pieces s)) s)
       some-unknown h =
           let to = target_pieces s in
           let from = origins-same s valid in
@@ -126,7 +126,7 @@ module _ (script : Script) (known : ℕ → Bool) (given : ℕ → ℕ → ℕ) 
           let late = late_tests headers (map here to) (map here (origin_pieces s)) s in
           let true_late = late_tests headers (map true_one to) (map true_one (origin_pieces s)) s in
           let out = list_any (λ (r : Reach). r.known && not (nat_le (r.at + r.len) script.memory)) (map true_one to) in
-          let size = long_by (sizes_of script headers) (map true_one to) (map true_one (origin_pieces s)) s in
+          let size = long_by (limits_of script headers) (map true_one to) (map true_one (origin_pieces s)) s in
           (λ k. reason_by lacks (outside k) (beyond (from k)) misses (long k) (list_any none (map here to)) late)
           ∙ stops lacks out (beyond (map true_one (origin_pieces s))) misses size (list_any none (map here to)) late true_late (one ∙ h)
           ∙ (λ k. reason_by lacks out (beyond (map true_one (origin_pieces s))) misses size ((one ∙ sym other) k) true_late)

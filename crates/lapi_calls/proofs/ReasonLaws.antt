@@ -20,7 +20,7 @@ use Rattle.lapi_base.specs.Record.Refusals.{first_reason, refusal_by, option_any
 use Rattle.lapi_calls.specs.declared.reach.Reach.{Reach}
 use Rattle.lapi_calls.specs.Entries.{is_told, address_by}
 use Rattle.lapi_calls.specs.Reaches.{total_of, reach_of, stride_reaches}
-use Rattle.lapi_calls.specs.Sizes.{sizes_of}
+use Rattle.lapi_calls.specs.Limits.{limits_of}
 use Rattle.lapi_calls.specs.Reasons.{reason_tests, long_by, handler_missing, header_is_bad, reach_tests}
 
 -- one piece more of a stride
@@ -77,7 +77,7 @@ module _ (known : ℕ → Bool) (given : ℕ → ℕ → ℕ) (d : ℕ) where
   unfolding pieces_of
   strides-are at block stride count = blocks at block stride (numbers_below count)
 
-  pub long-is : (script : Script) (headers : ℕ) (s : Statement) → long_by (sizes_of script headers) (map (reach_of known given d) (target_pieces s)) (map (reach_of known given d) (origin_pieces s)) s ≡ too_long script s
+  pub long-is : (script : Script) (headers : ℕ) (s : Statement) → long_by (limits_of script headers) (map (reach_of known given d) (target_pieces s)) (map (reach_of known given d) (origin_pieces s)) s ≡ too_long script s
   long-is script headers (Putv t to from tgt org cmpl) = λ k. nat_lt (longest_of script) (total-mapped known given d (pieces_of to) k) || nat_lt (longest_of script) (total-mapped known given d (pieces_of from) k)
   long-is script headers (Getv t from to tgt org) = λ k. nat_lt (longest_of script) (total-mapped known given d (pieces_of from) k) || nat_lt (longest_of script) (total-mapped known given d (pieces_of to) k)
   long-is script headers _ = refl
@@ -89,7 +89,7 @@ module _ (script : Script) (rules : Rules) (known : ℕ → Bool) (d : ℕ) wher
   address-is (Plain x) = refl
   address-is (Table round offset) = refl
 
-  pub tests-are : (s : Statement) → reach_tests (sizes_of script (length rules.headers)) (map (reach_of known (entry script) d) (target_pieces s)) (map (reach_of known (entry script) d) (origin_pieces s)) s ≡ reason_tests script rules (is_told known) d s
+  pub tests-are : (s : Statement) → reach_tests (limits_of script (length rules.headers)) (map (reach_of known (entry script) d) (target_pieces s)) (map (reach_of known (entry script) d) (origin_pieces s)) s ≡ reason_tests script rules (is_told known) d s
   unfolding address
   tests-are s =
       let h = reach_of known (entry script) d in

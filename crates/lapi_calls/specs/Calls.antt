@@ -1,4 +1,4 @@
--- A statement as a call of one task, which knows its sizes and some addresses: what it is of a script and of a
+-- A statement as a call of one task, which knows its limits and some addresses: what it is of a script and of a
 -- record, and when its message can be sent.
 use Rattle.std.specs.Prelude.{◌≡◌, ℕ, ◌^◌, ◌<◌, ◌≤◌, true, Bool, List, length, map, unwrap_or}
 use Rattle.std.specs.List.{AllByRecursion}
@@ -11,8 +11,8 @@ use Rattle.lapi_base.specs.declared.message.Leg.TheVariants.{Go}
 use Rattle.lapi_base.specs.Record.Handlers.{user_header}
 use Rattle.lapi_base.specs.Record.Operations.{statement, spans, target_of, target_pieces, length_by}
 use Rattle.lapi_base.specs.Record.Refusals.{round_passed}
-use Rattle.lapi_calls.specs.declared.sizes.Sizes.{Sizes}
-use Rattle.lapi_calls.specs.Sizes.{AreU32}
+use Rattle.lapi_calls.specs.declared.limits.Limits.{Limits}
+use Rattle.lapi_calls.specs.Limits.{AreU32}
 use Rattle.lapi_calls.specs.Entries.{is_told, address_by, AreGiven}
 
 -- the task at which the call of a task works
@@ -51,6 +51,6 @@ pub record HasRoom (known : ℕ → Bool) (given : ℕ → ℕ → ℕ) (d : ℕ
 abbrev pub IsSendable : (known : ℕ → Bool) → (given : ℕ → ℕ → ℕ) → (task : ℕ) → Statement → Type 0
 IsSendable known given a s = HasRoom known given (peer_of a s) s
 
--- also where this rests on its sizes being numbers of 32 bits
-abbrev pub MaySend : Sizes → (known : ℕ → Bool) → (given : ℕ → ℕ → ℕ) → (task : ℕ) → Statement → Type 0
-MaySend sizes known given a s = AreU32 sizes → IsSendable known given a s
+-- also where this rests on its limits being numbers of 32 bits
+abbrev pub MaySend : Limits → (known : ℕ → Bool) → (given : ℕ → ℕ → ℕ) → (task : ℕ) → Statement → Type 0
+MaySend limits known given a s = AreU32 limits → IsSendable known given a s

@@ -5,4 +5,4 @@ pub mod Places
 pub mod Reaches
 pub mod Reasons
 pub mod Setting
-pub mod Sizes
+pub mod Limits

@@ -16,9 +16,9 @@ use Rattle.lapi_calls.specs.declared.setting.Setting.{Setting}
 use Rattle.lapi_base.specs.declared.event.Event.{Event}
 use Rattle.lapi_calls.specs.Calls.{IsCall, KnowsPassed, peer_of}
 use Rattle.lapi_calls.specs.Entries.{is_told}
-use Rattle.lapi_calls.specs.Sizes.{sizes_of}
+use Rattle.lapi_calls.specs.Limits.{limits_of}
 use Rattle.lapi_calls.specs.Setting.{rules_of}
-use Rattle.lapi_calls.specs.declared.sizes.Sizes.{Sizes}
+use Rattle.lapi_calls.specs.declared.limits.Limits.{Limits}
 use Rattle.lapi_calls.specs.declared.reach.Reach.{Reach}
 use Rattle.lapi_calls.specs.Reaches.{total_of, reach_of}
 
@@ -48,14 +48,14 @@ module _ (script : Script) (rules : Rules) (known : Addr → Bool) (d : ℕ) whe
       ∷ []
 
 -- The same where the pieces at the target and at the origin lie so.
-abbrev pub long_reaches : Sizes → List Reach → Bool
-long_reaches sizes rs = nat_lt sizes.longest (total_of rs)
+abbrev pub long_reaches : Limits → List Reach → Bool
+long_reaches limits rs = nat_lt limits.longest (total_of rs)
 
-abbrev pub long_by : Sizes → (to from : List Reach) → Statement → Bool
-long_by sizes to from (Put target at origin len tgt org cmpl) = nat_lt sizes.longest len
-long_by sizes to from (Get target at origin len tgt org) = nat_lt sizes.longest len
-long_by sizes to from (Am target handler header origin len tgt org cmpl) = nat_lt sizes.longest_active len
-long_by sizes to from s = is_vector s && (long_reaches sizes to || long_reaches sizes from)
+abbrev pub long_by : Limits → (to from : List Reach) → Statement → Bool
+long_by limits to from (Put target at origin len tgt org cmpl) = nat_lt limits.longest len
+long_by limits to from (Get target at origin len tgt org) = nat_lt limits.longest len
+long_by limits to from (Am target handler header origin len tgt org cmpl) = nat_lt limits.longest_active len
+long_by limits to from s = is_vector s && (long_reaches limits to || long_reaches limits from)
 
 abbrev pub handler_missing : (headers : ℕ) → Statement → Bool
 handler_missing headers s = is_am s && not (nat_lt (handler_of s) headers)
@@ -83,35 +83,35 @@ late_tests headers to from s =
     ∷ (is_misplaced to from s, Misaligned)
     ∷ []
 
-abbrev pub reach_tests : Sizes → (to from : List Reach) → Statement → List (Bool × Refusal)
-reach_tests sizes to from s =
-    (option_any (λ t. not (nat_lt t sizes.tasks)) (target_of s), BadTask)
-    ∷ (list_any (λ (r : Reach). r.known && not (nat_le (r.at + r.len) sizes.memory)) to, BadTargetRange)
-    ∷ (list_any (λ (r : Reach). not (nat_le (r.at + r.len) sizes.memory)) from, BadOriginRange)
-    ∷ (list_any (λ c. not (nat_lt c sizes.counters)) (counters_of s), BadCounter)
-    ∷ (long_by sizes to from s, TooLong)
+abbrev pub reach_tests : Limits → (to from : List Reach) → Statement → List (Bool × Refusal)
+reach_tests limits to from s =
+    (option_any (λ t. not (nat_lt t limits.tasks)) (target_of s), BadTask)
+    ∷ (list_any (λ (r : Reach). r.known && not (nat_le (r.at + r.len) limits.memory)) to, BadTargetRange)
+    ∷ (list_any (λ (r : Reach). not (nat_le (r.at + r.len) limits.memory)) from, BadOriginRange)
+    ∷ (list_any (λ c. not (nat_lt c limits.counters)) (counters_of s), BadCounter)
+    ∷ (long_by limits to from s, TooLong)
     ∷ (list_any (λ (r : Reach). not r.known) to, NoTable)
-    ∷ late_tests sizes.headers to from s
+    ∷ late_tests limits.headers to from s
 
 -- the first reason that applies to a call of a task, by where its pieces lie
-abbrev pub reason_by_reach : Sizes → (known : ℕ → Bool) → (given : ℕ → ℕ → ℕ) → (task : ℕ) → Statement → Option Refusal
-reason_by_reach sizes known given a s =
-    first_reason (reach_tests sizes (map (reach_of known given (peer_of a s)) (target_pieces s)) (map (reach_of known given (peer_of a s)) (origin_pieces s)) s)
+abbrev pub reason_by_reach : Limits → (known : ℕ → Bool) → (given : ℕ → ℕ → ℕ) → (task : ℕ) → Statement → Option Refusal
+reason_by_reach limits known given a s =
+    first_reason (reach_tests limits (map (reach_of known given (peer_of a s)) (target_pieces s)) (map (reach_of known given (peer_of a s)) (origin_pieces s)) s)
 
 -- why a statement is refused, if it is, where these rounds are known
 abbrev pub why_told : Setting → (known : ℕ → Bool) → (task i : ℕ) → Option Refusal
 why_told setting known a i = refusal_by setting.script.now (rules_of setting) (is_told known) a i
 
--- this is the record's reason, in every script with these sizes in which the call is a statement of the task
-abbrev pub IsRefusal : Sizes → (known : ℕ → Bool) → (given : ℕ → ℕ → ℕ) → (task : ℕ) → Statement → Option Refusal → Type 0
-IsRefusal sizes known given a s found =
-    (script : Script) (rules : Rules) (i : ℕ) → sizes ≡ sizes_of script (length rules.headers) → IsCall script known given a i s → found ≡ refusal_by script rules (is_told known) a i
+-- this is the record's reason, in every script with these limits in which the call is a statement of the task
+abbrev pub IsRefusal : Limits → (known : ℕ → Bool) → (given : ℕ → ℕ → ℕ) → (task : ℕ) → Statement → Option Refusal → Type 0
+IsRefusal limits known given a s found =
+    (script : Script) (rules : Rules) (i : ℕ) → limits ≡ limits_of script (length rules.headers) → IsCall script known given a i s → found ≡ refusal_by script rules (is_told known) a i
 
 -- and after every journal by which the task has passed the rounds that are known
-abbrev pub IsRefusalAfter : Sizes → (known : ℕ → Bool) → (given : ℕ → ℕ → ℕ) → (task : ℕ) → Statement → Option Refusal → Type 0
-IsRefusalAfter sizes known given a s found =
+abbrev pub IsRefusalAfter : Limits → (known : ℕ → Bool) → (given : ℕ → ℕ → ℕ) → (task : ℕ) → Statement → Option Refusal → Type 0
+IsRefusalAfter limits known given a s found =
     (script : Script) (rules : Rules) (J : List Event) (i : ℕ)
-    → sizes ≡ sizes_of script (length rules.headers)
+    → limits ≡ limits_of script (length rules.headers)
     → IsCall script known given a i s
     → KnowsPassed script J a known
     → found ≡ refusal_of script rules J a i

@@ -4,7 +4,7 @@ ghost use Rattle.lapi_base.specs.Record.Operations.{length_by, total, target_pie
 ghost use Rattle.lapi_base.specs.Record.Valid.{ValidStatement};
 ghost use Rattle.lapi_base.specs.declared.message.Leg.TheVariants.{Go, Back};
 
-use crate::no_table::NoTable;
+use crate::no_entries::NoEntries;
 use crate::pieces::{origins, targets};
 use lapi_base::{Leg, Statement};
 
@@ -73,7 +73,7 @@ fn origin_total(statement: &Statement) -> u64
     requires { ValidStatement statement.now }
     ensures { result ≡ total (origin_pieces statement.now) }
 {
-    origins(&NoTable, 0, statement).total()
+    origins(&NoEntries, 0, statement).total()
 }
 
 /// The bytes of all pieces at the target.
@@ -81,5 +81,5 @@ fn target_total(statement: &Statement) -> u64
     requires { ValidStatement statement.now }
     ensures { result ≡ total (target_pieces statement.now) }
 {
-    targets(&NoTable, 0, statement).total()
+    targets(&NoEntries, 0, statement).total()
 }

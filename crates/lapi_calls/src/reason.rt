@@ -14,10 +14,10 @@ ghost use Rattle.lapi_calls.specs.Reasons.{why_told, IsRefusal, IsRefusalAfter};
 ghost use Rattle.lapi_calls.specs.Setting.{HasStatement};
 
 use crate::entries::Entries;
+use crate::limits::Limits;
 use crate::pieces::{origins, targets};
 use crate::reach::Reaches;
 use crate::setting::Setting;
-use crate::sizes::Sizes;
 use crate::statement::{
     completion_counter, origin_counter, own_counter, peer, target_counter, target_of,
 };
@@ -26,18 +26,18 @@ use lapi_base::{Refusal, Statement, Vector};
 /// Why a call of a task is refused, if it is, where the task knows these addresses: the first reason that
 /// applies, in the order of `Refusal`.
 pub fn refusal_of<E: Entries>(
-    sizes: &Sizes,
+    limits: &Limits,
     entries: &E,
     task: u32,
     statement: &Statement,
 ) -> Option<Refusal>
     requires asked { E.valid entries.now }
     requires statement { ValidStatement statement.now }
-    ensures told { IsRefusal sizes.now (E.is_known entries.now) (E.given entries.now) task statement.now result }
-    ensures after { IsRefusalAfter sizes.now (E.is_known entries.now) (E.given entries.now) task statement.now result }
-    ensures sendable { result ≡ None → MaySend sizes.now (E.is_known entries.now) (E.given entries.now) task statement.now }
+    ensures told { IsRefusal limits.now (E.is_known entries.now) (E.given entries.now) task statement.now result }
+    ensures after { IsRefusalAfter limits.now (E.is_known entries.now) (E.given entries.now) task statement.now result }
+    ensures sendable { result ≡ None → MaySend limits.now (E.is_known entries.now) (E.given entries.now) task statement.now }
 {
-    reason_by_reach(sizes, entries, task, statement)
+    reason_by_reach(limits, entries, task, statement)
 }
 
 /// Why statement `i` of a task is refused, if it is, where the task knows these addresses.
@@ -53,47 +53,50 @@ pub fn why_refused<E: Entries>(
     requires given { AreGiven setting.now.script.now (E.is_known entries.now) (E.given entries.now) }
     ensures { result ≡ why_told setting.now (E.is_known entries.now) task i }
 {
-    refusal_of(&setting.sizes(), entries, task, setting.at(task, i))
+    refusal_of(&setting.limits(), entries, task, setting.at(task, i))
 }
 
 /// The first reason that applies, by where the pieces lie.
 fn reason_by_reach<E: Entries>(
-    sizes: &Sizes,
+    limits: &Limits,
     entries: &E,
     task: u32,
     statement: &Statement,
 ) -> Option<Refusal>
     requires asked { E.valid entries.now }
     requires statement { ValidStatement statement.now }
-    ensures { result ≡ reasons.reason_by_reach sizes.now (E.is_known entries.now) (E.given entries.now) task statement.now }
+    ensures { result ≡ reasons.reason_by_reach limits.now (E.is_known entries.now) (E.given entries.now) task statement.now }
 {
     let target = peer(task, statement);
     let to = targets(entries, target, statement);
     let from = origins(entries, target, statement);
-    first_reason(&tests(sizes, statement, &to, &from))
+    first_reason(&tests(limits, statement, &to, &from))
 }
 
 /// The reasons in their order, with the tests that tell which apply.
 fn tests(
-    sizes: &Sizes,
+    limits: &Limits,
     statement: &Statement,
     to: &Reaches,
     from: &Reaches,
 ) -> [(bool, Refusal); 12]
-    ensures { result ≡ reasons.reach_tests sizes.now to.now from.now statement.now }
+    ensures { result ≡ reasons.reach_tests limits.now to.now from.now statement.now }
 {
-    let memory = sizes.memory;
+    let memory = limits.memory;
     [
-        (lacks_task(sizes.tasks, statement), Refusal::BadTask),
+        (lacks_task(limits.tasks, statement), Refusal::BadTask),
         (to.any_outside(memory), Refusal::BadTargetRange),
         (from.any_beyond(memory), Refusal::BadOriginRange),
         (
-            misses_counter(sizes.counters, statement),
+            misses_counter(limits.counters, statement),
             Refusal::BadCounter,
         ),
-        (is_too_long(sizes, statement, to, from), Refusal::TooLong),
+        (is_too_long(limits, statement, to, from), Refusal::TooLong),
         (to.any_unknown(), Refusal::NoTable),
-        (lacks_handler(sizes.headers, statement), Refusal::BadHandler),
+        (
+            lacks_handler(limits.headers, statement),
+            Refusal::BadHandler,
+        ),
         (has_bad_header(statement), Refusal::BadUserHeader),
         (counts_differ(statement, to, from), Refusal::VecCount),
         (lengths_differ(statement, to, from), Refusal::VecLength),
@@ -150,14 +153,14 @@ fn lacks_task(tasks: u32, statement: &Statement) -> bool
 }
 
 /// Whether the message is longer than its layout allows, in bytes; a vector, on either side.
-fn is_too_long(sizes: &Sizes, statement: &Statement, to: &Reaches, from: &Reaches) -> bool
-    ensures { result ≡ reasons.long_by sizes.now to.now from.now statement.now }
+fn is_too_long(limits: &Limits, statement: &Statement, to: &Reaches, from: &Reaches) -> bool
+    ensures { result ≡ reasons.long_by limits.now to.now from.now statement.now }
 {
     match statement {
-        Statement::Put { len, .. } | Statement::Get { len, .. } => *len > sizes.longest,
-        Statement::Am { len, .. } => *len > sizes.longest_active,
+        Statement::Put { len, .. } | Statement::Get { len, .. } => *len > limits.longest,
+        Statement::Am { len, .. } => *len > limits.longest_active,
         Statement::Putv { .. } | Statement::Getv { .. } => {
-            to.total() > sizes.longest as u64 || from.total() > sizes.longest as u64
+            to.total() > limits.longest as u64 || from.total() > limits.longest as u64
         }
         Statement::Store { .. }
         | Statement::Rmw { .. }

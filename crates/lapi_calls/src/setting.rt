@@ -7,10 +7,10 @@ ghost use Rattle.lapi_base.specs.Record.Operations.{statements, statement, recei
 ghost use Rattle.lapi_base.specs.Record.Valid.{ValidScript};
 ghost use Rattle.lapi_calls.specs.Setting.{rules_of, named_choice, kept, completes, has_place, is_answered, answers_by, has_head, has_event, HasStatement, LacksStatement, IsStatement, IsThere, lies_at, leg_is_there};
 ghost use Rattle.lapi_calls.specs.Places.{task_of, statement_of};
-ghost use Rattle.lapi_calls.specs.Sizes.{sizes_of};
+ghost use Rattle.lapi_calls.specs.Limits.{limits_of};
 
+use crate::limits::Limits;
 use crate::name::{is_go, place_of, receiver};
-use crate::sizes::Sizes;
 use crate::statement::{
     completion_counter, has_back, is_data, is_entered, is_issued, is_message, is_passed,
 };
@@ -37,11 +37,11 @@ impl<'a> Setting<'a> {
         statement_of(self.script, task, i)
     }
 
-    /// The sizes by which statements are refused.
-    pub fn sizes(&self) -> Sizes
-        ensures { result ≡ sizes_of self.now.script.now (length self.now.headers.now) }
+    /// The limits by which statements are refused.
+    pub fn limits(&self) -> Limits
+        ensures { result ≡ limits_of self.now.script.now (length self.now.headers.now) }
     {
-        Sizes::of(self.script, self.headers.len())
+        Limits::of(self.script, self.headers.len())
     }
 
     /// Statement `i` of a task, which is there.

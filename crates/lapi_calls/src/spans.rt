@@ -6,7 +6,7 @@ ghost use Rattle.lapi_base.specs.Record.Valid.{ValidStatement};
 ghost use Rattle.lapi_calls.specs.Calls.{AreSpans, spans_by};
 
 use crate::entries::Entries;
-use crate::no_table::NoTable;
+use crate::no_entries::NoEntries;
 use crate::pieces::{origins, targets};
 use lapi_base::{Spans, Statement};
 
@@ -26,5 +26,5 @@ pub fn origin_spans(statement: &Statement) -> Spans
     ensures given { result ≡ spans_by (λ _ _. 0) 0 (origin_pieces statement.now) }
     ensures spans { (script : Script) (d : ℕ) → result ≡ spans script d (origin_pieces statement.now) }
 {
-    origins(&NoTable, 0, statement).spans()
+    origins(&NoEntries, 0, statement).spans()
 }

@@ -1,4 +1,4 @@
-//! Statements as calls of one task, which knows the sizes of its script.
+//! Statements as calls of one task, which knows the limits of its script.
 ghost use Rattle.std.specs.Prelude.{◌≡◌, ◌≤◌, IfOk, [], ◌∷◌, length, true};
 ghost use Rattle.std.specs.List.{AllByRecursion};
 ghost use Rattle.lapi_base.specs.Record.Operations.{is_data, length_by};
@@ -10,13 +10,13 @@ use lapi_base::{
     Statement, StatementLists, Statements, UserHeader, Vector,
 };
 use lapi_calls::{
-    Entries, Setting, Sizes, go_head, join_head, message_length, origin_spans, refusal_of,
+    Entries, Limits, Setting, go_head, join_head, message_length, origin_spans, refusal_of,
     target_spans, why_refused,
 };
 use std::alloc::Global;
 use std::test::Fail;
 
-const SIZES: Sizes = Sizes {
+const SIZES: Limits = Limits {
     tasks: 2,
     memory: 65_536,
     counters: 2,
@@ -392,10 +392,10 @@ fn a_script_gives_its_sizes(rt: HostRuntime) -> Result<(), Fail> {
         why_refused(&setting, &UNKNOWN, 0, 0),
         Some(Refusal::BadTask)
     );
-    let sizes = Sizes {
+    let limits = Limits {
         headers: 0,
         ..SIZES
     };
-    assert_eq!(rt; setting.sizes(), sizes);
+    assert_eq!(rt; setting.limits(), limits);
     Ok(())
 }

@@ -1,14 +1,10 @@
 -- A line at another task leaves a task's part of the record, and by its part it stands for the record.
-use Rattle.std.proofs.Common.{◌≡◌, ℕ, ◌==◌, false, cond, not, ◌&&◌, List, [], ◌∷◌, ◌++◌, length, map, Option, Some, None, refl, sym, ap, ◌∙◌, subst}
+use Rattle.std.proofs.Common.{◌≡◌, ℕ, not, ◌&&◌, List, length, map, Option, Some, None, refl, sym, ap, ◌∙◌, subst}
 use Rattle.std.specs.Prelude.{slice_get, option_map}
-use Rattle.std.proofs.lemmas.List.{append-nil}
 use Rattle.lapi_base.specs.declared.script.Script.{Script}
 use Rattle.lapi_base.specs.declared.rule.Rules.{Rules}
-use Rattle.lapi_base.specs.declared.refusal.Refusal.{Refusal}
 use Rattle.lapi_base.specs.declared.message.Leg.TheVariants.{Go}
 use Rattle.lapi_base.specs.declared.message.MsgName.{MsgName}
-use Rattle.lapi_base.specs.declared.event.Event.{Event}
-use Rattle.lapi_base.specs.declared.event.Event.TheVariants.{Issue, Refuse, Enter, Pass, Copy, Head, Land, Begin, End}
 use Rattle.lapi_base.specs.declared.packet.Packet.{Packet}
 use Rattle.lapi_base.specs.Record.Below.{below}
 use Rattle.lapi_base.specs.Laws.Locality.{SameStatements, SameLinks}
@@ -16,16 +12,14 @@ use Rattle.lapi_base.specs.Record.Names.{Issued, Copied, happened, message}
 use Rattle.lapi_base.specs.Record.Operations.{numbers_below, statements, statement, is_data}
 use Rattle.lapi_base.specs.Record.Packets.{data_packet}
 use Rattle.lapi_base.specs.Record.Wires.{Run, numbered, has_number, has_ack}
-use Rattle.lapi_base.specs.Record.Refusals.{refusals}
 use Rattle.lapi_base.specs.Record.WorldView.{performed, IsRecord}
-use Rattle.lapi_base.specs.Record.TaskPart.{is_at, events_at, part_at}
+use Rattle.lapi_base.specs.Record.TaskPart.{part_at}
 use Rattle.lapi_base.specs.Record.Values.{values, memory_bytes}
 use Rattle.lapi_base.specs.Packet.PacketBytes as written
 use Rattle.lapi_laws.proofs.Out.{numbered-copied}
 use Rattle.lapi_link.specs.Sender.{SendingEnd}
 use Rattle.lapi_parts.proofs.ExactBytes.{record-exact}
 use Rattle.lapi_parts.proofs.LinesTaken.{more-record}
-use Rattle.lapi_parts.proofs.LocalEvents.{folds}
 use Rattle.lapi_parts.proofs.LocalQuestions.{by_points}
 use Rattle.lapi_parts.proofs.OtherTasks.{others-stay}
 use Rattle.lapi_parts.proofs.Records.{record-sound}

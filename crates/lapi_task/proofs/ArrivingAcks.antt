@@ -8,7 +8,6 @@ use Rattle.std.proofs.lemmas.List.{append-nil, length-set}
 use Rattle.lapi_base.specs.declared.script.Script.{Script}
 use Rattle.lapi_base.specs.declared.rule.Rules.{Rules}
 use Rattle.lapi_base.specs.declared.message.MsgName.{MsgName}
-use Rattle.lapi_base.specs.declared.event.Event.{Event}
 use Rattle.lapi_base.specs.declared.packet.Packet.{Packet}
 use Rattle.lapi_base.specs.declared.packet.Packet.TheVariants.{Ack}
 use Rattle.lapi_base.specs.declared.packet.DataPacket.{DataPacket}
@@ -16,7 +15,6 @@ use Rattle.lapi_base.specs.declared.reply.Reply.TheVariants.{Did}
 use Rattle.lapi_base.specs.Record.Arrived.{has_fragment, some_packet, payload_of, whole_by}
 use Rattle.lapi_base.specs.Record.Wires.{Run, has_number, has_ack}
 use Rattle.lapi_base.specs.Record.Acts.{with_handed, hand_over, deliver_entry, deliver, reply_with, followed}
-use Rattle.lapi_base.specs.Record.Valid.{ValidScript}
 use Rattle.lapi_base.specs.Packet.PacketBytes as written
 use Rattle.lapi_base.proofs.ListLaws.{at-place, get-set, get-set-other}
 use Rattle.lapi_base.proofs.TestLaws.{eqb-refl}
@@ -30,7 +28,7 @@ use Rattle.lapi_task.specs.declared.outcome.Outcome.{Outcome}
 use Rattle.lapi_task.specs.declared.task.Task.{Task}
 use Rattle.lapi_task.specs.HasEffect.{IsAt, HasEffect}
 use Rattle.lapi_task.specs.Sends.{SendsFor, packet_at}
-use Rattle.lapi_task.specs.StandsFor.{SenderAt, ReceiverAt, HoldsFor, StandsFor}
+use Rattle.lapi_task.specs.StandsFor.{SenderAt, ReceiverAt, StandsFor}
 
 module _ (script : Script) (ps : List Packet) (x y base bits : ℕ) where
   -- Among packets that were handed over, an acknowledgement tells of no number and of no fragment,
@@ -124,7 +122,7 @@ module _ (script : Script) (rules : Rules) (r : Run) (from t k x y base bits : �
   stands-after task old new there g own h =
       let ends = task.senders.items in
       record {
-        calls = record { supported = h.calls.supported; rules_valid = h.calls.rules_valid; sizes = h.calls.sizes; statements = h.calls.statements; header_count = h.calls.header_count };
+        calls = record { supported = h.calls.supported; rules_valid = h.calls.rules_valid; sizes = h.calls.sizes; statements = h.calls.statements; limits = h.calls.limits };
         holds = h.holds;
         sender_count = length-set ends from new ∙ h.sender_count;
         receiver_count = h.receiver_count;

@@ -1,11 +1,10 @@
 -- The copy of a put: what its task and its record have then.
-use Rattle.std.proofs.Common.{◌≡◌, ◌≢◌, ℕ, zero, suc, ◌+◌, ◌-◌, ◌*◌, ◌^◌, ◌<◌, ◌≤◌, ◌==◌, Bool, true, cond, not, ◌&&◌, List, [], ◌∷◌, ◌++◌, map, length, take, drop, set, Option, Some, None, refl, sym, ap, ◌∙◌, subst, ⊎_elim, arith, lit≤, inl}
-use Rattle.std.specs.Prelude.{slice_get, option_map, slice_index, option_to_list, option_and_then}
+use Rattle.std.proofs.Common.{◌≡◌, ℕ, ◌+◌, ◌*◌, ◌<◌, ◌≤◌, ◌==◌, Bool, true, cond, not, ◌&&◌, List, [], ◌∷◌, ◌++◌, map, length, take, drop, set, Option, Some, None, refl, sym, ap, ◌∙◌, subst, arith, inl}
+use Rattle.std.specs.Prelude.{slice_get, slice_index, option_to_list}
 use Rattle.std.specs.List.{AllByRecursion}
-use Rattle.std.proofs.lemmas.Bool.{cond-true, cond-false, and_parts, and_right, cases_lt, cases_eq, ne_eqb}
-use Rattle.std.proofs.lemmas.List.{append-nil, length-append, length-map}
+use Rattle.std.proofs.lemmas.Bool.{cond-true, and_parts, and_right}
+use Rattle.std.proofs.lemmas.List.{append-nil}
 use Rattle.std.proofs.Math.ListN.{length-set}
-use Rattle.std.proofs.lemmas.Option.{slice_get-map}
 use Rattle.lapi_base.specs.declared.script.Script.{Script}
 use Rattle.lapi_base.specs.declared.rule.Rules.{Rules}
 use Rattle.lapi_base.specs.declared.statement.Statement.{Statement}
@@ -13,46 +12,37 @@ use Rattle.lapi_base.specs.declared.event.Event.{Event}
 use Rattle.lapi_base.specs.declared.event.Event.TheVariants.{Copy}
 use Rattle.lapi_base.specs.declared.message.Leg.TheVariants.{Go}
 use Rattle.lapi_base.specs.declared.message.MsgName.{MsgName}
-use Rattle.lapi_base.specs.declared.packet.Packet.{Packet}
-use Rattle.lapi_base.specs.declared.packet.Packet.TheVariants.{Data}
-use Rattle.lapi_base.specs.Record.Atomic.{Atomic}
 use Rattle.lapi_base.specs.Record.Below.{below}
 use Rattle.lapi_base.specs.Record.Counters.{count, reads, tells, copy_tells, is_counter}
 use Rattle.lapi_base.specs.Laws.Entries.{carried}
 use Rattle.lapi_base.specs.Packet.Layout.{unit_of}
-use Rattle.lapi_base.specs.Record.Fragments.{fragments_in, fragment_bytes}
+use Rattle.lapi_base.specs.Record.Fragments.{fragments_in}
 use Rattle.lapi_base.specs.Record.Jobs.{runs}
 use Rattle.lapi_base.specs.Record.Names.{message, name_eq, happened, Issued, Copied}
 use Rattle.lapi_base.specs.Record.Operations.{numbers_below, statement, statements, is_data, target, sender, receiver, message_length, fragment_count, fragments, address, origin_pieces, org_counter}
 use Rattle.lapi_base.specs.Record.Operations as operations
 use Rattle.lapi_base.specs.Record.Packets.{data_packet}
 use Rattle.lapi_base.specs.Laws.Receiving.{NamesCounter}
-use Rattle.lapi_base.specs.Record.Wires.{Run, numbered}
+use Rattle.lapi_base.specs.Record.Wires.{Run}
 use Rattle.lapi_base.specs.Record.Refusals.{next, refusals, option_any}
 use Rattle.lapi_base.specs.Packet.Spelling.{HasSpelling}
 use Rattle.lapi_base.specs.Record.Values.{values, memory_bytes, gathered}
 use Rattle.lapi_base.specs.Packet.PacketBytes as written
 use Rattle.lapi_base.proofs.BelowLaws.{below-all}
-use Rattle.lapi_base.proofs.ListLaws.{get-after, get-before, get-set, get-set-other, get-some}
+use Rattle.lapi_base.proofs.ListLaws.{get-some}
 use Rattle.lapi_base.proofs.NameLaws.{happened-head, happened-other, name_eq-refl}
 use Rattle.lapi_base.proofs.TestLaws.{eqb-refl}
-use Rattle.lapi_base.proofs.UptoLaws.{numbers_below-length}
 use Rattle.lapi_laws.proofs.Shorts.{copied-short}
 use Rattle.lapi_link.specs.Sender.{SendingEnd}
 use Rattle.lapi_parts.proofs.Accepted.{copied-accepted}
 use Rattle.lapi_parts.proofs.FirstLayout.{first-unit, first-longest}
 use Rattle.lapi_parts.proofs.SpelledPackets.{message-spelled}
-use Rattle.lapi_window.specs.SendWindow.{sent_count, bytes_of}
 use Rattle.lapi_task.specs.declared.task.Task.{Task}
 use Rattle.lapi_task.specs.Copies.{source, IsCopyable, IsCopied, CopiesNext}
 use Rattle.lapi_task.specs.Counting.{announced}
-use Rattle.lapi_task.specs.Supported.{IsSupported}
-use Rattle.lapi_task.specs.Sends.{packet_at, SendsFor}
-use Rattle.lapi_task.specs.StandsFor.{is_uncopied, SenderAt, ReceiverAt, HoldsFor, StandsFor}
+use Rattle.lapi_task.specs.StandsFor.{is_uncopied, ReceiverAt, HoldsFor, StandsFor}
 use Rattle.lapi_task.proofs.CopyLists.{below-less, other-message}
 use Rattle.lapi_task.proofs.Forms.{data-put, statement-is}
-use Rattle.lapi_laws.proofs.Places.{fragments-length}
-use Rattle.lapi_task.proofs.Packets.{packet-stays, packet-same, packet-new, numbered-own}
 use Rattle.lapi_task.proofs.ReceiveCounts.{announced-length, announced-at}
 use Rattle.lapi_task.proofs.StepMemories.{read-over, memory-none, memory-length}
 use Rattle.lapi_base.specs.declared.head.Head.{Head}
@@ -244,7 +234,7 @@ module _ (script : Script) (rules : Rules) (t : ℕ) (task : Task) (r : Run) (i 
             rules_valid = h.stands.calls.rules_valid;
             sizes = ap (λ (x : Task). x.sizes) g.rest ∙ ap (λ (x : Task). x.sizes) p.others ∙ h.stands.calls.sizes;
             statements = ap (λ (x : Task). x.statements) g.rest ∙ ap (λ (x : Task). x.statements) p.others ∙ h.stands.calls.statements;
-            header_count = ap (λ (x : Task). x.header_count) g.rest ∙ ap (λ (x : Task). x.header_count) p.others ∙ h.stands.calls.header_count;
+            limits = ap (λ (x : Task). x.limits) g.rest ∙ ap (λ (x : Task). x.limits) p.others ∙ h.stands.calls.limits;
           };
           holds = holds-then after.state state (ap (λ (x : _). x.items) list ∙ p.list) (g.counters ∙ ap (λ (x : Task). announced x.state.counters put.org) p.others);
           sender_count = ap length senders ∙ length-set task.senders.items put.target g.sender ∙ h.stands.sender_count;

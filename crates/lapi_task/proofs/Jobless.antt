@@ -1,7 +1,7 @@
 -- No message of the forms that are performed has a completion, so no job waits or runs.
-use Rattle.std.proofs.Common.{◌≡◌, ℕ, zero, suc, ◌==◌, Bool, false, cond, not, ◌&&◌, List, [], ◌∷◌, length, filter, Option, Some, None, refl, ap, ◌∙◌, arith}
+use Rattle.std.proofs.Common.{◌≡◌, ℕ, zero, suc, ◌==◌, Bool, false, not, ◌&&◌, List, [], ◌∷◌, length, filter, None, refl, ap, ◌∙◌}
 use Rattle.std.specs.Prelude.{is_some}
-use Rattle.std.proofs.lemmas.Bool.{cond-false, and_left, and_right, le-ltb}
+use Rattle.std.proofs.lemmas.Bool.{cond-false, and_left, and_right}
 use Rattle.lapi_base.specs.declared.script.Script.{Script}
 use Rattle.lapi_base.specs.declared.rule.Rules.{Rules}
 use Rattle.lapi_base.specs.declared.event.Event.{Event}
@@ -9,7 +9,7 @@ use Rattle.lapi_base.specs.declared.event.Event.TheVariants.{Issue, Refuse, Ente
 use Rattle.lapi_base.specs.declared.message.Leg.TheVariants.{Go}
 use Rattle.lapi_base.specs.declared.message.MsgName.{MsgName}
 use Rattle.lapi_base.specs.Record.Below.{below}
-use Rattle.lapi_base.specs.Record.Handlers.{has_completion, completion, kept_choice, header_out}
+use Rattle.lapi_base.specs.Record.Handlers.{has_completion}
 use Rattle.lapi_base.specs.Record.Jobs.{is_job, landed_jobs, queue, runs, busy}
 use Rattle.lapi_base.specs.Record.Names.{leg_eq, Begun, happened}
 use Rattle.lapi_base.specs.Record.Operations.{statement, is_am, receiver}

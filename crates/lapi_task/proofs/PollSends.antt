@@ -16,7 +16,7 @@ use Rattle.lapi_base.specs.Packet.Layout.{window_of}
 use Rattle.lapi_base.specs.Record.Operations.{numbers_below}
 use Rattle.lapi_base.specs.Record.Packets.{data_packet}
 use Rattle.lapi_base.specs.Record.Wires.{Run, numbered, base, to_send, packets, is_number, has_number, is_acked}
-use Rattle.lapi_base.specs.Record.Acts.{poll, copy_each, ready, followed}
+use Rattle.lapi_base.specs.Record.Acts.{poll, copy_each, ready}
 use Rattle.lapi_base.specs.Record.Wires as on_wires
 use Rattle.lapi_base.specs.Laws.Locality.{copied, polled}
 use Rattle.lapi_base.specs.Record.WorldView.{IsRecord}
@@ -256,7 +256,7 @@ module _ (script : Script) (rules : Rules) (valid : ValidScript script) (t : ℕ
             rules_valid = stands.calls.rules_valid;
             sizes = ap (λ (x : Task). x.sizes) rest ∙ stands.calls.sizes;
             statements = ap (λ (x : Task). x.statements) rest ∙ stands.calls.statements;
-            header_count = ap (λ (x : Task). x.header_count) rest ∙ stands.calls.header_count;
+            limits = ap (λ (x : Task). x.limits) rest ∙ stands.calls.limits;
           };
           holds = subst (λ (x : State). HoldsFor script rules t x (copy_each r.journal (ready script r.journal t))) (sym (ap (λ (x : Task). x.state) rest)) stands.holds;
           sender_count = sends.size ∙ stands.sender_count;

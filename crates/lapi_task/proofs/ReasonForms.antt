@@ -17,7 +17,37 @@ use Rattle.lapi_base.specs.Record.Operations as operations
 use Rattle.lapi_base.specs.Record.Refusals.{first_reason, refusal_by, refusal_of}
 use Rattle.lapi_base.specs.Record.Valid.{ValidStatement}
 use Rattle.lapi_base.proofs.ListLaws.{all-or}
-use Rattle.lapi_task.specs.Supported.{IsSupported, names_no_counter, reason_of}
+use Rattle.lapi_base.specs.declared.sizes.Sizes.{Sizes}
+use Rattle.lapi_base.specs.declared.refusal.Refusal.{Refusal}
+use Rattle.lapi_base.specs.Record.Refusals.{counters_of, round_passed, option_any}
+use Rattle.lapi_base.specs.Record.Operations.{table_rounds, is_table}
+use Rattle.lapi_base.specs.Record.Names.{happened, Passed}
+use Rattle.lapi_base.proofs.BelowLaws.{below-none}
+use Rattle.std.specs.Prelude.{not, slice_get}
+use Rattle.std.specs.List.{list_any}
+use Rattle.lapi_task.proofs.Forms.{forms}
+use Rattle.lapi_task.specs.Supported.{IsSupported}
+
+-- a counter that the statement names isn't there
+abbrev pub names_no_counter : Sizes → Statement → Bool
+names_no_counter sizes s = list_any (λ c. not (nat_lt c sizes.counters)) (counters_of s)
+
+-- why a statement of these forms is refused
+abbrev pub reason_of : Sizes → Statement → Option Refusal
+reason_of sizes (statements.Store at bytes) = cond (nat_le (at + length bytes) sizes.memory) None (Some BadOriginRange)
+reason_of sizes (statements.Put target (Plain to) from len tgt org cmpl) =
+    cond (nat_lt target sizes.tasks)
+    (cond (nat_le (to + len) sizes.memory)
+    (cond (nat_le (from + len) sizes.memory)
+    (cond (names_no_counter sizes (statements.Put target (Plain to) from len tgt org cmpl)) (Some BadCounter)
+    (cond (nat_le len (longest (layout_of sizes.layout))) None (Some TooLong)))
+    (Some BadOriginRange))
+    (Some BadTargetRange))
+    (Some BadTask)
+reason_of sizes (statements.Wait counter value) = cond (nat_lt counter sizes.counters) None (Some BadCounter)
+reason_of sizes (statements.Set counter value) = cond (nat_lt counter sizes.counters) None (Some BadCounter)
+reason_of sizes (statements.Read counter) = cond (nat_lt counter sizes.counters) None (Some BadCounter)
+reason_of sizes _ = None
 
 lt-is-not-le : (a b : ℕ) → nat_lt a b ≡ not (nat_le b a)
 lt-is-not-le a b =
@@ -81,3 +111,23 @@ few-statements script p a = all-or (λ (list : List Statement). length list ≤ 
     firsts : (lists : List (List Statement)) → AllByRecursion (λ (list : List Statement). (length list ≤ 512) × AllByRecursion ValidStatement list) lists → AllByRecursion (λ (list : List Statement). length list ≤ 512) lists
     firsts [] h = tt
     firsts (x ∷ xs) h = (h.0.0, firsts xs h.1)
+
+-- No round of addresses was passed, since no task has one.
+plain : (script : Script) (s : Statement) → is_built_statement s ≡ true → is_table script s ≡ false
+unfolding is_built_statement
+plain script (statements.Put target to from len tgt org cmpl) h = refl
+plain script (statements.Store at bytes) h = refl
+plain script (statements.Wait counter value) h = refl
+plain script (statements.Set counter value) h = refl
+plain script (statements.Read counter) h = refl
+plain script _ h = absurd (false≢true h)
+
+no-table : (script : Script) → IsSupported script → (a i : ℕ) → is_table script (statement script a i) ≡ false
+no-table script p a i = ⊎_elim (plain script (statement script a i)) (λ (e : statement script a i ≡ statements.Fence). ap (is_table script) e) (forms script p a i)
+
+no-rounds : (script : Script) → IsSupported script → (a : ℕ) → table_rounds script a ≡ []
+unfolding table_rounds
+no-rounds script p a = below-none (length (operations.statements script a)) (λ i. is_table script (statement script a i)) (λ i _. no-table script p a i)
+
+pub none-passed : (script : Script) → IsSupported script → (J : List Event) (a round : ℕ) → false ≡ round_passed script J a round
+none-passed script p J a round = sym (ap (λ (rounds : List ℕ). option_any (λ i. happened (Passed a i) J) (slice_get rounds round)) (no-rounds script p a))

@@ -31,7 +31,7 @@ use Rattle.lapi_parts.proofs.Deliveries.{deliveries-write, deliveries-announce}
 use Rattle.lapi_parts.proofs.WholeMessages.{assembled-bytes}
 use Rattle.lapi_task.specs.declared.state.State.{State}
 use Rattle.lapi_reassembly.specs.declared.message.Message.{Message}
-use Rattle.lapi_task.specs.Landed.{memory_after, counters_after, HasArrived}
+use Rattle.lapi_task.specs.Landed.{memory_after, counters_after}
 use Rattle.lapi_task.specs.StandsFor.{HoldsFor, is_uncopied}
 use Rattle.lapi_task.proofs.ReceiveCounts.{announced-length, announced-at}
 use Rattle.lapi_task.proofs.ReceiveEvents.{come, came_bytes, is_all, DidSame, uncopied-same}

@@ -1,6 +1,6 @@
 -- What the delivery of a data packet makes of its task.
-use Rattle.std.proofs.Common.{◌≡◌, ◌≤◌, ◌⊎◌, ℕ, ◌<◌, ◌^◌, ◌==◌, Bool, true, false, cond, ◌&&◌, ◌||◌, List, [], ◌∷◌, ◌++◌, map, length, slice_set, Option, Some, None, refl, sym, ap, ◌∙◌, subst, ⊎_elim, arith}
-use Rattle.std.specs.Prelude.{slice_get, slice_index}
+use Rattle.std.proofs.Common.{◌≡◌, ◌≤◌, ◌⊎◌, ℕ, ◌<◌, ◌==◌, Bool, true, false, cond, ◌&&◌, ◌||◌, List, [], ◌∷◌, ◌++◌, map, length, slice_set, Option, Some, None, refl, sym, ap, ◌∙◌, subst, ⊎_elim, arith}
+use Rattle.std.specs.Prelude.{slice_get}
 use Rattle.std.specs.List.{list_any}
 use Rattle.std.proofs.lemmas.Bool.{cond-true, cond-false, cond_both, cases_eq, and_from, and_left, and_right, ne_eqb}
 use Rattle.std.specs.Vec.{with_items}
@@ -13,7 +13,6 @@ use Rattle.lapi_base.specs.declared.event.Event.{Event}
 use Rattle.lapi_base.specs.declared.event.Event.TheVariants.{Copy, Land}
 use Rattle.lapi_base.specs.declared.head.Head.{Head}
 use Rattle.lapi_base.specs.declared.head.Head.TheVariants as heads
-use Rattle.lapi_base.specs.declared.message.Leg.TheVariants.{Note}
 use Rattle.lapi_base.specs.declared.message.MsgName.{MsgName}
 use Rattle.lapi_base.specs.declared.packet.Packet.{Packet}
 use Rattle.lapi_base.specs.declared.packet.Packet.TheVariants.{Data}
@@ -22,7 +21,6 @@ use Rattle.lapi_base.specs.declared.reply.Reply.TheVariants.{Did}
 use Rattle.lapi_base.specs.Record.Arrived.{ack_of}
 use Rattle.lapi_base.specs.Record.Atomic.{Atomic}
 use Rattle.lapi_base.specs.Laws.Entries.{carried}
-use Rattle.lapi_base.specs.Record.Names.{message}
 use Rattle.lapi_base.specs.Record.Operations.{statement, sender, receiver, fragment_count, message_length}
 use Rattle.lapi_base.specs.Record.Wires.{Run, is_number, has_number, has_ack, is_delivered}
 use Rattle.lapi_base.specs.Record.Acts.{followed, first_delivery, hand_over, deliver_entry, deliver}
@@ -57,12 +55,12 @@ use Rattle.lapi_base.specs.Packet.Layout.{layout_of, unit, unit_of}
 use Rattle.lapi_base.specs.Record.Fragments.{fragments_in}
 use Rattle.lapi_parts.proofs.FirstLayout.{first-unit}
 use Rattle.lapi_base.specs.Record.Valid.{ValidRules}
-use Rattle.lapi_task.specs.StandsFor.{SenderAt, ReceiverAt, HoldsFor}
+use Rattle.lapi_task.specs.StandsFor.{SenderAt, ReceiverAt}
 use Rattle.lapi_task.proofs.ArrivingFits.{arriving-fits}
 use Rattle.lapi_task.proofs.ReceiveEvents.{come, come-is, come-events, came_bytes, is_all, come-mild, mild-all}
 use Rattle.lapi_task.proofs.ReceiveHolds.{came-length, holds-arrived}
 use Rattle.lapi_task.proofs.ReceiveKinds.{IsKind, IsPut, IsNote, Comes, comes as what-comes, is-kind}
-use Rattle.lapi_task.proofs.ReceiveLinks.{told, Settled, notice-is, notice-carries, notice-ends, ends-come, ends-length}
+use Rattle.lapi_task.proofs.ReceiveLinks.{told, Settled, notice-is, notice-carries, ends-come, ends-length}
 use Rattle.lapi_task.proofs.SenderLaws.{bytes-here, bytes-there}
 use Rattle.lapi_task.proofs.Unanswered.{still-unanswered}
 use Rattle.lapi_task.proofs.StepMemories.{memory-length}
@@ -72,7 +70,7 @@ use Rattle.lapi_parts.proofs.FirstLayout.{holds-nothing, told-at-once}
 pub record KeepsRest (before after : Task) : Type 0 where
   pub sizes : after.sizes ≡ before.sizes
   pub statements : after.statements ≡ before.statements
-  pub header_count : after.header_count ≡ before.header_count
+  pub limits : after.limits ≡ before.limits
   pub state : after.state ≡ before.state
   pub senders : after.senders.items ≡ before.senders.items
 
@@ -304,7 +302,7 @@ module _ (script : Script) (rules : Rules) where
               rules_valid = s.calls.rules_valid;
               sizes = ap (λ (y : Task). y.sizes) own.rest ∙ g.sizes ∙ s.calls.sizes;
               statements = ap (λ (y : Task). y.statements) own.rest ∙ g.statements ∙ s.calls.statements;
-              header_count = ap (λ (y : Task). y.header_count) own.rest ∙ g.header_count ∙ s.calls.header_count;
+              limits = ap (λ (y : Task). y.limits) own.rest ∙ g.limits ∙ s.calls.limits;
             };
             holds = holds-arrived script rules t r a k p at.recorded entry c kind then (ap (λ (y : Run). y.journal) delivered) same task.state after.state s.holds lands;
             sender_count = ap length ends ∙ ends-length script rules (unit_of script) t a known whole p.name p.head bytes task.senders.items ∙ s.sender_count;

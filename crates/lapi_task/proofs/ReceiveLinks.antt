@@ -1,8 +1,8 @@
 -- The ends of a task's links after a packet came.
-use Rattle.std.proofs.Common.{◌≡◌, ◌⊎◌, ℕ, ◌+◌, ◌<◌, ◌≤◌, ◌==◌, Bool, true, false, ◌&&◌, List, [], ◌∷◌, ◌++◌, length, slice_set, Option, Some, None, refl, sym, ap, ◌∙◌, subst, ⊎_elim, arith}
-use Rattle.std.specs.Prelude.{slice_get, option_map, unwrap_or}
-use Rattle.std.proofs.lemmas.Bool.{cond-false, cond-true, cases_lt, cases_eq, and_right, ne_eqb}
-use Rattle.std.proofs.lemmas.List.{length-append, length-set}
+use Rattle.std.proofs.Common.{◌≡◌, ◌⊎◌, ℕ, ◌<◌, Bool, true, false, List, [], ◌∷◌, length, slice_set, Option, Some, None, refl, sym, ap, ◌∙◌, subst, ⊎_elim}
+use Rattle.std.specs.Prelude.{slice_get, unwrap_or}
+use Rattle.std.proofs.lemmas.Bool.{cond-true}
+use Rattle.std.proofs.lemmas.List.{length-set}
 use Rattle.lapi_base.specs.declared.script.Script.{Script}
 use Rattle.lapi_base.specs.declared.rule.Rules.{Rules}
 use Rattle.lapi_base.specs.declared.event.Event.{Event}
@@ -12,24 +12,18 @@ use Rattle.lapi_base.specs.declared.head.Head.TheVariants as heads
 use Rattle.lapi_base.specs.declared.head.NoteOp.{NoteOp}
 use Rattle.lapi_base.specs.declared.message.Leg.TheVariants.{Go, Note}
 use Rattle.lapi_base.specs.declared.message.MsgName.{MsgName}
-use Rattle.lapi_base.specs.declared.packet.Packet.TheVariants.{Data}
 use Rattle.lapi_base.specs.Record.Atomic.{Atomic}
-use Rattle.lapi_base.specs.Record.Below.{below}
 use Rattle.lapi_base.specs.Laws.Entries.{carried}
-use Rattle.lapi_base.specs.Record.Fragments.{fragments_in, fragment_bytes}
-use Rattle.lapi_base.specs.Packet.Layout.{Layout, First, Second, layout_of, unit, unit_of}
+use Rattle.lapi_base.specs.Packet.Layout.{unit, unit_of}
 use Rattle.lapi_base.specs.Record.Names.{message, name_eq}
-use Rattle.lapi_base.specs.Record.Operations.{numbers_below, statement, target, from_by, to_by, sender, receiver, message_length, fragment_count, fragments}
-use Rattle.lapi_base.specs.Record.Packets.{data_packet, head_by}
+use Rattle.lapi_base.specs.Record.Operations.{statement, target, from_by, to_by, sender, receiver, message_length}
+use Rattle.lapi_base.specs.Record.Packets.{head_by}
 use Rattle.lapi_base.specs.Record.Wires.{Run, numbered, is_sent, is_acked}
 use Rattle.lapi_base.specs.Record.Acts.{followed}
 use Rattle.lapi_base.specs.Record.Values.{values}
-use Rattle.lapi_base.specs.Packet.PacketBytes as written
-use Rattle.lapi_base.proofs.ListLaws.{get-after, get-before, get-past, get-set, get-set-other}
 use Rattle.lapi_base.proofs.NameLaws.{name_eq-refl}
 use Rattle.lapi_laws.proofs.Backward.{Atomic-tail}
-use Rattle.lapi_link.specs.Sender.{SendingEnd, appended}
-use Rattle.lapi_window.specs.SendWindow.{sent_count, bytes_of}
+use Rattle.lapi_link.specs.Sender.{SendingEnd}
 use Rattle.lapi_task.specs.Landed.{note_name, note_of, with_empty_at, ends_after, events_of}
 use Rattle.lapi_task.specs.Outgoing.{outgoing, with_message}
 use Rattle.lapi_task.proofs.Forms.{Put, statement_of}
@@ -37,8 +31,7 @@ use Rattle.lapi_task.proofs.MessageCopies.{copied-ends}
 use Rattle.std.proofs.lemmas.Option.{slice_get_within}
 use Rattle.lapi_task.specs.Sends.{packet_at, SendsFor}
 use Rattle.lapi_task.specs.StandsFor.{SenderAt}
-use Rattle.lapi_laws.proofs.Places.{fragments-length}
-use Rattle.lapi_task.proofs.Packets.{packet-none, packet-same, packet-stays, numbered-own, copied_packet, packet-new}
+use Rattle.lapi_task.proofs.Packets.{packet-same}
 use Rattle.lapi_task.proofs.ReceiveEvents.{come}
 use Rattle.lapi_task.proofs.ReceiveKinds.{IsPut, IsNote}
 

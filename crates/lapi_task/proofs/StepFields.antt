@@ -26,7 +26,7 @@ use Rattle.lapi_base.proofs.NameLaws.{happened-head, happened-other}
 use Rattle.lapi_base.proofs.TestLaws.{eqb-refl}
 use Rattle.lapi_task.specs.declared.state.State.{State}
 use Rattle.lapi_base.specs.Packet.Layout.{sizes_of}
-use Rattle.lapi_task.specs.Supported.{reason_of}
+use Rattle.lapi_task.proofs.ReasonForms.{reason_of}
 use Rattle.lapi_task.specs.StandsFor.{HoldsFor, is_uncopied}
 use Rattle.lapi_task.specs.Steps.{MayStep, stored, counters_set, with_read, with_uncopied, IsRefused, IsIssued, PassesWait}
 use Rattle.lapi_task.proofs.StepMemories.{memory-none, memory-written, memory-length}

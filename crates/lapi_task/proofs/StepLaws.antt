@@ -32,16 +32,20 @@ use Rattle.lapi_task.specs.declared.outcome.Outcome.{Outcome}
 use Rattle.lapi_task.specs.declared.state.State.{State}
 use Rattle.lapi_task.specs.declared.task.Task.{Task}
 use Rattle.lapi_base.specs.Packet.Layout.{sizes_of}
-use Rattle.lapi_base.specs.declared.sizes.Sizes.{Sizes}
-use Rattle.lapi_task.specs.Supported.{IsSupported, reason_of}
+use Rattle.lapi_task.specs.Supported.{IsSupported}
+use Rattle.lapi_calls.specs.Reasons.{IsRefusalAfter}
 use Rattle.lapi_task.specs.Sends.{packet_at, SendsFor}
-use Rattle.lapi_task.specs.StandsFor.{SenderAt, ReceiverAt, HoldsFor, StandsFor}
+use Rattle.lapi_task.specs.StandsFor.{SenderAt, HoldsFor, StandsFor}
 use Rattle.lapi_task.specs.HasEffect.{IsAt, HasEffect}
 use Rattle.lapi_task.specs.Steps.{MayStep, Advances, IsRefused, IsIssued, PassesWait, IsBlocked}
 use Rattle.lapi_task.proofs.Forms.{statement-is, statement-built}
-use Rattle.lapi_task.proofs.ReasonForms.{why-is, few-statements}
+use Rattle.lapi_task.proofs.ReasonForms.{reason_of, none-passed, why-is, few-statements}
 use Rattle.lapi_task.proofs.StepMemories.{memory-length}
 use Rattle.lapi_task.proofs.StepFields.{suits, refused-holds, passed-holds, issued-holds}
+
+-- why a task without addresses refuses a statement, if it does
+abbrev pub FindsReason : Task → Statement → Option Refusal → Type 0
+FindsReason task s x = (o : Option Refusal) × IsRefusalAfter task.limits (λ round. false) (λ round d. 0) task.state.number s o × (o ≡ x)
 
 module _ (script : Script) (rules : Rules) where
   -- the record with an event and a reply more
@@ -84,7 +88,7 @@ module _ (script : Script) (rules : Rules) where
     events = e ∷ [];
     entries = [];
     stands = record {
-      calls = record { supported = h.calls.supported; rules_valid = h.calls.rules_valid; sizes = h.calls.sizes; statements = h.calls.statements; header_count = h.calls.header_count };
+      calls = record { supported = h.calls.supported; rules_valid = h.calls.rules_valid; sizes = h.calls.sizes; statements = h.calls.statements; limits = h.calls.limits };
       holds = holds;
       sender_count = h.sender_count;
       receiver_count = h.receiver_count;
@@ -170,9 +174,6 @@ module _ (script : Script) (rules : Rules) where
       own : (o : Option Statement) → slice_get before.statements place ≡ o → slice_get (operations.statements script t) place ≡ o
       own o h = ap (λ (list : List Statement). slice_get list place) (sym at.stands.calls.statements) ∙ h
 
-      sized : (s : Statement) (o : Option Refusal) → reason_of before.sizes s ≡ o → reason_of (sizes_of script) s ≡ o
-      sized s o h = ap (λ (z : Sizes). reason_of z s) (sym at.stands.calls.sizes) ∙ h
-
       named : (f : ℕ → ℕ → Event) (after : State) (old new : List Event) → Advances (f before.state.number place) before.state after old new → Advances (f t place) before.state after old new
       named f after old new = subst (λ n. Advances (f n place) before.state after old new) at.stands.holds.number
 
@@ -198,24 +199,32 @@ module _ (script : Script) (rules : Rules) where
         within : place < length (operations.statements script t)
         within = slice_get_within (operations.statements script t) place s here
 
+        -- The reason that was found is the record's, since no address is known.
+        sized : (o : Option Refusal) → FindsReason before s o → reason_of (sizes_of script) s ≡ o
+        sized o h =
+            sym (why-is script rules r.journal t place s is built)
+            ∙ ap (λ (a : ℕ). refusal_of script rules r.journal a place) (sym at.stands.holds.number)
+            ∙ sym (h.1 script rules r.journal place at.stands.calls.limits (record { is_statement = sym (ap (λ (a : ℕ). statement script a place) at.stands.holds.number ∙ is); are_given = λ round d known. absurd (false≢true known) }) (none-passed script p r.journal before.state.number))
+            ∙ h.2
+
         pub next-fits : place + 1 < 2 ^ 32
         next-fits = let few = few-statements script p t in let l = within in omega (arith, few, l)
 
-        pub is-suited : reason_of before.sizes s ≡ None → MayStep s before.state.memory before.state.counters
-        is-suited h = suits script rules s before.state.memory before.state.counters (ap length at.stands.holds.memory ∙ memory-length script rules r.journal t) at.stands.holds.counter_count built (sized s None h)
+        pub is-suited : FindsReason before s None → MayStep s before.state.memory before.state.counters
+        is-suited h = suits script rules s before.state.memory before.state.counters (ap length at.stands.holds.memory ∙ memory-length script rules r.journal t) at.stands.holds.counter_count built (sized None h)
 
         -- It is refused;
-        refused-step : (reason : Refusal) → reason_of before.sizes s ≡ Some reason → step script rules r t ≡ stepped r (Refuse t place reason)
-        refused-step reason h = step-some r t place s at.stands.holds.next here ∙ ap (λ o. add_event script rules r (unless_refused script rules r t place o)) (sized s (Some reason) h)
+        refused-step : (reason : Refusal) → FindsReason before s (Some reason) → step script rules r t ≡ stepped r (Refuse t place reason)
+        refused-step reason h = step-some r t place s at.stands.holds.next here ∙ ap (λ o. add_event script rules r (unless_refused script rules r t place o)) (sized (Some reason) h)
 
-        pub refused-does : (reason : Refusal) (after : State) (old new : Outcome) → reason_of before.sizes s ≡ Some reason → new.entries ≡ old.entries → IsRefused reason before.state after old.events new.events → HasEffect script rules t r (step script rules r t) (record before { state = after }) old new
+        pub refused-does : (reason : Refusal) (after : State) (old new : Outcome) → FindsReason before s (Some reason) → new.entries ≡ old.entries → IsRefused reason before.state after old.events new.events → HasEffect script rules t r (step script rules r t) (record before { state = after }) old new
         refused-does reason after old new h same g =
             subst (λ x. HasEffect script rules t r x (record before { state = after }) old new) (sym (refused-step reason h))
             (does-event t r (Refuse t place reason) before after old new (refuse-quiet t place reason r.journal) at.stands
             (named (λ n i. Refuse n i reason) after old.events new.events g.past) same
             (refused-holds script rules t r.journal before.state after old.events new.events reason at.stands.holds g))
 
-        pub refused-replies : (reason : Refusal) → reason_of before.sizes s ≡ Some reason → (step script rules r t).replies ≡ r.replies ++ Did ∷ []
+        pub refused-replies : (reason : Refusal) → FindsReason before s (Some reason) → (step script rules r t).replies ≡ r.replies ++ Did ∷ []
         refused-replies reason h = ap (λ (x : Run). x.replies) (refused-step reason h)
 
         -- it is issued;
@@ -225,21 +234,21 @@ module _ (script : Script) (rules : Rules) where
             let sound = record-sound script rules r at.recorded in
             false_from_ne_true _ (λ d. both_ways _ (at.stands.holds.ahead place (omega arith)) (closed script rules (Copied (message t place Go)) r.journal sound.atomic d).0)
 
-        issued-step : ((counter value : ℕ) → s ≡ statements.Wait counter value → ⊥) → reason_of before.sizes s ≡ None → step script rules r t ≡ stepped r (Issue t place)
-        issued-step no-wait h = step-by r t place s at.stands.holds.next here (sized s None h) ∙ ap (add_event script rules r) (issues r t place s built no-wait)
+        issued-step : ((counter value : ℕ) → s ≡ statements.Wait counter value → ⊥) → FindsReason before s None → step script rules r t ≡ stepped r (Issue t place)
+        issued-step no-wait h = step-by r t place s at.stands.holds.next here (sized None h) ∙ ap (add_event script rules r) (issues r t place s built no-wait)
 
-        pub issued-does : (after : State) (old new : Outcome) → ((counter value : ℕ) → s ≡ statements.Wait counter value → ⊥) → reason_of before.sizes s ≡ None → new.entries ≡ old.entries → IsIssued s before.state after old.events new.events → HasEffect script rules t r (step script rules r t) (record before { state = after }) old new
+        pub issued-does : (after : State) (old new : Outcome) → ((counter value : ℕ) → s ≡ statements.Wait counter value → ⊥) → FindsReason before s None → new.entries ≡ old.entries → IsIssued s before.state after old.events new.events → HasEffect script rules t r (step script rules r t) (record before { state = after }) old new
         issued-does after old new no-wait h same g =
             subst (λ x. HasEffect script rules t r x (record before { state = after }) old new) (sym (issued-step no-wait h))
             (does-event t r (Issue t place) before after old new (issue-quiet t place r.journal) at.stands
             (named Issue after old.events new.events g.past) same
             (issued-holds script rules t r.journal before.state at.stands.holds after old.events new.events s is built (is-suited h) within fresh g))
 
-        pub issued-replies : ((counter value : ℕ) → s ≡ statements.Wait counter value → ⊥) → reason_of before.sizes s ≡ None → (step script rules r t).replies ≡ r.replies ++ Did ∷ []
+        pub issued-replies : ((counter value : ℕ) → s ≡ statements.Wait counter value → ⊥) → FindsReason before s None → (step script rules r t).replies ≡ r.replies ++ Did ∷ []
         issued-replies no-wait h = ap (λ (x : Run). x.replies) (issued-step no-wait h)
 
       -- or it is a wait, which passes or not.
-      module _ (counter value : ℕ) (found : slice_get before.statements place ≡ Some (statements.Wait counter value)) (accepted : reason_of before.sizes (statements.Wait counter value) ≡ None) where
+      module _ (counter value : ℕ) (found : slice_get before.statements place ≡ Some (statements.Wait counter value)) (accepted : FindsReason before (statements.Wait counter value) None) where
         wait : Statement
         wait = statements.Wait counter value
 
@@ -251,7 +260,7 @@ module _ (script : Script) (rules : Rules) where
 
         waited : (b : Bool) → nat_le value (count script rules r.journal t counter) ≡ b → step script rules r t ≡ add_event script rules r (event_if script rules b (Pass t place))
         waited b h =
-            step-by r t place (statements.Wait counter value) at.stands.holds.next (here (statements.Wait counter value) found) (sized (statements.Wait counter value) None accepted)
+            step-by r t place (statements.Wait counter value) at.stands.holds.next (here (statements.Wait counter value) found) (sized (statements.Wait counter value) found None accepted)
             ∙ ap (λ x. add_event script rules r (event_if script rules x (Pass t place))) h
 
         passed-step : value ≤ slice_index before.state.counters counter → step script rules r t ≡ stepped r (Pass t place)

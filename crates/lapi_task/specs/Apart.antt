@@ -10,7 +10,6 @@ use Rattle.lapi_base.specs.Record.TaskPart.{actor, part_at}
 use Rattle.lapi_base.specs.Record.Valid.{ValidAct}
 use Rattle.lapi_task.specs.declared.task.Task.{Task}
 use Rattle.lapi_task.specs.HasEffect.{IsAt}
-use Rattle.lapi_task.specs.Supported.{IsSupported}
 use Rattle.lapi_task.specs.StandsFor.{StandsFor}
 
 -- where task t stands for a record, it stands for the one after a line at another task

@@ -17,8 +17,6 @@ use Rattle.lapi_task.specs.declared.copy.DataCopy.{DataCopy}
 use Rattle.lapi_task.specs.declared.task.Task.{Task}
 use Rattle.lapi_task.specs.Counting.{announced}
 use Rattle.lapi_task.specs.Outgoing.{with_message, AreSpelled}
-use Rattle.lapi_task.specs.Supported.{IsSupported}
-use Rattle.lapi_base.specs.Record.Valid.{ValidRules}
 use Rattle.lapi_base.specs.declared.head.Head.{Head}
 use Rattle.lapi_base.specs.declared.statement.Statement.{Statement}
 use Rattle.lapi_base.specs.declared.statement.Statement.TheVariants as statements

@@ -10,14 +10,12 @@ use Rattle.lapi_base.specs.declared.reply.Bad.{Bad}
 use Rattle.lapi_base.specs.declared.wire.WireEntry.{WireEntry}
 use Rattle.lapi_base.specs.Record.Wires.{Run}
 use Rattle.lapi_base.specs.Record.Acts.{followed}
-use Rattle.lapi_base.specs.Record.Valid.{ValidRules}
 use Rattle.lapi_base.specs.Record.WorldView.{IsRecord}
 use Rattle.lapi_base.specs.Packet.PacketBytes as written
 use Rattle.lapi_task.specs.declared.outcome.Outcome.{Outcome}
 use Rattle.lapi_task.specs.declared.received.Received.{Received}
 use Rattle.lapi_task.specs.declared.received.Received.TheVariants as received
 use Rattle.lapi_task.specs.declared.task.Task.{Task}
-use Rattle.lapi_task.specs.Supported.{IsSupported}
 use Rattle.lapi_task.specs.StandsFor.{StandsFor}
 
 -- the bytes of the entries for the wire to task b

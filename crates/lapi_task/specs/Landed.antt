@@ -1,5 +1,5 @@
 -- What the arrival of a packet makes of a task.
-use Rattle.std.specs.Prelude.{◌≡◌, ℕ, ◌<◌, ◌^◌, true, List, [], ◌∷◌, ◌++◌, length, slice_get, slice_set, Option, Some, None}
+use Rattle.std.specs.Prelude.{◌≡◌, ℕ, ◌<◌, true, List, [], ◌∷◌, ◌++◌, length, slice_get, slice_set, Option, Some, None}
 use Rattle.lapi_base.specs.declared.event.Event.{Event}
 use Rattle.lapi_base.specs.declared.event.Event.TheVariants.{Land}
 use Rattle.lapi_base.specs.declared.head.Head.{Head}
@@ -13,14 +13,12 @@ use Rattle.lapi_base.specs.declared.packet.Packet.TheVariants.{Data}
 use Rattle.lapi_base.specs.declared.script.Script.{Script}
 use Rattle.lapi_base.specs.Record.HeadSays.{noted}
 use Rattle.lapi_base.specs.Record.Names.{message}
-use Rattle.lapi_base.specs.Packet.Spelling.{HasSpelling}
-use Rattle.lapi_base.specs.Packet.PacketBytes as written
 use Rattle.lapi_memory.specs.TaskMemory as memories
 use Rattle.lapi_reassembly.specs.declared.message.Message.{Message}
 use Rattle.lapi_link.specs.declared.arrival.Arrival.{Arrival}
 use Rattle.lapi_link.specs.declared.arrival.Arrival.TheVariants.{Whole, Repeat, First, More, FirstWhole}
 use Rattle.lapi_link.specs.Receiver.{ReceivingEnd, ReceivesFor, MayArrive, is_partial, answer_of}
-use Rattle.lapi_link.specs.Sender.{SendingEnd, appended}
+use Rattle.lapi_link.specs.Sender.{SendingEnd}
 use Rattle.lapi_task.specs.Outgoing.{with_message, AreSpelled}
 use Rattle.lapi_task.specs.StandsFor.{task_unit}
 use Rattle.lapi_task.specs.declared.task.Task.{Task}
@@ -61,14 +59,14 @@ abbrev pub head_events : MsgName → Head → List Event
 head_events m (heads.Put at tgt cmpl) = Land m ∷ noted m cmpl
 head_events m _ = Land m ∷ []
 
--- where its places and its counters are there, and its notice has a spelling.
+-- where its places and its counters are there, and its notice has a spelling. No other message comes yet.
 abbrev pub HeadMayLand : (unit t a : ℕ) → MsgName → Head → (bytes memory counters : List ℕ) → Type 0
 HeadMayLand unit t a m (heads.Put at tgt cmpl) bytes memory counters =
     memories.IsWithin memory at (length bytes)
     × ((c : ℕ) → tgt ≡ Some c → c < length counters)
     × ((c : ℕ) → cmpl ≡ Some c → AreSpelled unit (note_of t a m c) [])
 HeadMayLand unit t a m (heads.Note op cmpl) bytes memory counters = cmpl < length counters
-HeadMayLand unit t a m _ bytes memory counters = Unit {0}
+HeadMayLand unit t a m _ bytes memory counters = ⊥
 
 -- the message that is whole with a packet, whatever was answered to its header
 abbrev pub landed : Arrival → Option Message

@@ -15,6 +15,7 @@ use Rattle.lapi_base.specs.Record.Wires.{Run}
 use Rattle.lapi_base.specs.Record.Refusals.{next, refusals}
 use Rattle.lapi_base.specs.Record.Values.{memory_bytes}
 use Rattle.lapi_link.specs.Receiver.{ReceivingEnd, ReceivesFor, IsUnanswered}
+use Rattle.lapi_calls.specs.Limits.{limits_of}
 use Rattle.lapi_link.specs.Sender.{SendingEnd}
 use Rattle.lapi_base.specs.Packet.Layout.{layout_of, unit, sizes_of}
 use Rattle.lapi_base.specs.Record.Valid.{ValidRules}
@@ -62,13 +63,13 @@ pub record HoldsFor (script : Script) (rules : Rules) (t : ℕ) (state : State) 
 abbrev pub task_unit : Task → ℕ
 task_unit task = unit (layout_of task.sizes.layout)
 
--- it has its statements, which are of forms that are performed, the script's sizes and the number of header handlers;
+-- it has its statements, which are of forms that are performed, and the script's sizes and limits;
 pub record HasCalls (script : Script) (rules : Rules) (t : ℕ) (task : Task) : Type 0 where
   pub supported : IsSupported script
   pub rules_valid : ValidRules rules
   pub sizes : task.sizes ≡ sizes_of script
   pub statements : task.statements ≡ statements script t
-  pub header_count : task.header_count ≡ length rules.headers
+  pub limits : task.limits ≡ limits_of script (length rules.headers)
 
 -- and the ends of its links are those of the record.
 pub record StandsFor (script : Script) (rules : Rules) (t : ℕ) (task : Task) (r : Run) : Type 0 where

@@ -1,10 +1,11 @@
 -- What a statement changes in its task.
-use Rattle.std.specs.Prelude.{◌≡◌, ℕ, ◌+◌, ◌-◌, ◌<◌, ◌≤◌, List, [], ◌∷◌, ◌++◌, length, slice_index, slice_set}
+use Rattle.std.specs.Prelude.{◌≡◌, ℕ, ◌+◌, ◌-◌, ◌<◌, ◌≤◌, cond, List, [], ◌∷◌, ◌++◌, length, slice_index, slice_set}
 use Rattle.lapi_base.specs.declared.statement.Statement.{Statement}
-use Rattle.lapi_base.specs.declared.statement.Statement.TheVariants.{Store, Put, Wait, Set, Read}
+use Rattle.lapi_base.specs.declared.statement.Statement.TheVariants.{Store, Wait, Set, Read}
 use Rattle.lapi_base.specs.declared.event.Event.{Event}
 use Rattle.lapi_base.specs.declared.event.Event.TheVariants.{Issue, Refuse, Pass}
 use Rattle.lapi_base.specs.declared.refusal.Refusal.{Refusal}
+use Rattle.lapi_base.specs.Record.Operations.{is_data}
 use Rattle.lapi_memory.specs.TaskMemory.{written, IsWithin}
 use Rattle.lapi_task.specs.declared.state.State.{State}
 
@@ -30,8 +31,7 @@ with_read (Read counter) counters i before = before ++ (i, slice_index counters 
 with_read _ counters i before = before
 
 abbrev pub with_uncopied : Statement → (i : ℕ) → List ℕ → List ℕ
-with_uncopied (Put target to from len tgt org cmpl) i before = before ++ i ∷ []
-with_uncopied _ i before = before
+with_uncopied s i before = cond (is_data s) (before ++ i ∷ []) before
 
 -- an event was added, and the task is past a statement
 pub record Advances (e : Event) (before after : State) (old new : List Event) : Type 0 where

@@ -7,7 +7,6 @@ mod law;
 mod note;
 mod outcome;
 mod packet;
-mod reason;
 mod received;
 mod state;
 mod statement;

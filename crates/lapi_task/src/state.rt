@@ -61,8 +61,10 @@ impl State {
     pub fn wait(&mut self, counter: u32, value: u32, events: &mut Events) -> Result<bool, Memory>
         requires next { self.old.next + 1 < 2 ^ 32 }
         requires counter { counter < length self.old.counters }
-        ensures passed { IfOk result (λ is_past. IsTrue is_past → PassesWait counter value self.old self.new events.old events.new) }
-        ensures blocked { IfOk result (λ is_past. is_past ≡ false → IsBlocked counter value self.old self.new events.old events.new) }
+        ensures passed { IfOk result (λ is_past. IsTrue is_past
+            → PassesWait counter value self.old self.new events.old events.new) }
+        ensures blocked { IfOk result (λ is_past. is_past ≡ false
+            → IsBlocked counter value self.old self.new events.old events.new) }
     {
         if !self.counters.try_wait(counter, value) {
             return Ok(false);
@@ -83,13 +85,21 @@ impl State {
     {
         match statement {
             Statement::Store { at, bytes } => self.memory.write(*at, bytes.as_slice()),
-            Statement::Put { .. } => self.uncopied.push_back(self.next)?,
             Statement::Set { counter, value } => self.counters.set(*counter, *value),
             Statement::Read { counter } => {
                 let value = self.counters.get(*counter);
                 self.reads.push((self.next, value))?;
             }
-            _ => {}
+            Statement::Put { .. }
+            | Statement::Get { .. }
+            | Statement::Putv { .. }
+            | Statement::Getv { .. }
+            | Statement::Rmw { .. }
+            | Statement::Am { .. } => self.uncopied.push_back(self.next)?,
+            Statement::Wait { .. }
+            | Statement::Fence
+            | Statement::Gfence
+            | Statement::Addr { .. } => {}
         }
         let event = Event::Issue {
             task: self.number,

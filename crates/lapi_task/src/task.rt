@@ -1,5 +1,6 @@
 use crate::state::State;
 use lapi_base::{Sizes, Statements};
+use lapi_calls::Limits;
 use lapi_link::{Receiver, Sender};
 
 mod accessors;
@@ -14,9 +15,9 @@ mod ticking;
 #[derive(Drop)]
 pub struct Task {
     sizes: Sizes,
+    /// By which its calls are refused.
+    limits: Limits,
     statements: Statements,
-    /// How many header handlers there are.
-    header_count: u32,
     state: State,
     /// The links to each task.
     senders: Vec<Sender>,

@@ -28,7 +28,8 @@ pub fn write_view<K: Sink>(
     requires script { ValidScript input.script }
     requires schedule { ValidSchedule input.script spells_packet input.schedule }
     requires built { IsBuilt input }
-    ensures { WritesWithMemory K.held K.faults K.room sink.old sink.new (asked_text view (rules_of handlers.now) input) result }
+    ensures { WritesWithMemory K.held K.faults K.room sink.old sink.new (asked_text view
+        (rules_of handlers.now) input) result }
 {
     match view {
         Some(view) => write_performed(alloc, view, input, sink, handlers),
@@ -47,7 +48,8 @@ fn write_performed<K: Sink>(
     requires script { ValidScript input.script }
     requires schedule { ValidSchedule input.script spells_packet input.schedule }
     requires built { IsBuilt input }
-    ensures { WritesWithMemory K.held K.faults K.room sink.old sink.new (view_text view (rules_of handlers.now) input) result }
+    ensures { WritesWithMemory K.held K.faults K.room sink.old sink.new (view_text view
+        (rules_of handlers.now) input) result }
 {
     lines_are_taken();
     let world = performed(alloc, input, handlers)?;

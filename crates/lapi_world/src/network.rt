@@ -36,7 +36,8 @@ impl Network {
     /// Nothing happened yet.
     pub fn new(alloc: Global, script: &Script, header_count: u32) -> Result<Network, Memory>
         requires { IsSupported script.now }
-        ensures { IfOk result (λ network. (rules : Rules) → HaveRules rules header_count → Stands script.now rules network start) }
+        ensures { IfOk result (λ network. (rules : Rules) → HaveRules rules header_count
+            → Stands script.now rules network start) }
     {
         let tasks = new_tasks(alloc, script, header_count)?;
         let wires = new_wires(alloc, script.tasks * script.tasks)?;
@@ -63,7 +64,8 @@ impl Network {
     /// What stands on the wire from `a` to `b`.
     pub fn entries(&self, tasks: u32, a: u32, b: u32) -> &[Bytes]
         requires { (a < tasks) × (b < tasks) × (tasks ≤ 8) }
-        ensures { (script : Script) (rules : Rules) (r : Run) → script.tasks ≡ tasks → Stands script rules self.now r → result.now ≡ map written.packet (r.wire a b) }
+        ensures { (script : Script) (rules : Rules) (r : Run) → script.tasks ≡ tasks
+            → Stands script rules self.now r → result.now ≡ map written.packet (r.wire a b) }
     {
         match self.wires.as_slice().get(place(tasks, a, b)) {
             Some(wire) => wire.entries(),
@@ -171,7 +173,8 @@ impl Network {
 
     /// Whether every task is still.
     pub fn is_quiet(&self) -> bool
-        ensures { (script : Script) (rules : Rules) (r : Run) → IsRecord script rules r → Stands script rules self.now r → result ≡ is_quiet script rules r }
+        ensures { (script : Script) (rules : Rules) (r : Run) → IsRecord script rules r
+            → Stands script rules self.now r → result ≡ is_quiet script rules r }
     {
         for task in &self.tasks {
             if !task.still() {
@@ -224,7 +227,8 @@ fn put_all(wires: &mut Vec<Wire>, tasks: u32, t: u32, entries: Entries) -> Resul
 fn new_tasks(alloc: Global, script: &Script, header_count: u32) -> Result<Vec<Task>, Memory>
     requires { IsSupported script.now }
     ensures count { IfOk result (λ tasks. length tasks.items ≡ script.now.tasks) }
-    ensures stand { IfOk result (λ tasks. (rules : Rules) → HaveRules rules header_count → TasksStand script.now rules start tasks.items) }
+    ensures stand { IfOk result (λ tasks. (rules : Rules) → HaveRules rules header_count
+        → TasksStand script.now rules start tasks.items) }
 {
     let mut tasks = Vec::new(alloc);
     for t in 0..script.tasks {

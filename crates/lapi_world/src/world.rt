@@ -57,7 +57,8 @@ impl World {
         requires script { ValidScript script }
         requires schedule { ValidSchedule script spells_packet schedule }
         requires built { IsBuilt (record { script = script; schedule = schedule }) }
-        ensures { IfOk result (λ w. w ≡ record { script = script; rules = rules_of handlers.now; schedule = schedule; taken = []; spent = false }) }
+        ensures { IfOk result
+            (λ w. w ≡ record { script = script; rules = rules_of handlers.now; schedule = schedule; taken = []; spent = false }) }
     {
         let rules = handlers.rules(alloc)?;
         let network = Network::new(alloc, &script, handlers.header_count())?;
@@ -76,8 +77,10 @@ impl World {
     pub fn line(&mut self, alloc: Global, handlers: &Handlers, n: u32) -> Result<Reply, Memory>
         requires line { n < length self.old.schedule }
         requires rules { rules_of handlers.now ≡ self.old.rules }
-        ensures ok { OnOk result ((self.old.spent ≡ false) × (self.new ≡ record self.old { taken = self.old.taken ++ n ∷ [] })) }
-        ensures reply { IfOk result (λ reply. (view_record self.new).replies ≡ (view_record self.old).replies ++ reply ∷ []) }
+        ensures ok { OnOk result ((self.old.spent ≡ false)
+            × (self.new ≡ record self.old { taken = self.old.taken ++ n ∷ [] })) }
+        ensures reply { IfOk result (λ reply. (view_record self.new).replies ≡ (view_record
+            self.old).replies ++ reply ∷ []) }
         ensures err { OnErr result (self.new ≡ record self.old { spent = true }) }
     {
         if self.spent {

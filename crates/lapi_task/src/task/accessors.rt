@@ -37,7 +37,8 @@ impl Task {
     /// The value of counter `c`.
     pub fn counter(&self, c: u32) -> u64
         requires { ForSomeRecord self.now (λ script rules t r. c < script.counters) }
-        ensures { ForEachRecord self.now (λ script rules t r. c < script.counters → result ≡ count script rules r.journal t c) }
+        ensures { ForEachRecord self.now (λ script rules t r. c < script.counters
+            → result ≡ count script rules r.journal t c) }
     {
         self.state.counters.get(c)
     }
@@ -81,7 +82,8 @@ impl Task {
     /// The numbers taken from task `a`.
     pub fn receiving(&self, a: u32) -> &RecvWindow
         requires { ForSomeRecord self.now (λ script rules t r. a < script.tasks) }
-        ensures { ForEachRecord self.now (λ script rules t r. a < script.tasks → (n : ℕ) → is_taken result.now n ≡ is_delivered r a t n) }
+        ensures { ForEachRecord self.now (λ script rules t r. a < script.tasks → (n : ℕ)
+            → is_taken result.now n ≡ is_delivered r a t n) }
     {
         self.receivers[a as usize].window()
     }
@@ -89,13 +91,15 @@ impl Task {
     /// The messages from task `a` of which some fragments have come and some are missing.
     pub fn partials(&self, a: u32) -> &Partials
         requires { ForSomeRecord self.now (λ script rules t r. a < script.tasks) }
-        ensures { ForEachRecord self.now (λ script rules t r. a < script.tasks → (m : MsgName) → partial result.now m ≡ partial_of script (r.handed a t) m) }
+        ensures { ForEachRecord self.now (λ script rules t r. a < script.tasks → (m : MsgName)
+            → partial result.now m ≡ partial_of script (r.handed a t) m) }
     {
         self.receivers[a as usize].partials()
     }
 
     pub fn counters(&self) -> &Counters
-        ensures { ForEachRecord self.now (λ script rules t r. (c : ℕ) → c < script.counters → slice_index result.now c ≡ count script rules r.journal t c) }
+        ensures { ForEachRecord self.now (λ script rules t r. (c : ℕ) → c < script.counters
+            → slice_index result.now c ≡ count script rules r.journal t c) }
     {
         &self.state.counters
     }

@@ -24,7 +24,8 @@ impl Task {
         entries: &mut Entries,
     ) -> Result<(), Memory>
         requires { (script : Script) × (t : ℕ) × (ps : List ThePacket) × HasTaken script t self.now from ps }
-        ensures { OnOk result ((script : Script) (t : ℕ) (ps : List ThePacket) → HasTaken script t self.now from ps → entries.new ≡ entries.old ++ answer script ps from t ∷ []) }
+        ensures { OnOk result ((script : Script) (t : ℕ) (ps : List ThePacket) → HasTaken script t self.now from ps
+            → entries.new ≡ entries.old ++ answer script ps from t ∷ []) }
     {
         let (base, bits) = self.receivers[from as usize].ack();
         let packet = Packet::Ack {
@@ -40,7 +41,10 @@ impl Task {
     /// Notes an acknowledgement that came from task `from`.
     pub(super) fn acknowledged(&mut self, from: u32, base: u32, bits: u32)
         requires { (x : ℕ) × (y : ℕ) × IsOnWire self.old from (Ack x y base bits) }
-        ensures { (script : Script) (rules : Rules) (t k x y : ℕ) (r : Run) (out : Outcome) → IsAt script rules t self.old r → from < script.tasks → slice_get (r.wire from t) k ≡ Some (Ack x y base bits) → HasEffect script rules t r (deliver script rules r from t k) self.new out out }
+        ensures { (script : Script) (rules : Rules) (t k x y : ℕ) (r : Run) (out : Outcome)
+            → IsAt script rules t self.old r → from < script.tasks
+            → slice_get (r.wire from t) k ≡ Some (Ack x y base bits)
+            → HasEffect script rules t r (deliver script rules r from t k) self.new out out }
     {
         self.senders[from as usize].acked(base, bits as u64);
     }

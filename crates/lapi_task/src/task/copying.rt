@@ -20,9 +20,14 @@ use std::alloc::Global;
 impl Task {
     /// Copies the data of the first statement whose data wait.
     pub(super) fn copy_next(&mut self, alloc: Global, events: &mut Events) -> Result<(), Memory>
-        requires { (script : Script) × (rules : Rules) × (t : ℕ) × (r : Run) × (i : ℕ) × (rest : List ℕ) × CopiesNext script rules t self.old r i rest }
-        ensures stands { OnOk result ((script : Script) (rules : Rules) (t : ℕ) (r : Run) (i : ℕ) (rest : List ℕ) → CopiesNext script rules t self.old r i rest → StandsFor script rules t self.new (record r { journal = IsCopy (message t i Go) ∷ r.journal })) }
-        ensures event { OnOk result ((script : Script) (rules : Rules) (t : ℕ) (r : Run) (i : ℕ) (rest : List ℕ) → CopiesNext script rules t self.old r i rest → (events.new ≡ events.old ++ IsCopy (message t i Go) ∷ []) × (self.new.state.uncopied.items ≡ rest)) }
+        requires { (script : Script) × (rules : Rules) × (t : ℕ) × (r : Run) × (i : ℕ)
+            × (rest : List ℕ) × CopiesNext script rules t self.old r i rest }
+        ensures stands { OnOk result ((script : Script) (rules : Rules) (t : ℕ) (r : Run) (i : ℕ) (rest : List ℕ)
+            → CopiesNext script rules t self.old r i rest
+            → StandsFor script rules t self.new (record r { journal = IsCopy (message t i Go) ∷ r.journal })) }
+        ensures event { OnOk result ((script : Script) (rules : Rules) (t : ℕ) (r : Run) (i : ℕ) (rest : List ℕ)
+            → CopiesNext script rules t self.old r i rest
+            → (events.new ≡ events.old ++ IsCopy (message t i Go) ∷ []) × (self.new.state.uncopied.items ≡ rest)) }
     {
         let Some(i) = self.state.uncopied.pop_front() else {
             unreachable!()

@@ -27,7 +27,8 @@ impl Task {
     /// Copies the data of all statements whose data wait.
     fn copy_all(&mut self, alloc: Global, events: &mut Events) -> Result<(), Memory>
         requires { IsAtSome self.old }
-        ensures { OnOk result ((script : Script) (rules : Rules) (t : ℕ) (r : Run) → IsAt script rules t self.old r → AllCopied script rules t r self.new events.old events.new) }
+        ensures { OnOk result ((script : Script) (rules : Rules) (t : ℕ) (r : Run) → IsAt script rules t self.old r
+            → AllCopied script rules t r self.new events.old events.new) }
     {
         for _copy in 0..self.state.uncopied.len() {
             self.copy_next(alloc, events)?;

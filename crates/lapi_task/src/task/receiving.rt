@@ -43,9 +43,13 @@ impl Task {
         out: &mut Outcome,
     ) -> Result<Received, Memory>
         requires { (p : ThePacket) → Spells p bytes.now → IsOnWire self.old from p }
-        ensures refused { (bad : Bad) → decoded bytes.now ≡ Err bad → (result ≡ Ok (Received.Refused bad)) × (self.new ≡ self.old) × (out.new ≡ out.old) }
+        ensures refused { (bad : Bad) → decoded bytes.now ≡ Err bad → (result ≡ Ok (Received.Refused bad))
+            × (self.new ≡ self.old) × (out.new ≡ out.old) }
         ensures kind { IfOk result (λ received. received ≡ received_as (decoded bytes.now)) }
-        ensures effect { OnOk result ((script : Script) (t k : ℕ) (r : Run) (p : ThePacket) → let rules = rules_of handlers.now in IsAt script rules t self.old r → from < script.tasks → Spells p bytes.now → slice_get (r.wire from t) k ≡ Some p → HasEffect script rules t r (deliver script rules r from t k) self.new out.old out.new) }
+        ensures effect { OnOk result ((script : Script) (t k : ℕ) (r : Run) (p : ThePacket)
+            → let rules = rules_of handlers.now in IsAt script rules t self.old r → from < script.tasks
+            → Spells p bytes.now → slice_get (r.wire from t) k ≡ Some p
+            → HasEffect script rules t r (deliver script rules r from t k) self.new out.old out.new) }
     {
         match decode(bytes) {
             Err(bad) => Ok(Received::Refused(bad)),
@@ -69,7 +73,10 @@ impl Task {
         out: &mut Outcome,
     ) -> Result<(), Memory>
         requires { IsOnWire self.old from (Data packet.now) }
-        ensures { OnOk result ((script : Script) (rules : Rules) (t k : ℕ) (r : Run) → IsAt script rules t self.old r → from < script.tasks → slice_get (r.wire from t) k ≡ Some (Data packet.now) → HasEffect script rules t r (deliver script rules r from t k) self.new out.old out.new) }
+        ensures { OnOk result ((script : Script) (rules : Rules) (t k : ℕ) (r : Run)
+            → IsAt script rules t self.old r → from < script.tasks
+            → slice_get (r.wire from t) k ≡ Some (Data packet.now)
+            → HasEffect script rules t r (deliver script rules r from t k) self.new out.old out.new) }
     {
         let arrival = take(&mut self.receivers, alloc, from, packet)?;
         self.take_effect(alloc, from, &arrival, &mut out.events)?;
@@ -85,7 +92,8 @@ impl Task {
         events: &mut Events,
     ) -> Result<(), Memory>
         requires link { (from < length self.old.senders.items) × (task_unit self.old ≤ PAYLOAD_ROOM) }
-        requires allowed { ArrivalMayLand (task_unit self.old) self.old.state.number from (landed arrival.now) self.old.state.memory self.old.state.counters }
+        requires allowed { ArrivalMayLand (task_unit self.old) self.old.state.number from (landed arrival.now)
+            self.old.state.memory self.old.state.counters }
         ensures { OnOk result (HasArrived from (landed arrival.now) self.old self.new events.old events.new) }
     {
         match arrival {
@@ -105,8 +113,11 @@ impl Task {
         events: &mut Events,
     ) -> Result<(), Memory>
         requires link { (from < length self.old.senders.items) × (task_unit self.old ≤ PAYLOAD_ROOM) }
-        requires allowed { HeadMayLand (task_unit self.old) self.old.state.number from message.now.name message.now.head message.now.bytes self.old.state.memory self.old.state.counters }
-        ensures { OnOk result (HasArrived from (landed (arrivals.Whole message.now)) self.old self.new events.old events.new) }
+        requires allowed { HeadMayLand (task_unit self.old)
+            self.old.state.number from message.now.name message.now.head message.now.bytes
+            self.old.state.memory self.old.state.counters }
+        ensures { OnOk result (HasArrived from (landed (arrivals.Whole message.now)) self.old
+            self.new events.old events.new) }
     {
         events.push(Event::Land(message.name))?;
         match &message.head {
@@ -116,7 +127,17 @@ impl Task {
                 self.note(alloc, from, message.name, *cmpl, events)
             }
             Head::Note { cmpl, .. } => announce(&mut self.state.counters, Some(*cmpl)),
-            _ => Ok(()),
+            Head::GetGo { .. }
+            | Head::GetBack { .. }
+            | Head::Putv { .. }
+            | Head::GetvGo { .. }
+            | Head::GetvBack { .. }
+            | Head::RmwGo { .. }
+            | Head::RmwBack { .. }
+            | Head::Am { .. }
+            | Head::Echo { .. }
+            | Head::Gfence { .. }
+            | Head::Addr { .. } => unreachable!(),
         }
     }
 
@@ -130,8 +151,10 @@ impl Task {
         events: &mut Events,
     ) -> Result<(), Memory>
         requires link { (from < length self.old.senders.items) × (task_unit self.old ≤ PAYLOAD_ROOM) }
-        requires spelled { (c : ℕ) → cmpl ≡ Some c → AreSpelled (task_unit self.old) (note_of self.old.state.number from name c) [] }
-        ensures senders { OnOk result (self.new.senders.items ≡ with_note (task_unit self.old) self.old.state.number from name cmpl self.old.senders.items) }
+        requires spelled { (c : ℕ) → cmpl ≡ Some c
+            → AreSpelled (task_unit self.old) (note_of self.old.state.number from name c) [] }
+        ensures senders { OnOk result (self.new.senders.items ≡ with_note (task_unit self.old)
+            self.old.state.number from name cmpl self.old.senders.items) }
         ensures events { OnOk result (events.new ≡ events.old ++ noted name cmpl) }
         ensures rest { self.new ≡ record self.old { senders = self.new.senders } }
     {
@@ -153,8 +176,12 @@ fn take(
     packet: &DataPacket,
 ) -> Result<Arrival, Memory>
     requires { MayTake receivers.old from packet.now }
-    ensures taken { OnOk result ((end : ReceivingEnd) → slice_get receivers.old from ≡ Some end → HasCome receivers.old receivers.new from packet.now end) }
-    ensures arrival { IfOk result (λ arrival. (end : ReceivingEnd) (script : Script) (packets : List ThePacket) → slice_get receivers.old from ≡ Some end → ReceivesFor script end packets → MayArrive script packets packet.now → arrival ≡ arrival_of script packets packet.now (answer_of end packet.now.name)) }
+    ensures taken { OnOk result ((end : ReceivingEnd) → slice_get receivers.old from ≡ Some end
+        → HasCome receivers.old receivers.new from packet.now end) }
+    ensures arrival { IfOk result (λ arrival. (end : ReceivingEnd) (script : Script) (packets : List ThePacket)
+        → slice_get receivers.old from ≡ Some end → ReceivesFor script end packets
+        → MayArrive script packets packet.now
+        → arrival ≡ arrival_of script packets packet.now (answer_of end packet.now.name)) }
 {
     receivers[from as usize].arrive(alloc, packet)
 }

@@ -15,11 +15,11 @@ ghost use Rattle.lapi_task.specs.StandsFor.{StandsFor};
 ghost use Rattle.lapi_task.specs.HasEffect.{IsAt, IsAtSome, Performs};
 
 use crate::outcome::Outcome;
-use crate::reason::reason_of;
 use crate::state::State;
 use crate::statement::statement_at;
 use crate::task::Task;
 use lapi_base::{Memory, Reply, Script, Statement, Statements};
+use lapi_calls::{Limits, NoEntries, refusal_of};
 use lapi_link::{Receiver, Sender};
 use std::alloc::Global;
 
@@ -28,17 +28,19 @@ impl Task {
     pub fn new(alloc: Global, script: &Script, task: u32, header_count: u32) -> Result<Task, Memory>
         requires script { IsSupported script.now }
         requires task { task < script.now.tasks }
-        ensures { IfOk result (λ made. (rules : Rules) → ValidRules rules → length rules.headers ≡ header_count → StandsFor script.now rules task made start) }
+        ensures { IfOk result (λ made. (rules : Rules) → ValidRules rules → length rules.headers ≡ header_count
+            → StandsFor script.now rules task made start) }
     {
         let sizes = script.sizes();
+        let limits = Limits::of(script, header_count as usize);
         let statements = statements(alloc, script, task)?;
         let state = State::new(alloc, sizes, task)?;
         let senders = senders(alloc, script)?;
         let receivers = receivers(alloc, script)?;
         Ok(Task {
             sizes,
+            limits,
             statements,
-            header_count,
             state,
             senders,
             receivers,
@@ -49,12 +51,13 @@ impl Task {
     pub fn step(&mut self, out: &mut Outcome) -> Result<Reply, Memory>
         requires { IsAtSome self.old }
         ensures effect { OnOk result (Performs step self.old self.new out.old out.new) }
-        ensures reply { IfOk result (λ reply. (script : TheScript) (rules : Rules) (t : ℕ) (r : Run) → IsAt script rules t self.old r → (step script rules r t).replies ≡ r.replies ++ reply ∷ []) }
+        ensures reply { IfOk result (λ reply. (script : TheScript) (rules : Rules) (t : ℕ) (r : Run)
+            → IsAt script rules t self.old r → (step script rules r t).replies ≡ r.replies ++ reply ∷ []) }
     {
         let Some(statement) = statement_at(&self.statements, self.state.next) else {
             return Ok(Reply::Idle);
         };
-        if let Some(why) = reason_of(self.sizes, statement) {
+        if let Some(why) = refusal_of(&self.limits, &NoEntries, self.state.number, statement) {
             self.state.refuse(why, &mut out.events)?;
             return Ok(Reply::Did);
         }
@@ -93,7 +96,8 @@ fn senders(alloc: Global, script: &Script) -> Result<Vec<Sender>, Memory>
 /// The receiving ends of the links from each task.
 fn receivers(alloc: Global, script: &Script) -> Result<Vec<Receiver>, Memory>
     ensures count { IfOk result (λ made. length made.items ≡ script.now.tasks) }
-    ensures new { IfOk result (λ v. AllByRecursion (IsNewReceiver (window_of script.now) (unit_of script.now)) v.items) }
+    ensures new { IfOk result (λ v. AllByRecursion (IsNewReceiver (window_of script.now)
+        (unit_of script.now)) v.items) }
 {
     let mut receivers = Vec::new(alloc);
     for _task in 0..script.tasks {

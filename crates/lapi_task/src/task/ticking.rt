@@ -27,7 +27,8 @@ impl Task {
 
     /// Whether all that was sent is acknowledged, no job waits or runs, and a poll would add nothing.
     pub fn still(&self) -> bool
-        ensures { (script : Script) (rules : Rules) (t : ℕ) (r : Run) → IsAt script rules t self.now r → result ≡ (is_idle script rules r t && every_below script.tasks (is_settled script rules r t)) }
+        ensures { (script : Script) (rules : Rules) (t : ℕ) (r : Run) → IsAt script rules t self.now r
+            → result ≡ (is_idle script rules r t && every_below script.tasks (is_settled script rules r t)) }
     {
         self.state.uncopied.is_empty() && self.senders.iter().all(|sender| sender.is_settled())
     }

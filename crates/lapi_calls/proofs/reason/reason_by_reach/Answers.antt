@@ -9,9 +9,9 @@ pub returns : goal.returns
 returns g c =
     let known = g.E.Entries.is_known c.args.entries.now in
     let given = g.E.Entries.given c.args.entries.now in
-    let sizes = c.args.sizes.now in
+    let limits = c.args.limits.now in
     let s = c.args.statement.now in
     c.first_reason.ensures
     ∙ ap first_reason (c.tests.ensures
-    ∙ (λ k. reach_tests sizes (c.targets-to.ensures k) (c.origins-from.ensures k) s)
-    ∙ (λ k. reach_tests sizes (map (reach_of known given (c.peer-target.ensures k)) (target_pieces s)) (map (reach_of known given (c.peer-target.ensures k)) (origin_pieces s)) s))
+    ∙ (λ k. reach_tests limits (c.targets-to.ensures k) (c.origins-from.ensures k) s)
+    ∙ (λ k. reach_tests limits (map (reach_of known given (c.peer-target.ensures k)) (target_pieces s)) (map (reach_of known given (c.peer-target.ensures k)) (origin_pieces s)) s))

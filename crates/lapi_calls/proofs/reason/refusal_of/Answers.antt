@@ -5,7 +5,7 @@ use Rattle.lapi_calls.proofs.reason.refusal_of.Goals as goal
 pub returns-clause-told : goal.returns-clause-told
 returns-clause-told g c = λ script rules i same call.
     c.reason_by_reach.ensures
-    ∙ reason-told (g.E.Entries.is_known c.args.entries.now) (g.E.Entries.given c.args.entries.now) c.args.sizes.now c.args.task c.args.statement.now c.requires.statement script rules i same call
+    ∙ reason-told (g.E.Entries.is_known c.args.entries.now) (g.E.Entries.given c.args.entries.now) c.args.limits.now c.args.task c.args.statement.now c.requires.statement script rules i same call
 
 pub returns-clause-after : goal.returns-clause-after
 returns-clause-after g c = λ script rules J i same call knows.
@@ -13,4 +13,4 @@ returns-clause-after g c = λ script rules J i same call knows.
 
 pub returns-clause-sendable : goal.returns-clause-sendable
 returns-clause-sendable g c = λ none.
-    sendable (g.E.Entries.is_known c.args.entries.now) (g.E.Entries.given c.args.entries.now) c.args.sizes.now c.args.task c.args.statement.now c.requires.statement (sym c.reason_by_reach.ensures ∙ none)
+    sendable (g.E.Entries.is_known c.args.entries.now) (g.E.Entries.given c.args.entries.now) c.args.limits.now c.args.task c.args.statement.now c.requires.statement (sym c.reason_by_reach.ensures ∙ none)

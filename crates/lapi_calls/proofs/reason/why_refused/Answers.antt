@@ -9,4 +9,4 @@ refusal_of-requires-clause-statement g c = subst ValidStatement (sym c.at.ensure
 
 pub returns : goal.returns
 returns g c =
-    c.refusal_of.ensures.told c.args.setting.now.script.now (rules_of c.args.setting.now) c.args.i c.sizes.ensures (record { is_statement = c.at.ensures; are_given = c.requires.given })
+    c.refusal_of.ensures.told c.args.setting.now.script.now (rules_of c.args.setting.now) c.args.i c.limits.ensures (record { is_statement = c.at.ensures; are_given = c.requires.given })

@@ -20,7 +20,7 @@ take_effect-requires-clause-allowed c =
     let p = c.args.packet.now in
     let arrival = c.in_ok-arrival.arrival in
     let tells : Tells a p arrival task.receivers.items = subst (Tells a p arrival) c.deref_mut.ensures.value c.in_ok-arrival.ensures.arrival in
-    let keeps : KeepsRest task task = record { sizes = refl; statements = refl; header_count = refl; state = refl; senders = refl } in
+    let keeps : KeepsRest task task = record { sizes = refl; statements = refl; limits = refl; state = refl; senders = refl } in
     suits-arrival x.script x.rules x.task x.run task x.at a x.place x.from_known p x.entry task arrival keeps (arrival-is x.script x.rules x.task x.run task x.at a x.place x.from_known p x.entry arrival tells)
 
 pub acknowledge-requires : goal.acknowledge-requires
@@ -31,7 +31,7 @@ acknowledge-requires c =
     let p = c.args.packet.now in
     let mid : Task = record task { receivers = with_items task.receivers c.take.new.receivers } in
     let takes : Takes a p task.receivers.items mid.receivers.items = takes-over task.receivers a p c.deref_mut.result.now c.take.new.receivers c.deref_mut.ensures.value c.in_ok-arrival.ensures.taken in
-    let keeps : KeepsRest task mid = record { sizes = refl; statements = refl; header_count = refl; state = refl; senders = refl } in
+    let keeps : KeepsRest task mid = record { sizes = refl; statements = refl; limits = refl; state = refl; senders = refl } in
     (x.script, x.task, Data p ∷ x.run.handed a x.task, has-taken x.script x.rules x.task x.run task x.at a x.place x.from_known p x.entry mid c.take_effect.new.self c.in_ok-arrival.arrival c.args.out.now.events c.take_effect.new.events keeps takes c.in_ok-take_effect.ensures)
 
 pub returns : goal.returns
@@ -43,7 +43,7 @@ returns c =
     let mid : Task = record task { receivers = with_items task.receivers c.take.new.receivers } in
     let takes : Takes a p task.receivers.items mid.receivers.items = takes-over task.receivers a p c.deref_mut.result.now c.take.new.receivers c.deref_mut.ensures.value c.in_ok-arrival.ensures.taken in
     let tells : Tells a p arrival task.receivers.items = subst (Tells a p arrival) c.deref_mut.ensures.value c.in_ok-arrival.ensures.arrival in
-    let keeps : KeepsRest task mid = record { sizes = refl; statements = refl; header_count = refl; state = refl; senders = refl } in
+    let keeps : KeepsRest task mid = record { sizes = refl; statements = refl; limits = refl; state = refl; senders = refl } in
     on-ok _ _ c.acknowledge.result
     (λ answers script rules t k r at known entry.
     let taken = has-taken script rules t r task at a k known p entry mid c.take_effect.new.self arrival c.args.out.now.events c.take_effect.new.events keeps takes c.in_ok-take_effect.ensures in

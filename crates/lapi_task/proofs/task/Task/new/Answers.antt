@@ -1,5 +1,6 @@
-use Rattle.std.proofs.Common.{sym, subst}
+use Rattle.std.proofs.Common.{sym, ap, ◌∙◌, subst}
 use Rattle.lapi_base.specs.declared.sizes.Sizes.{Sizes}
+use Rattle.lapi_calls.specs.Limits.{limits_of}
 use Rattle.lapi_task.specs.StandsFor.{IsNewState}
 use Rattle.lapi_task.proofs.NewStands.{new-stands}
 use Rattle.lapi_task.proofs.task.Task.new.Goals as goal
@@ -11,7 +12,7 @@ returns c = λ rules valid count. new-stands c.args.script.now rules c.args.task
     rules_valid = valid;
     sizes = c.sizes-sizes.ensures;
     statements = c.in_ok-statements.ensures;
-    header_count = sym count;
+    limits = c.of-limits.ensures ∙ ap (limits_of c.args.script.now) (sym count);
   };
   state = subst (λ (z : Sizes). IsNewState z c.args.task c.in_ok-state.state) c.sizes-sizes.ensures c.in_ok-state.ensures;
   senders = (c.in_ok-senders.ensures.count, c.in_ok-senders.ensures.new);

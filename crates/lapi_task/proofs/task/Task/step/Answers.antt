@@ -1,6 +1,6 @@
-use Rattle.std.proofs.Common.{refl, sym, ap, ◌∙◌, Some}
-use Rattle.lapi_task.specs.Supported.{reason_of}
-use Rattle.lapi_task.proofs.StepLaws.{next-fits, is-suited, idle-does, idle-replies, refused-does, refused-replies, issued-does, issued-replies, passed-does, passed-replies, blocked-does, blocked-replies}
+use Rattle.std.proofs.Common.{refl, sym, ap, ◌∙◌, subst, Some, None}
+use Rattle.lapi_base.specs.declared.statement.Statement.{Statement}
+use Rattle.lapi_task.proofs.StepLaws.{FindsReason, next-fits, is-suited, idle-does, idle-replies, refused-does, refused-replies, issued-does, issued-replies, passed-does, passed-replies, blocked-does, blocked-replies}
 use Rattle.lapi_task.proofs.task.Task.step.Goals as goal
 
 pub returns-in_default-clause-effect : goal.returns-in_default-clause-effect
@@ -12,40 +12,40 @@ returns-in_default-clause-reply c = λ script rules t r at. idle-replies script 
 pub refuse-requires : goal.refuse-requires
 refuse-requires c = let x = c.requires in next-fits x.0 x.1 x.4.stands.calls.supported c.args.self.now x.2 x.3 x.4 c.in-Some.statement.now (sym c.in-Some.ensures)
 
-pub returns-in-Some-reason_of-clause-effect : goal.returns-in-Some-reason_of-clause-effect
-returns-in-Some-reason_of-clause-effect c = λ script rules t r at. refused-does script rules at.stands.calls.supported c.args.self.now t r at c.in-Some.statement.now (sym c.in-Some.ensures) c.in-Some-reason_of.why c.refuse.new.self c.args.out.now (record { events = c.refuse.new.events; entries = c.args.out.now.entries }) (sym c.in-Some-reason_of.ensures) refl c.in_ok-refuse.ensures
+pub returns-in-Some-refusal_of-clause-effect : goal.returns-in-Some-refusal_of-clause-effect
+returns-in-Some-refusal_of-clause-effect c = λ script rules t r at. refused-does script rules at.stands.calls.supported c.args.self.now t r at c.in-Some.statement.now (sym c.in-Some.ensures) c.in-Some-refusal_of.why c.refuse.new.self c.args.out.now (record { events = c.refuse.new.events; entries = c.args.out.now.entries }) (c.refusal_of.result, c.refusal_of.ensures.after, c.in-Some-refusal_of.is) refl c.in_ok-refuse.ensures
 
-pub returns-in-Some-reason_of-clause-reply : goal.returns-in-Some-reason_of-clause-reply
-returns-in-Some-reason_of-clause-reply c = λ script rules t r at. refused-replies script rules at.stands.calls.supported c.args.self.now t r at c.in-Some.statement.now (sym c.in-Some.ensures) c.in-Some-reason_of.why (sym c.in-Some-reason_of.ensures)
+pub returns-in-Some-refusal_of-clause-reply : goal.returns-in-Some-refusal_of-clause-reply
+returns-in-Some-refusal_of-clause-reply c = λ script rules t r at. refused-replies script rules at.stands.calls.supported c.args.self.now t r at c.in-Some.statement.now (sym c.in-Some.ensures) c.in-Some-refusal_of.why (c.refusal_of.result, c.refusal_of.ensures.after, c.in-Some-refusal_of.is)
 
 pub wait-requires-clause-next : goal.wait-requires-clause-next
 wait-requires-clause-next c = let x = c.requires in next-fits x.0 x.1 x.4.stands.calls.supported c.args.self.now x.2 x.3 x.4 c.in-Some.statement.now (sym c.in-Some.ensures)
 
 pub wait-requires-clause-counter : goal.wait-requires-clause-counter
-wait-requires-clause-counter c = let x = c.requires in is-suited x.0 x.1 x.4.stands.calls.supported c.args.self.now x.2 x.3 x.4 _ (sym c.in-Some.ensures ∙ ap Some c.in-Wait.is) (ap (reason_of c.args.self.now.sizes) (sym c.in-Wait.is) ∙ sym c.in_default-reason_of.ensures)
+wait-requires-clause-counter c = let x = c.requires in is-suited x.0 x.1 x.4.stands.calls.supported c.args.self.now x.2 x.3 x.4 _ (sym c.in-Some.ensures ∙ ap Some c.in-Wait.is) (subst (λ (s : Statement). FindsReason c.args.self.now s None) c.in-Wait.is (c.refusal_of.result, c.refusal_of.ensures.after, c.in_default-refusal_of.is))
 
 pub returns-then-is_past-clause-effect : goal.returns-then-is_past-clause-effect
-returns-then-is_past-clause-effect c = λ script rules t r at. passed-does script rules at.stands.calls.supported c.args.self.now t r at c.in-Wait.counter c.in-Wait.value (sym c.in-Some.ensures ∙ ap Some c.in-Wait.is) (ap (reason_of c.args.self.now.sizes) (sym c.in-Wait.is) ∙ sym c.in_default-reason_of.ensures) c.wait.new.self c.args.out.now (record { events = c.wait.new.events; entries = c.args.out.now.entries }) refl (c.in_ok-is_past.ensures.passed c.if-is_past.true)
+returns-then-is_past-clause-effect c = λ script rules t r at. passed-does script rules at.stands.calls.supported c.args.self.now t r at c.in-Wait.counter c.in-Wait.value (sym c.in-Some.ensures ∙ ap Some c.in-Wait.is) (subst (λ (s : Statement). FindsReason c.args.self.now s None) c.in-Wait.is (c.refusal_of.result, c.refusal_of.ensures.after, c.in_default-refusal_of.is)) c.wait.new.self c.args.out.now (record { events = c.wait.new.events; entries = c.args.out.now.entries }) refl (c.in_ok-is_past.ensures.passed c.if-is_past.true)
 
 pub returns-then-is_past-clause-reply : goal.returns-then-is_past-clause-reply
-returns-then-is_past-clause-reply c = λ script rules t r at. passed-replies script rules at.stands.calls.supported c.args.self.now t r at c.in-Wait.counter c.in-Wait.value (sym c.in-Some.ensures ∙ ap Some c.in-Wait.is) (ap (reason_of c.args.self.now.sizes) (sym c.in-Wait.is) ∙ sym c.in_default-reason_of.ensures) (let g = c.in_ok-is_past.ensures.passed c.if-is_past.true in g.enough)
+returns-then-is_past-clause-reply c = λ script rules t r at. passed-replies script rules at.stands.calls.supported c.args.self.now t r at c.in-Wait.counter c.in-Wait.value (sym c.in-Some.ensures ∙ ap Some c.in-Wait.is) (subst (λ (s : Statement). FindsReason c.args.self.now s None) c.in-Wait.is (c.refusal_of.result, c.refusal_of.ensures.after, c.in_default-refusal_of.is)) (let g = c.in_ok-is_past.ensures.passed c.if-is_past.true in g.enough)
 
 pub returns-else-is_past-clause-effect : goal.returns-else-is_past-clause-effect
-returns-else-is_past-clause-effect c = λ script rules t r at. blocked-does script rules at.stands.calls.supported c.args.self.now t r at c.in-Wait.counter c.in-Wait.value (sym c.in-Some.ensures ∙ ap Some c.in-Wait.is) (ap (reason_of c.args.self.now.sizes) (sym c.in-Wait.is) ∙ sym c.in_default-reason_of.ensures) c.wait.new.self c.args.out.now (record { events = c.wait.new.events; entries = c.args.out.now.entries }) refl (c.in_ok-is_past.ensures.blocked c.if-is_past.false)
+returns-else-is_past-clause-effect c = λ script rules t r at. blocked-does script rules at.stands.calls.supported c.args.self.now t r at c.in-Wait.counter c.in-Wait.value (sym c.in-Some.ensures ∙ ap Some c.in-Wait.is) (subst (λ (s : Statement). FindsReason c.args.self.now s None) c.in-Wait.is (c.refusal_of.result, c.refusal_of.ensures.after, c.in_default-refusal_of.is)) c.wait.new.self c.args.out.now (record { events = c.wait.new.events; entries = c.args.out.now.entries }) refl (c.in_ok-is_past.ensures.blocked c.if-is_past.false)
 
 pub returns-else-is_past-clause-reply : goal.returns-else-is_past-clause-reply
-returns-else-is_past-clause-reply c = λ script rules t r at. blocked-replies script rules at.stands.calls.supported c.args.self.now t r at c.in-Wait.counter c.in-Wait.value (sym c.in-Some.ensures ∙ ap Some c.in-Wait.is) (ap (reason_of c.args.self.now.sizes) (sym c.in-Wait.is) ∙ sym c.in_default-reason_of.ensures) (let g = c.in_ok-is_past.ensures.blocked c.if-is_past.false in g.less)
+returns-else-is_past-clause-reply c = λ script rules t r at. blocked-replies script rules at.stands.calls.supported c.args.self.now t r at c.in-Wait.counter c.in-Wait.value (sym c.in-Some.ensures ∙ ap Some c.in-Wait.is) (subst (λ (s : Statement). FindsReason c.args.self.now s None) c.in-Wait.is (c.refusal_of.result, c.refusal_of.ensures.after, c.in_default-refusal_of.is)) (let g = c.in_ok-is_past.ensures.blocked c.if-is_past.false in g.less)
 
 pub issue-requires : goal.issue-requires
 issue-requires c =
     let x = c.requires in
     record {
       next = next-fits x.0 x.1 x.4.stands.calls.supported c.args.self.now x.2 x.3 x.4 c.in-Some.statement.now (sym c.in-Some.ensures);
-      allowed = is-suited x.0 x.1 x.4.stands.calls.supported c.args.self.now x.2 x.3 x.4 c.in-Some.statement.now (sym c.in-Some.ensures) (sym c.in_default-reason_of.ensures);
+      allowed = is-suited x.0 x.1 x.4.stands.calls.supported c.args.self.now x.2 x.3 x.4 c.in-Some.statement.now (sym c.in-Some.ensures) (c.refusal_of.result, c.refusal_of.ensures.after, c.in_default-refusal_of.is);
     }
 
 pub returns : goal.returns
 returns c = record {
-  effect = λ script rules t r at. issued-does script rules at.stands.calls.supported c.args.self.now t r at c.in-Some.statement.now (sym c.in-Some.ensures) c.issue.new.self c.args.out.now (record { events = c.issue.new.events; entries = c.args.out.now.entries }) (λ counter value e. c.in_default-statement.not-Wait counter value e) (sym c.in_default-reason_of.ensures) refl c.in_ok-issue.ensures;
-  reply = λ script rules t r at. issued-replies script rules at.stands.calls.supported c.args.self.now t r at c.in-Some.statement.now (sym c.in-Some.ensures) (λ counter value e. c.in_default-statement.not-Wait counter value e) (sym c.in_default-reason_of.ensures);
+  effect = λ script rules t r at. issued-does script rules at.stands.calls.supported c.args.self.now t r at c.in-Some.statement.now (sym c.in-Some.ensures) c.issue.new.self c.args.out.now (record { events = c.issue.new.events; entries = c.args.out.now.entries }) (λ counter value e. c.in_default-statement.not-Wait counter value e) (c.refusal_of.result, c.refusal_of.ensures.after, c.in_default-refusal_of.is) refl c.in_ok-issue.ensures;
+  reply = λ script rules t r at. issued-replies script rules at.stands.calls.supported c.args.self.now t r at c.in-Some.statement.now (sym c.in-Some.ensures) (λ counter value e. c.in_default-statement.not-Wait counter value e) (c.refusal_of.result, c.refusal_of.ensures.after, c.in_default-refusal_of.is);
 }

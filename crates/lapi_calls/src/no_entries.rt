@@ -3,9 +3,9 @@ ghost use Rattle.std.specs.Prelude.{false};
 use crate::entries::Entries;
 
 /// No address is known.
-pub struct NoTable;
+pub struct NoEntries;
 
-impl Entries for NoTable {
+impl Entries for NoEntries {
     ghost valid = { λ _. Unit {0} };
 
     ghost is_known = { λ _ _. false };

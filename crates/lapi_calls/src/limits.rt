@@ -1,11 +1,11 @@
 ghost use Rattle.std.specs.Prelude.{◌≡◌};
-ghost use Rattle.lapi_calls.specs.Sizes.{sizes_of};
+ghost use Rattle.lapi_calls.specs.Limits.{limits_of};
 
 use lapi_base::Script;
 
-/// The sizes of a script by which its statements are refused. A task keeps these, and its own statements.
+/// The limits of a script by which its statements are refused. A task keeps these, and its own statements.
 #[derive(Clone, Copy, Debug, Eq, PartialEq)]
-pub struct Sizes {
+pub struct Limits {
     /// How many tasks there are.
     pub tasks: u32,
     /// The bytes of each task's memory.
@@ -19,12 +19,12 @@ pub struct Sizes {
     pub headers: usize,
 }
 
-impl Sizes {
-    /// The sizes of this script, with so many header handlers.
-    pub fn of(script: &Script, headers: usize) -> Sizes
-        ensures { result ≡ sizes_of script.now headers }
+impl Limits {
+    /// The limits of this script, with so many header handlers.
+    pub fn of(script: &Script, headers: usize) -> Limits
+        ensures { result ≡ limits_of script.now headers }
     {
-        Sizes {
+        Limits {
             tasks: script.tasks,
             memory: script.memory,
             counters: script.counters,
