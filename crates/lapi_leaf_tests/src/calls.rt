@@ -16,7 +16,7 @@ use lapi_calls::{
 use std::alloc::Global;
 use std::test::Fail;
 
-const SIZES: Limits = Limits {
+const LIMITS: Limits = Limits {
     tasks: 2,
     memory: 65_536,
     counters: 2,
@@ -54,14 +54,14 @@ const UNKNOWN: FirstRound = FirstRound { address: None };
 fn refusal(statement: &Statement) -> Option<Refusal>
     requires { ValidStatement statement.now }
 {
-    refusal_of(&SIZES, &UNKNOWN, 0, statement)
+    refusal_of(&LIMITS, &UNKNOWN, 0, statement)
 }
 
 /// The head and the length of the message from the origin, if the call isn't refused.
 fn sent(first: &FirstRound, statement: &Statement) -> Option<(Head, u32)>
     requires { ValidStatement statement.now × (is_data statement.now ≡ true) }
 {
-    match refusal_of(&SIZES, first, 0, statement) {
+    match refusal_of(&LIMITS, first, 0, statement) {
         Some(_) => None,
         None => Some((
             go_head(first, 0, statement),
@@ -394,7 +394,7 @@ fn a_script_gives_its_sizes(rt: HostRuntime) -> Result<(), Fail> {
     );
     let limits = Limits {
         headers: 0,
-        ..SIZES
+        ..LIMITS
     };
     assert_eq!(rt; setting.limits(), limits);
     Ok(())
