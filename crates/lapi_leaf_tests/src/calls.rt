@@ -61,12 +61,10 @@ fn refusal(statement: &Statement) -> Option<Refusal>
 fn sent(first: &FirstRound, statement: &Statement) -> Option<(Head, u32)>
     requires { ValidStatement statement.now × (is_data statement.now ≡ true) }
 {
+    let length = message_length(Leg::Go, statement);
     match refusal_of(&LIMITS, first, 0, statement) {
         Some(_) => None,
-        None => Some((
-            go_head(first, 0, statement),
-            message_length(Leg::Go, statement),
-        )),
+        None => Some((go_head(first, 0, statement), length)),
     }
 }
 
