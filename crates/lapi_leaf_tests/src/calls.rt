@@ -61,11 +61,11 @@ fn refusal(statement: &Statement) -> Option<Refusal>
 fn sent(first: &FirstRound, statement: &Statement) -> Option<(Head, u32)>
     requires { ValidStatement statement.now × (is_data statement.now ≡ true) }
 {
+    let None = refusal_of(&LIMITS, first, 0, statement) else {
+        return None;
+    };
     let length = message_length(Leg::Go, statement);
-    match refusal_of(&LIMITS, first, 0, statement) {
-        Some(_) => None,
-        None => Some((go_head(first, 0, statement), length)),
-    }
+    Some((go_head(first, 0, statement), length))
 }
 
 fn put(target: u32, to: Addr, from: u32, len: u32, tgt: Option<u32>) -> Statement
