@@ -103,3 +103,7 @@ module _ (script : Script) (perf : IsSupported script) where
       (λ (b : is_built_statement (statement script a i) ≡ true). backs-none (statement script a i) b)
       (λ (e : statement script a i ≡ statements.Fence). (ap has_back e, ap is_am e, ap is_rmw e))
       (forms a i)
+
+  -- no message is active
+  pub no-am : (a i : ℕ) → is_am (statement script a i) ≡ false
+  no-am a i = (no-back a i).1.0
