@@ -53,7 +53,7 @@ use Rattle.lapi_task.specs.Counting.{announced}
 use Rattle.lapi_task.specs.Outgoing.{with_message, AreSpelled}
 use Rattle.lapi_task.specs.StandsFor.{is_uncopied, task_unit, ReceiverAt, HasCalls, HoldsFor, StandsFor}
 use Rattle.lapi_task.proofs.CopyLists.{below-less, other-message}
-use Rattle.lapi_task.proofs.CopySendable.{none, nothing, may-send}
+use Rattle.lapi_task.proofs.CopySendable.{no_round, no_entry, may-send}
 use Rattle.lapi_task.proofs.Forms.{statement-is}
 use Rattle.lapi_task.proofs.MessageCopies.{packet-is, count-is, copied-ends}
 use Rattle.lapi_task.proofs.ReceiveCounts.{announced-length, announced-at}
@@ -143,7 +143,7 @@ module _ (script : Script) (rules : Rules) (t : ℕ) (task : Task) (r : Run) (i 
   short = subst (λ n. message_length script go ≤ n) (first-longest script h.stands.calls.supported.valid) (copied-short script rules L go h.atomic (happened-head (Copy go) r.journal))
 
   -- and it may be sent.
-  pub is-sendable : IsSendable none nothing t (statement script t i)
+  pub is-sendable : IsSendable no_round no_entry t (statement script t i)
   is-sendable = may-send script h.stands.calls.supported rules t i r.journal h.atomic (and_parts (happened (Issued t i) r.journal) _ (and_parts (is_data (statement script t i)) _ first-is.1).1).0
 
   pub is-valid : ValidStatement (statement script t i)
@@ -284,10 +284,10 @@ module _ (script : Script) (rules : Rules) (t : ℕ) (task : Task) (r : Run) (i 
   pub found-data : (x : ℕ) (s : Statement) → x ≡ i → Some s ≡ slice_get task.statements x → ValidStatement s × (is_data s ≡ true)
   found-data x s at made = subst (λ (s : Statement). ValidStatement s × (is_data s ≡ true)) (sym (found x s at made)) (is-valid script rules t task r i rest h, has-data script rules t task r i rest h)
 
-  pub found-sendable : (number x : ℕ) (s : Statement) → number ≡ t → x ≡ i → Some s ≡ slice_get task.statements x → IsSendable none nothing number s
+  pub found-sendable : (number x : ℕ) (s : Statement) → number ≡ t → x ≡ i → Some s ≡ slice_get task.statements x → IsSendable no_round no_entry number s
   found-sendable number x s same at made =
-      subst (λ (a : ℕ). IsSendable none nothing a s) (sym same)
-      (subst (IsSendable none nothing t) (sym (found x s at made)) (is-sendable script rules t task r i rest h))
+      subst (λ (a : ℕ). IsSendable no_round no_entry a s) (sym same)
+      (subst (IsSendable no_round no_entry t) (sym (found x s at made)) (is-sendable script rules t task r i rest h))
 
   pub found-copy : (number x : ℕ) (s : Statement) (c : DataCopy) → number ≡ t → x ≡ i → Some s ≡ slice_get task.statements x → ((script : Script) → s ≡ statement script number x → c ≡ copy_of script number x) → c ≡ copy_of script t i
   found-copy number x s c same at listed made = made script (found x s at listed ∙ (λ k. statement script (sym same k) (sym at k))) ∙ (λ k. copy_of script (same k) (at k))

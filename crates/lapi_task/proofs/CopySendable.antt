@@ -29,11 +29,11 @@ use Rattle.lapi_task.specs.Supported.{IsSupported}
 use Rattle.lapi_task.proofs.ReasonForms.{none-passed}
 
 -- no round's addresses are known
-abbrev pub none : ℕ → Bool
-none round = false
+abbrev pub no_round : ℕ → Bool
+no_round round = false
 
-abbrev pub nothing : ℕ → ℕ → ℕ
-nothing round d = 0
+abbrev pub no_entry : ℕ → ℕ → ℕ
+no_entry round d = 0
 
 -- a user header that a header handler may be given is short
 header-short : (s : Statement) → (is_am s ≡ true → length (user_header s) ≤ 64) → length (user_header s) ≤ 64
@@ -42,29 +42,29 @@ header-short _ h = lit≤ tt
 
 module _ (script : Script) where
   -- an address that is told is a plain one
-  place-is : (d : ℕ) (a : Addr) → is_told none a ≡ true → address_by nothing d a ≡ address script d a
+  place-is : (d : ℕ) (a : Addr) → is_told no_round a ≡ true → address_by no_entry d a ≡ address script d a
   unfolding address
   place-is d (Plain x) h = refl
   place-is d (Table round offset) h = absurd (false≢true h)
 
-  places-fit : (d : ℕ) (ps : List Piece) → script.memory ≤ 65536 → AreTold none ps → AllByRecursion (LiesWithin script d) ps → AllByRecursion (λ (p : Piece). address_by nothing d p.at < 2 ^ 32) ps
+  places-fit : (d : ℕ) (ps : List Piece) → script.memory ≤ 65536 → AreTold no_round ps → AllByRecursion (LiesWithin script d) ps → AllByRecursion (λ (p : Piece). address_by no_entry d p.at < 2 ^ 32) ps
   places-fit d [] l told within = tt
   places-fit d (p ∷ ps) l told within = (let e = place-is d p.at told.0 in let in-memory = within.0 in omega (arith, l, e, in-memory), places-fit d ps l told.1 within.1)
 
   module _ (supported : IsSupported script) where
     -- where a task has passed no round
-    address-told : (J : List Event) (a : ℕ) (at : Addr) → not (is_known script J a at) ≡ false → is_told none at ≡ true
+    address-told : (J : List Event) (a : ℕ) (at : Addr) → not (is_known script J a at) ≡ false → is_told no_round at ≡ true
     address-told J a (Plain x) h = refl
     address-told J a (Table round offset) h = absurd (false≢true (none-passed script supported J a round ∙ not-false _ h))
 
-    all-told : (J : List Event) (a : ℕ) (ps : List Piece) → list_any (λ (p : Piece). not (is_known script J a p.at)) ps ≡ false → AreTold none ps
+    all-told : (J : List Event) (a : ℕ) (ps : List Piece) → list_any (λ (p : Piece). not (is_known script J a p.at)) ps ≡ false → AreTold no_round ps
     all-told J a [] h = tt
     all-told J a (p ∷ ps) h = let parts = or_parts (not (is_known script J a p.at)) (list_any (λ (p : Piece). not (is_known script J a p.at)) ps) h in (address-told J a p.at parts.0, all-told J a ps parts.1)
 
     module _ (rules : Rules) where
       -- so what was issued has its addresses told,
       abbrev WasTold : EventKey → Type 0
-      WasTold (Issued a i) = AreTold none (target_pieces (statement script a i))
+      WasTold (Issued a i) = AreTold no_round (target_pieces (statement script a i))
       WasTold _ = Unit {0}
 
       told-now : (e : Event) (J : List Event) → Keeps script rules J e → WasTold (key_of e)
@@ -73,7 +73,7 @@ module _ (script : Script) where
       told-now e J k = tt
 
       -- and may be sent as it is copied.
-      pub may-send : (t i : ℕ) (J : List Event) → Atomic script rules (Copy (message t i Go) ∷ J) → happened (Issued t i) J ≡ true → IsSendable none nothing t (statement script t i)
+      pub may-send : (t i : ℕ) (J : List Event) → Atomic script rules (Copy (message t i Go) ∷ J) → happened (Issued t i) J ≡ true → IsSendable no_round no_entry t (statement script t i)
       unfolding message_length
       may-send t i J atomic issued =
           let go = message t i Go in

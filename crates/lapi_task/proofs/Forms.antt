@@ -15,7 +15,7 @@ use Rattle.lapi_base.specs.Record.Operations as operations
 use Rattle.lapi_base.proofs.ListLaws.{all-get, all-or, get-some}
 use Rattle.lapi_task.specs.Supported.{IsSupported}
 
--- no task is joined,
+-- none of these statements is a collective call,
 joins-none : (s : Statement) → is_built_statement s ≡ true → has_join s ≡ false
 unfolding is_built_statement
 joins-none (statements.Store at bytes) h = refl
@@ -29,7 +29,7 @@ joins-none (statements.Set counter value) h = refl
 joins-none (statements.Read counter) h = refl
 joins-none _ h = absurd (false≢true h)
 
--- and no message is active
+-- and none sends an active message
 actives-none : (s : Statement) → is_built_statement s ≡ true → is_am s ≡ false
 unfolding is_built_statement
 actives-none (statements.Store at bytes) h = refl
