@@ -1,10 +1,12 @@
--- The copy of a put: what its task and its record have then.
-use Rattle.std.proofs.Common.{◌≡◌, ℕ, ◌+◌, ◌*◌, ◌<◌, ◌≤◌, ◌==◌, Bool, true, cond, not, ◌&&◌, List, [], ◌∷◌, ◌++◌, map, length, take, drop, set, Option, Some, None, refl, sym, ap, ◌∙◌, subst, arith, inl}
+-- The copy of a statement's data: what its task and its record have then.
+use Rattle.std.proofs.Common.{◌≡◌, ℕ, ◌+◌, ◌*◌, ◌<◌, ◌≤◌, ◌==◌, Bool, true, false, cond, not, ◌&&◌, List, [], ◌∷◌, ◌++◌, map, length, set, Option, Some, None, refl, sym, ap, ◌∙◌, subst, arith, inl}
 use Rattle.std.specs.Prelude.{slice_get, slice_index, option_to_list}
-use Rattle.std.specs.List.{AllByRecursion}
+use Rattle.std.specs.List.{AllByRecursion, flat_map}
 use Rattle.std.proofs.lemmas.Bool.{cond-true, and_parts, and_right}
-use Rattle.std.proofs.lemmas.List.{append-nil}
+use Rattle.std.proofs.lemmas.List.Elements.{All-from_recursion}
 use Rattle.std.proofs.Math.ListN.{length-set}
+use Rattle.lapi_base.specs.declared.piece.Piece.{Piece}
+use Rattle.lapi_base.specs.declared.span.Span.{Span}
 use Rattle.lapi_base.specs.declared.script.Script.{Script}
 use Rattle.lapi_base.specs.declared.rule.Rules.{Rules}
 use Rattle.lapi_base.specs.declared.statement.Statement.{Statement}
@@ -13,88 +15,95 @@ use Rattle.lapi_base.specs.declared.event.Event.TheVariants.{Copy}
 use Rattle.lapi_base.specs.declared.message.Leg.TheVariants.{Go}
 use Rattle.lapi_base.specs.declared.message.MsgName.{MsgName}
 use Rattle.lapi_base.specs.Record.Below.{below}
-use Rattle.lapi_base.specs.Record.Counters.{count, reads, tells, copy_tells, is_counter}
+use Rattle.lapi_base.specs.Record.Counters.{count, reads, tells, is_counter}
 use Rattle.lapi_base.specs.Laws.Entries.{carried}
-use Rattle.lapi_base.specs.Packet.Layout.{unit_of}
-use Rattle.lapi_base.specs.Record.Fragments.{fragments_in}
+use Rattle.lapi_base.specs.Packet.Layout.{layout_of, unit, unit_of}
 use Rattle.lapi_base.specs.Record.Jobs.{runs}
 use Rattle.lapi_base.specs.Record.Names.{message, name_eq, happened, Issued, Copied}
-use Rattle.lapi_base.specs.Record.Operations.{numbers_below, statement, statements, is_data, target, sender, receiver, message_length, fragment_count, fragments, address, origin_pieces, org_counter}
+use Rattle.lapi_base.specs.Record.Operations.{numbers_below, statement, statements, is_data, has_back, target, message_length, fragment_count, address, spans, origin_pieces, org_counter}
 use Rattle.lapi_base.specs.Record.Operations as operations
 use Rattle.lapi_base.specs.Record.Packets.{data_packet}
+use Rattle.lapi_base.specs.Record.Valid.{ValidStatement}
 use Rattle.lapi_base.specs.Laws.Receiving.{NamesCounter}
 use Rattle.lapi_base.specs.Record.Wires.{Run}
 use Rattle.lapi_base.specs.Record.Refusals.{next, refusals, option_any}
 use Rattle.lapi_base.specs.Packet.Spelling.{HasSpelling}
-use Rattle.lapi_base.specs.Record.Values.{values, memory_bytes, gathered}
+use Rattle.lapi_base.specs.Record.Values.{values, memory_bytes, gathered, at_origin}
 use Rattle.lapi_base.specs.Packet.PacketBytes as written
 use Rattle.lapi_base.proofs.BelowLaws.{below-all}
-use Rattle.lapi_base.proofs.ListLaws.{get-some}
+use Rattle.lapi_base.proofs.ListLaws.{get-some, all-map}
 use Rattle.lapi_base.proofs.NameLaws.{happened-head, happened-other, name_eq-refl}
 use Rattle.lapi_base.proofs.TestLaws.{eqb-refl}
+use Rattle.lapi_calls.specs.Calls.{IsSendable}
 use Rattle.lapi_laws.proofs.Shorts.{copied-short}
 use Rattle.lapi_link.specs.Sender.{SendingEnd}
-use Rattle.lapi_parts.proofs.Accepted.{copied-accepted}
+use Rattle.lapi_memory.specs.TaskMemory.{bytes_at}
+use Rattle.lapi_parts.proofs.Accepted.{Accepted, LiesWithin, copied-accepted}
+use Rattle.lapi_parts.proofs.CarriedLengths.{carried-length}
 use Rattle.lapi_parts.proofs.FirstLayout.{first-unit, first-longest}
+use Rattle.lapi_parts.proofs.SmallBytes.{statement-valid}
 use Rattle.lapi_parts.proofs.SpelledPackets.{message-spelled}
-use Rattle.lapi_task.specs.declared.task.Task.{Task}
-use Rattle.lapi_task.specs.Copies.{source, IsCopyable, IsCopied, CopiesNext}
-use Rattle.lapi_task.specs.Counting.{announced}
-use Rattle.lapi_task.specs.StandsFor.{is_uncopied, ReceiverAt, HoldsFor, StandsFor}
-use Rattle.lapi_task.proofs.CopyLists.{below-less, other-message}
-use Rattle.lapi_task.proofs.Forms.{data-put, statement-is}
-use Rattle.lapi_task.proofs.ReceiveCounts.{announced-length, announced-at}
-use Rattle.lapi_task.proofs.StepMemories.{read-over, memory-none, memory-length}
-use Rattle.lapi_base.specs.declared.head.Head.{Head}
 use Rattle.lapi_reassembly.specs.Partial.{IsUnit}
-use Rattle.lapi_base.specs.Packet.Layout.{layout_of, unit}
+use Rattle.lapi_vector.specs.Pieces.{AreWithin}
 use Rattle.lapi_task.specs.declared.copy.DataCopy.{DataCopy}
 use Rattle.lapi_task.specs.declared.state.State.{State}
-use Rattle.lapi_task.specs.Copies.{copy_of}
-use Rattle.lapi_task.specs.Outgoing.{outgoing, packet_of, with_message, AreSpelled}
-use Rattle.lapi_task.specs.StandsFor.{HasCalls, task_unit}
-use Rattle.lapi_task.proofs.Forms.{Put, statement_of}
-use Rattle.lapi_task.proofs.MessageCopies.{packet-is, copied-ends}
+use Rattle.lapi_task.specs.declared.task.Task.{Task}
+use Rattle.lapi_task.specs.Copies.{copy_of, source, IsCopyable, IsCopied, CopiesNext}
+use Rattle.lapi_task.specs.Counting.{announced}
+use Rattle.lapi_task.specs.Outgoing.{with_message, AreSpelled}
+use Rattle.lapi_task.specs.StandsFor.{is_uncopied, task_unit, ReceiverAt, HasCalls, HoldsFor, StandsFor}
+use Rattle.lapi_task.proofs.CopyLists.{below-less, other-message}
+use Rattle.lapi_task.proofs.CopySendable.{no_round, no_entry, may-send}
+use Rattle.lapi_task.proofs.Forms.{statement-is}
+use Rattle.lapi_task.proofs.MessageCopies.{packet-is, count-is, copied-ends}
+use Rattle.lapi_task.proofs.ReceiveCounts.{announced-length, announced-at}
+use Rattle.lapi_task.proofs.StepMemories.{read-over, memory-none, memory-length}
 
 -- the unit of a task is its script's
 pub unit-is : (script : Script) (rules : Rules) (t : ℕ) (task : Task) → HasCalls script rules t task → task_unit task ≡ unit_of script
 unfolding unit_of
 unit-is script rules t task h = ap (λ (x : _). unit (layout_of x.layout)) h.sizes
 
--- the copy of a put's data
-abbrev pub put_copy : (t i : ℕ) → Put → DataCopy
-put_copy t i put = record {
-  message = record { from = t; to = put.target; seq = 0; name = message t i Go; head = Head.Put put.to put.tgt put.cmpl; length = put.len; fragment = 0; payload = [] };
-  source = record { at = put.from; len = put.len };
-  counter = put.org;
-}
+-- the bytes of these pieces are those of the record
+pieces-gathered : (script : Script) (d : ℕ) (f : ℕ → ℕ) (ps : List Piece) → AllByRecursion (LiesWithin script d) ps → flat_map (λ (p : Span). bytes_at (map f (numbers_below script.memory)) p.at p.len) (spans script d ps) ≡ flat_map (λ (p : Span). map (λ k. f (p.at + k)) (numbers_below p.len)) (spans script d ps)
+pieces-gathered script d f [] h = refl
+pieces-gathered script d f (p ∷ ps) h = λ k. read-over f script.memory (address script d p.at) p.len h.0 k ++ pieces-gathered script d f ps h.1 k
 
-module _ (script : Script) (rules : Rules) (t i : ℕ) (put : Put) (e : statement script t i ≡ statement_of put) where
+-- and the pieces lie within a memory of the script's size
+pieces-within : (script : Script) (d size : ℕ) (b : Bool) (ps : List Piece) → size ≡ script.memory → AllByRecursion (LiesWithin script d) ps → AreWithin (cond b [] (spans script d ps)) size
+pieces-within script d size b ps same h = All-from_recursion (λ (p : Span). p.at + p.len ≤ size) (cond b [] (spans script d ps)) (subst (λ (n : ℕ). AllByRecursion (λ (p : Span). p.at + p.len ≤ n) (cond b [] (spans script d ps))) (sym same) (either b))
+  where
+    either : (b : Bool) → AllByRecursion (λ (p : Span). p.at + p.len ≤ script.memory) (cond b [] (spans script d ps))
+    either true = tt
+    either false = all-map (LiesWithin script d) (λ (p : Span). p.at + p.len ≤ script.memory) (λ (p : Piece). record { at = address script d p.at; len = p.len }) ps h (λ p l. l)
+
+-- a counter that is announced is there
+counter-named : (script : Script) (b : Bool) (o : Option ℕ) (c : ℕ) → NamesCounter script o → cond b None o ≡ Some c → c < script.counters
+counter-named script true o c h e = absurd (cc)
+counter-named script false o c h e = subst (NamesCounter script) e h
+
+-- The bytes of the copy are what the message carries.
+module _ (script : Script) (rules : Rules) (t i : ℕ) where
   abbrev m : MsgName
   m = message t i Go
 
-  pub copy-is : copy_of t i (statement script t i) ≡ Some (put_copy t i put)
-  copy-is = ap (copy_of t i) e
+  abbrev s : Statement
+  s = statement script t i
 
-  pub message-is : (put_copy t i put).message ≡ outgoing script m
-  unfolding message_length address
-  message-is = rw e refl
+  abbrev from : List Span
+  from = at_origin script rules t i
 
-  pub receiver-is : receiver script m ≡ put.target
-  receiver-is = rw e refl
+  carried-is : (J : List Event) → carried script rules (Copy m ∷ J) m ≡ cond (has_back s) [] (gathered (values script rules J).memory t from)
+  unfolding values
+  carried-is J = cond-true (name_eq m m) _ ((values script rules J).bytes m) (name_eq-refl m)
 
-  pub length-is : message_length script m ≡ put.len
-  unfolding message_length
-  length-is = rw e refl
-
-  -- what it carries
-  carried-is : (J : List Event) → carried script rules (Copy m ∷ J) m ≡ map (λ k. (values script rules J).memory t (put.from + k)) (numbers_below put.len)
-  unfolding values gathered address
-  carried-is J = cond-true (name_eq m m) _ ((values script rules J).bytes m) (name_eq-refl m) ∙ rw e (append-nil (map (λ k. (values script rules J).memory t (put.from + k)) (numbers_below put.len)))
-
-  pub source-is : (J : List Event) (memory : List ℕ) → memory ≡ memory_bytes script rules J t → put.from + put.len ≤ script.memory → source memory (put_copy t i put) ≡ carried script rules (Copy m ∷ J) m
-  unfolding memory_bytes
-  source-is J memory h l = ap (λ (xs : List ℕ). take put.len (drop put.from xs)) h ∙ read-over ((values script rules J).memory t) script.memory put.from put.len l ∙ sym (carried-is J)
+  pub source-is : (J : List Event) (memory : List ℕ) → memory ≡ memory_bytes script rules J t → AllByRecursion (LiesWithin script (target script t i)) (origin_pieces s) → source memory (copy_of script t i) ≡ carried script rules (Copy m ∷ J) m
+  unfolding memory_bytes gathered
+  source-is J memory h within = ap (λ (xs : List ℕ). source xs (copy_of script t i)) h ∙ either (has_back s) ∙ sym (carried-is J)
+    where
+      either : (b : Bool) → flat_map (λ (p : Span). bytes_at (memory_bytes script rules J t) p.at p.len) (cond b [] from) ≡ cond b [] (gathered (values script rules J).memory t from)
+      either true = refl
+      either false = pieces-gathered script (target script t i) ((values script rules J).memory t) (origin_pieces s) within
 
 -- ---- the task
 
@@ -123,132 +132,131 @@ module _ (script : Script) (rules : Rules) (t : ℕ) (task : Task) (r : Run) (i 
   pub within-list : i < length (statements script t)
   within-list = first-is.0
 
-  is-data : is_data (statement script t i) ≡ true
-  is-data = (and_parts (is_data (statement script t i)) _ first-is.1).0
+  pub has-data : is_data (statement script t i) ≡ true
+  has-data = (and_parts (is_data (statement script t i)) _ first-is.1).0
 
-  pub next-put : (put : Put) × (statement script t i ≡ statement_of put)
-  next-put = data-put script h.stands.calls.supported t i is-data
+  -- no reason holds against the statement,
+  unrefused : Accepted script rules (target script t i) (statement script t i)
+  unrefused = copied-accepted script rules L go h.atomic (happened-head (Copy go) r.journal)
 
-  module _ (put : Put) (e : statement script t i ≡ statement_of put) where
-    accepted-put : (put.target < script.tasks) × (put.from + put.len ≤ script.memory) × ((c : ℕ) → put.org ≡ Some c → c < script.counters) × (put.len ≤ 16384)
-    unfolding address
-    accepted-put =
-        let acc = copied-accepted script rules L go h.atomic (happened-head (Copy go) r.journal) in (
-          subst (λ k. k < script.tasks) (receiver-is script rules t i put e) acc.target,
-          (subst (λ (s : Statement). AllByRecursion (λ (p : _). address script (target script t i) p.at + p.len ≤ script.memory) (origin_pieces s)) e acc.from).0,
-          (λ c at. subst (λ (o : Option ℕ). NamesCounter script o) at (subst (λ (s : Statement). NamesCounter script (org_counter s)) e acc.org)),
-          subst (λ k. k ≤ 16384) (length-is script rules t i put e) (subst (λ n. message_length script go ≤ n) (first-longest script h.stands.calls.supported.valid) (copied-short script rules L go h.atomic (happened-head (Copy go) r.journal))),
-        )
+  short : message_length script go ≤ 16384
+  short = subst (λ n. message_length script go ≤ n) (first-longest script h.stands.calls.supported.valid) (copied-short script rules L go h.atomic (happened-head (Copy go) r.journal))
 
-    pub counters-then : (counters : List ℕ) → length counters ≡ script.counters → ((c : ℕ) → c < script.counters → slice_index counters c ≡ count script rules r.journal t c) → (c : ℕ) → c < script.counters → slice_index (announced counters put.org) c ≡ count script rules L t c
-    unfolding count tells
-    counters-then counters size at c l =
-        announced-at counters put.org c (subst (λ n. c < n) (sym size) l)
-        ∙ ap (λ n. n + cond (option_any (λ d. d == c) put.org) 1 0) (at c l)
-        ∙ ap (λ b. count script rules r.journal t c + cond b 1 0) (told put.org)
-        ∙ ap (λ (s : Statement). count script rules r.journal t c + cond (copy_tells script rules go Go s t c) 1 0) (sym e)
-      where
-        told : (o : Option ℕ) → option_any (λ d. d == c) o ≡ is_counter o t t c
-        told None = refl
-        told (Some d) = sym (ap (λ b. b && d == c) (eqb-refl t))
+  -- and it may be sent.
+  pub is-sendable : IsSendable no_round no_entry t (statement script t i)
+  is-sendable = may-send script h.stands.calls.supported rules t i r.journal h.atomic (and_parts (happened (Issued t i) r.journal) _ (and_parts (is_data (statement script t i)) _ first-is.1).1).0
 
-    carries : source task.state.memory (put_copy t i put) ≡ carried script rules L go
-    carries = source-is script rules t i put e r.journal task.state.memory h.stands.holds.memory accepted-put.1
+  pub is-valid : ValidStatement (statement script t i)
+  is-valid = statement-valid script h.stands.calls.supported.valid t i
 
-    unit-here : task_unit task ≡ unit_of script
-    unit-here = unit-is script rules t task h.stands.calls
+  abbrev copy : DataCopy
+  copy = copy_of script t i
 
-    -- What a poll has to know of the put before it copies it.
-    source-spelled : AreSpelled (unit_of script) (put_copy t i put).message (carried script rules L go)
-    unfolding fragment_count message_length
-    source-spelled n j ln lj =
-        let leaves = sym (message-is script rules t i put e) in
-        let count : j < fragment_count script go = subst (λ (len : ℕ). j < fragments_in (unit_of script) len) (sym (length-is script rules t i put e)) lj in
-        subst (λ (o : _). HasSpelling (packet_of o (unit_of script) n j (carried script rules L go))) leaves
-        (subst HasSpelling (packet-is script rules go n j (carried script rules L go))
-        (written.packet (data_packet script go n j (carried script rules L go)), message-spelled script rules h.stands.calls.supported.valid h.stands.calls.rules_valid L go n j h.atomic (happened-head (Copy go) r.journal) ln count))
+  pub counters-then : (counters : List ℕ) → length counters ≡ script.counters → ((c : ℕ) → c < script.counters → slice_index counters c ≡ count script rules r.journal t c) → (c : ℕ) → c < script.counters → slice_index (announced counters copy.counter) c ≡ count script rules L t c
+  unfolding count tells
+  counters-then counters size at c l =
+      announced-at counters copy.counter c (subst (λ n. c < n) (sym size) l)
+      ∙ ap (λ n. n + cond (option_any (λ d. d == c) copy.counter) 1 0) (at c l)
+      ∙ ap (λ b. count script rules r.journal t c + cond b 1 0) (told (has_back (statement script t i)) (org_counter (statement script t i)))
+    where
+      told : (b : Bool) (o : Option ℕ) → option_any (λ d. d == c) (cond b None o) ≡ (not b && is_counter o t t c)
+      told true o = refl
+      told false None = refl
+      told false (Some d) = sym (ap (λ b. b && d == c) (eqb-refl t))
 
-    copyable-then : IsCopyable (task_unit task) task (put_copy t i put)
-    copyable-then = record {
-      target = subst (λ n. put.target < n) (sym h.stands.sender_count) accepted-put.0;
-      within = subst (λ n. put.from + put.len ≤ n) (sym (ap length h.stands.holds.memory ∙ memory-length script rules r.journal t)) accepted-put.1;
-      size = subst (λ (u : ℕ). IsUnit u × (u ≤ 256)) (sym unit-here) (let e = first-unit script h.stands.calls.supported.valid in (inl e, let e' : unit_of script ≤ 256 = omega (arith, e) in e'));
-      long = (refl, subst (λ (u : ℕ). put.len ≤ 64 * u) (sym unit-here) (let e = first-unit script h.stands.calls.supported.valid in let l = accepted-put.3 in omega (arith, e, l)));
-      counter = λ c at. subst (λ n. c < n) (sym h.stands.holds.counter_count) (accepted-put.2 c at);
-      spelled =
-          subst (λ (u : ℕ). AreSpelled u (put_copy t i put).message (source task.state.memory (put_copy t i put))) (sym unit-here)
-          (subst (AreSpelled (unit_of script) (put_copy t i put).message) (sym carries) source-spelled);
-    }
+  carries : source task.state.memory copy ≡ carried script rules L go
+  carries = source-is script rules t i r.journal task.state.memory h.stands.holds.memory unrefused.from
 
-    pub copyable : (popped : Task) → IsPopped task popped rest → IsCopyable (task_unit popped) popped (put_copy t i put)
-    copyable popped p = subst (λ (x : Task). IsCopyable (task_unit x) x (put_copy t i put)) (sym p.others) (record {
-      target = copyable-then.target;
-      within = copyable-then.within;
-      size = copyable-then.size;
-      long = copyable-then.long;
-      counter = copyable-then.counter;
-      spelled = copyable-then.spelled;
-    })
+  unit-here : task_unit task ≡ unit_of script
+  unit-here = unit-is script rules t task h.stands.calls
 
-    -- What stands then.
-    uncopied-then : below (length (statements script t)) (is_uncopied script L t) ≡ rest
-    uncopied-then =
-        below-less (length (statements script t)) (is_uncopied script r.journal t) (is_uncopied script L t) i rest listed
-        (and_right (is_data-of i) _ (and_right (happened (Issued t i) L) _ (ap not (happened-head (Copy go) r.journal))))
-        (λ k ne. λ j. is_data-of k && (happened-other (Issued t k) (Copy go) r.journal refl j && not (happened-other (Copied (message t k Go)) (Copy go) r.journal (other-message t i k ne) j)))
-      where
-        is_data-of : ℕ → Bool
-        is_data-of k = operations.is_data (statement script t k)
+  -- What a poll has to know of the data before it copies them.
+  source-spelled : AreSpelled (unit_of script) copy.message (carried script rules L go)
+  source-spelled n j ln lj =
+      let count : j < fragment_count script go = subst (λ (k : ℕ). j < k) (sym (count-is script rules go)) lj in
+      subst HasSpelling (packet-is script rules go n j (carried script rules L go))
+      (written.packet (data_packet script go n j (carried script rules L go)), message-spelled script rules h.stands.calls.supported.valid h.stands.calls.rules_valid L go n j h.atomic (happened-head (Copy go) r.journal) ln count)
 
-    holds-then : (after : State) → after ≡ record task.state { uncopied = after.uncopied; counters = after.counters } → after.uncopied.items ≡ rest → after.counters ≡ announced task.state.counters put.org → HoldsFor script rules t after L
-    unfolding next refusals reads runs
-    holds-then after same list counters =
-        let g = h.stands.holds in record {
-          number = ap (λ (x : State). x.number) same ∙ g.number;
-          next = ap (λ (x : State). x.next) same ∙ g.next;
-          ahead = λ k l. happened-other (Issued t k) (Copy go) r.journal refl ∙ g.ahead k (subst (λ n. n ≤ k) (ap (λ (x : State). x.next) same) l);
-          reads = ap (λ (x : State). x.reads.items) same ∙ g.reads;
-          refusals = ap (λ (x : State). x.refusals.items) same ∙ g.refusals;
-          memory = ap (λ (x : State). x.memory) same ∙ g.memory ∙ sym (memory-none script rules (Copy go) r.journal t refl);
-          counter_count = ap length counters ∙ announced-length task.state.counters put.org ∙ g.counter_count;
-          counters = λ c l. ap (λ xs. slice_index xs c) counters ∙ counters-then task.state.counters g.counter_count g.counters c l;
-          uncopied = list ∙ sym uncopied-then;
-          jobless = g.jobless;
-        }
+  copyable-then : IsCopyable (task_unit task) task copy
+  copyable-then =
+      let unit256 = first-unit script h.stands.calls.supported.valid in
+      let few = short in
+      record {
+        target = subst (λ n. target script t i < n) (sym h.stands.sender_count) unrefused.target;
+        within = pieces-within script (target script t i) (length task.state.memory) (has_back (statement script t i)) (origin_pieces (statement script t i)) (ap length h.stands.holds.memory ∙ memory-length script rules r.journal t) unrefused.from;
+        size = subst (λ (u : ℕ). IsUnit u × (u ≤ 256)) (sym unit-here) (inl unit256, (let e : unit_of script ≤ 256 = omega (arith, unit256) in e));
+        long = (ap length carries ∙ carried-length script rules L go h.atomic (happened-head (Copy go) r.journal), subst (λ (u : ℕ). message_length script go ≤ 64 * u) (sym unit-here) (omega (arith, unit256, few)));
+        counter = λ c at. subst (λ n. c < n) (sym h.stands.holds.counter_count) (counter-named script (has_back (statement script t i)) (org_counter (statement script t i)) c unrefused.org at);
+        spelled =
+            subst (λ (u : ℕ). AreSpelled u copy.message (source task.state.memory copy)) (sym unit-here)
+            (subst (AreSpelled (unit_of script) copy.message) (sym carries) source-spelled);
+      }
 
-    pub copied-stands : (popped after : Task) → IsPopped task popped rest → IsCopied (task_unit popped) (put_copy t i put) popped after → StandsFor script rules t after (record r { journal = L })
-    copied-stands popped after p g =
-        let unit-then : task_unit popped ≡ unit_of script = ap task_unit p.others ∙ unit-here in
-        let list = ap (λ (x : Task). x.state.uncopied) g.rest in
-        let state : after.state ≡ record task.state { uncopied = after.state.uncopied; counters = after.state.counters } =
-        ap (λ (x : Task). x.state) g.rest
-        ∙ (λ k. record { number = (p.others k).state.number; next = (p.others k).state.next; memory = (p.others k).state.memory; counters = after.state.counters; reads = (p.others k).state.reads; refusals = (p.others k).state.refusals; uncopied = sym list k }) in
-        let ends = ap (λ (x : Task). x.senders.items) p.others in
-        let senders : after.senders.items ≡ set task.senders.items put.target g.sender = g.senders ∙ ap (λ (xs : List SendingEnd). set xs put.target g.sender) ends in
-        let receivers : after.receivers.items ≡ task.receivers.items = ap (λ (x : Task). x.receivers.items) g.rest ∙ ap (λ (x : Task). x.receivers.items) p.others in
-        let to = receiver-is script rules t i put e in
-        let leaves = message-is script rules t i put e in
-        record {
-          calls = record {
-            supported = h.stands.calls.supported;
-            rules_valid = h.stands.calls.rules_valid;
-            sizes = ap (λ (x : Task). x.sizes) g.rest ∙ ap (λ (x : Task). x.sizes) p.others ∙ h.stands.calls.sizes;
-            statements = ap (λ (x : Task). x.statements) g.rest ∙ ap (λ (x : Task). x.statements) p.others ∙ h.stands.calls.statements;
-            limits = ap (λ (x : Task). x.limits) g.rest ∙ ap (λ (x : Task). x.limits) p.others ∙ h.stands.calls.limits;
-          };
-          holds = holds-then after.state state (ap (λ (x : _). x.items) list ∙ p.list) (g.counters ∙ ap (λ (x : Task). announced x.state.counters put.org) p.others);
-          sender_count = ap length senders ∙ length-set task.senders.items put.target g.sender ∙ h.stands.sender_count;
-          receiver_count = ap length receivers ∙ h.stands.receiver_count;
-          senders = copied-ends script rules go r t task.senders.items after.senders.items g.sender (source task.state.memory (put_copy t i put)) refl
-              (subst (λ (b : ℕ). b < length task.senders.items) (sym to) copyable-then.target)
-              (senders ∙ ap (λ (b : ℕ). set task.senders.items b g.sender) (sym to))
-              h.atomic carries
-              (λ s at.
-              g.change s (ap (λ (xs : List SendingEnd). slice_get xs put.target) ends ∙ ap (slice_get task.senders.items) (sym to) ∙ at)
-              ∙ (λ k. with_message (unit-then k) (leaves k) (source (p.others k).state.memory (put_copy t i put)) s))
-              h.stands.senders;
-          receivers = λ a l. subst (λ (xs : List _). ReceiverAt script (r.handed a t) (slice_get xs a)) (sym receivers) (h.stands.receivers a l);
-        }
+  pub copyable : (popped : Task) → IsPopped task popped rest → IsCopyable (task_unit popped) popped copy
+  copyable popped p = subst (λ (x : Task). IsCopyable (task_unit x) x copy) (sym p.others) (record {
+    target = copyable-then.target;
+    within = copyable-then.within;
+    size = copyable-then.size;
+    long = copyable-then.long;
+    counter = copyable-then.counter;
+    spelled = copyable-then.spelled;
+  })
+
+  -- What stands then.
+  uncopied-then : below (length (statements script t)) (is_uncopied script L t) ≡ rest
+  uncopied-then =
+      below-less (length (statements script t)) (is_uncopied script r.journal t) (is_uncopied script L t) i rest listed
+      (and_right (is_data-of i) _ (and_right (happened (Issued t i) L) _ (ap not (happened-head (Copy go) r.journal))))
+      (λ k ne. λ j. is_data-of k && (happened-other (Issued t k) (Copy go) r.journal refl j && not (happened-other (Copied (message t k Go)) (Copy go) r.journal (other-message t i k ne) j)))
+    where
+      is_data-of : ℕ → Bool
+      is_data-of k = operations.is_data (statement script t k)
+
+  holds-then : (after : State) → after ≡ record task.state { uncopied = after.uncopied; counters = after.counters } → after.uncopied.items ≡ rest → after.counters ≡ announced task.state.counters copy.counter → HoldsFor script rules t after L
+  unfolding next refusals reads runs
+  holds-then after same list counters =
+      let g = h.stands.holds in record {
+        number = ap (λ (x : State). x.number) same ∙ g.number;
+        next = ap (λ (x : State). x.next) same ∙ g.next;
+        ahead = λ k l. happened-other (Issued t k) (Copy go) r.journal refl ∙ g.ahead k (subst (λ n. n ≤ k) (ap (λ (x : State). x.next) same) l);
+        reads = ap (λ (x : State). x.reads.items) same ∙ g.reads;
+        refusals = ap (λ (x : State). x.refusals.items) same ∙ g.refusals;
+        memory = ap (λ (x : State). x.memory) same ∙ g.memory ∙ sym (memory-none script rules (Copy go) r.journal t refl);
+        counter_count = ap length counters ∙ announced-length task.state.counters copy.counter ∙ g.counter_count;
+        counters = λ c l. ap (λ xs. slice_index xs c) counters ∙ counters-then task.state.counters g.counter_count g.counters c l;
+        uncopied = list ∙ sym uncopied-then;
+        jobless = g.jobless;
+      }
+
+  pub copied-stands : (popped after : Task) → IsPopped task popped rest → IsCopied (task_unit popped) copy popped after → StandsFor script rules t after (record r { journal = L })
+  copied-stands popped after p g =
+      let to = target script t i in
+      let unit-then : task_unit popped ≡ unit_of script = ap task_unit p.others ∙ unit-here in
+      let list = ap (λ (x : Task). x.state.uncopied) g.rest in
+      let state : after.state ≡ record task.state { uncopied = after.state.uncopied; counters = after.state.counters } =
+      ap (λ (x : Task). x.state) g.rest
+      ∙ (λ k. record { number = (p.others k).state.number; next = (p.others k).state.next; memory = (p.others k).state.memory; counters = after.state.counters; reads = (p.others k).state.reads; refusals = (p.others k).state.refusals; uncopied = sym list k }) in
+      let ends = ap (λ (x : Task). x.senders.items) p.others in
+      let senders : after.senders.items ≡ set task.senders.items to g.sender = g.senders ∙ ap (λ (xs : List SendingEnd). set xs to g.sender) ends in
+      let receivers : after.receivers.items ≡ task.receivers.items = ap (λ (x : Task). x.receivers.items) g.rest ∙ ap (λ (x : Task). x.receivers.items) p.others in
+      record {
+        calls = record {
+          supported = h.stands.calls.supported;
+          rules_valid = h.stands.calls.rules_valid;
+          sizes = ap (λ (x : Task). x.sizes) g.rest ∙ ap (λ (x : Task). x.sizes) p.others ∙ h.stands.calls.sizes;
+          statements = ap (λ (x : Task). x.statements) g.rest ∙ ap (λ (x : Task). x.statements) p.others ∙ h.stands.calls.statements;
+          limits = ap (λ (x : Task). x.limits) g.rest ∙ ap (λ (x : Task). x.limits) p.others ∙ h.stands.calls.limits;
+        };
+        holds = holds-then after.state state (ap (λ (x : _). x.items) list ∙ p.list) (g.counters ∙ ap (λ (x : Task). announced x.state.counters copy.counter) p.others);
+        sender_count = ap length senders ∙ length-set task.senders.items to g.sender ∙ h.stands.sender_count;
+        receiver_count = ap length receivers ∙ h.stands.receiver_count;
+        senders = copied-ends script rules go r t task.senders.items after.senders.items g.sender (source task.state.memory copy) refl copyable-then.target senders h.atomic carries
+            (λ s at.
+            g.change s (ap (λ (xs : List SendingEnd). slice_get xs to) ends ∙ at)
+            ∙ (λ k. with_message (unit-then k) copy.message (source (p.others k).state.memory copy) s))
+            h.stands.senders;
+        receivers = λ a l. subst (λ (xs : List _). ReceiverAt script (r.handed a t) (slice_get xs a)) (sym receivers) (h.stands.receivers a l);
+      }
 
 -- ---- the first number, taken off its list
 
@@ -268,20 +276,18 @@ module _ (script : Script) (rules : Rules) (t : ℕ) (task : Task) (r : Run) (i 
   pub no-statement : (x : ℕ) (o : Option Statement) → x ≡ i → o ≡ slice_get task.statements x → o ≡ None → ⊥
   no-statement x o at made is = let e : None ≡ Some there.0 = sym is ∙ made ∙ ap (slice_get task.statements) at ∙ there.1 in absurd (cc)
 
-  -- and is a put.
-  found : (x : ℕ) (s : Statement) → x ≡ i → Some s ≡ slice_get task.statements x → s ≡ statement script t i
+  -- and is the record's,
+  pub found : (x : ℕ) (s : Statement) → x ≡ i → Some s ≡ slice_get task.statements x → s ≡ statement script t i
   found x s at made = let e : Some s ≡ Some there.0 = made ∙ ap (slice_get task.statements) at ∙ there.1 in (let q : s ≡ there.0 = cc in q) ∙ sym there.2
 
-  copy-there : (number x : ℕ) (s : Statement) (o : Option DataCopy) → number ≡ t → x ≡ i → Some s ≡ slice_get task.statements x → o ≡ copy_of number x s → o ≡ Some (put_copy t i (next-put script rules t task r i rest h).0)
-  copy-there number x s o same at listed made =
-      made
-      ∙ (λ k. copy_of (same k) (at k) (found x s at listed k))
-      ∙ copy-is script rules t i (next-put script rules t task r i rest h).0 (next-put script rules t task r i rest h).1
+  -- which may be copied.
+  pub found-data : (x : ℕ) (s : Statement) → x ≡ i → Some s ≡ slice_get task.statements x → ValidStatement s × (is_data s ≡ true)
+  found-data x s at made = subst (λ (s : Statement). ValidStatement s × (is_data s ≡ true)) (sym (found x s at made)) (is-valid script rules t task r i rest h, has-data script rules t task r i rest h)
 
-  pub found-copy : (number x : ℕ) (s : Statement) (o : Option DataCopy) (c : DataCopy) → number ≡ t → x ≡ i → Some s ≡ slice_get task.statements x → o ≡ copy_of number x s → o ≡ Some c → c ≡ put_copy t i (next-put script rules t task r i rest h).0
-  found-copy number x s o c same at listed made is =
-      let e : Some c ≡ Some (put_copy t i (next-put script rules t task r i rest h).0) = sym is ∙ copy-there number x s o same at listed made in
-      cc
+  pub found-sendable : (number x : ℕ) (s : Statement) → number ≡ t → x ≡ i → Some s ≡ slice_get task.statements x → IsSendable no_round no_entry number s
+  found-sendable number x s same at made =
+      subst (λ (a : ℕ). IsSendable no_round no_entry a s) (sym same)
+      (subst (IsSendable no_round no_entry t) (sym (found x s at made)) (is-sendable script rules t task r i rest h))
 
-  pub no-copy : (number x : ℕ) (s : Statement) (o : Option DataCopy) → number ≡ t → x ≡ i → Some s ≡ slice_get task.statements x → o ≡ copy_of number x s → o ≡ None → ⊥
-  no-copy number x s o same at listed made is = let e : None ≡ Some (put_copy t i (next-put script rules t task r i rest h).0) = sym is ∙ copy-there number x s o same at listed made in absurd (cc)
+  pub found-copy : (number x : ℕ) (s : Statement) (c : DataCopy) → number ≡ t → x ≡ i → Some s ≡ slice_get task.statements x → ((script : Script) → s ≡ statement script number x → c ≡ copy_of script number x) → c ≡ copy_of script t i
+  found-copy number x s c same at listed made = made script (found x s at listed ∙ (λ k. statement script (sym same k) (sym at k))) ∙ (λ k. copy_of script (same k) (at k))

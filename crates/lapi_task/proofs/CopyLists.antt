@@ -77,7 +77,7 @@ unfolding copy_each
 no-copy K = refl
 
 module _ (script : Script) (perf : IsSupported script) (J : List Event) (t : ℕ) where
-  -- what statement i has to copy: the data of a put that was issued
+  -- what statement i has to copy: its data, if they were issued
   to-copy : (i : ℕ) → to_copy_of script J t i ≡ cond (is_data (statement script t i) && happened (Issued t i) J) (message t i Go ∷ []) []
   to-copy i = ap (λ b. cond (is_data (statement script t i) && happened (Issued t i) J) (message t i Go ∷ []) (cond (b && happened (Entered t i) J) (joins script t i) [])) (no-join script perf t i)
 

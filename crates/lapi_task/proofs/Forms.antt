@@ -15,6 +15,68 @@ use Rattle.lapi_base.specs.Record.Operations as operations
 use Rattle.lapi_base.proofs.ListLaws.{all-get, all-or, get-some}
 use Rattle.lapi_task.specs.Supported.{IsSupported}
 
+-- none of these statements is a collective call,
+joins-none : (s : Statement) → is_built_statement s ≡ true → has_join s ≡ false
+unfolding is_built_statement
+joins-none (statements.Store at bytes) h = refl
+joins-none (statements.Put target to from len tgt org cmpl) h = refl
+joins-none (statements.Get target from to len tgt org) h = refl
+joins-none (statements.Putv target to from tgt org cmpl) h = refl
+joins-none (statements.Getv target from to tgt org) h = refl
+joins-none (statements.Rmw target op at in1 in2 prev org) h = refl
+joins-none (statements.Wait counter value) h = refl
+joins-none (statements.Set counter value) h = refl
+joins-none (statements.Read counter) h = refl
+joins-none _ h = absurd (false≢true h)
+
+-- and none sends an active message
+actives-none : (s : Statement) → is_built_statement s ≡ true → is_am s ≡ false
+unfolding is_built_statement
+actives-none (statements.Store at bytes) h = refl
+actives-none (statements.Put target to from len tgt org cmpl) h = refl
+actives-none (statements.Get target from to len tgt org) h = refl
+actives-none (statements.Putv target to from tgt org cmpl) h = refl
+actives-none (statements.Getv target from to tgt org) h = refl
+actives-none (statements.Rmw target op at in1 in2 prev org) h = refl
+actives-none (statements.Wait counter value) h = refl
+actives-none (statements.Set counter value) h = refl
+actives-none (statements.Read counter) h = refl
+actives-none _ h = absurd (false≢true h)
+
+pub statement-is : (script : Script) (a i : ℕ) (s : Statement) → slice_get (operations.statements script a) i ≡ Some s → statement script a i ≡ s
+unfolding statement
+statement-is script a i s h = get_or_from_slice_get (operations.statements script a) i s statements.Fence h
+
+module _ (script : Script) (perf : IsSupported script) where
+  pub list-built : (a : ℕ) → IsBuiltList (operations.statements script a)
+  list-built a = all-or IsBuiltList script.lists a [] perf.built tt
+
+  pub statement-built : (a i : ℕ) (s : Statement) → slice_get (operations.statements script a) i ≡ Some s → is_built_statement s ≡ true
+  statement-built a i s h = all-get (λ x. IsTrue (is_built_statement x)) (operations.statements script a) i s (list-built a) h
+
+  -- a statement is of these forms, or stands past the end
+  pub forms : (a i : ℕ) → (is_built_statement (statement script a i) ≡ true) ⊎ (statement script a i ≡ statements.Fence)
+  unfolding statement
+  forms a i =
+      ⊎_elim
+      (λ (lt : i < length (operations.statements script a)). let some = get-some (operations.statements script a) i lt in inl (subst (λ (x : Statement). is_built_statement x ≡ true) (sym (statement-is script a i some.0 some.1)) (statement-built a i some.0 some.1)))
+      (λ (ge : length (operations.statements script a) ≤ i). inr (get_or_past (operations.statements script a) i statements.Fence ge))
+      (cases_lt i (length (operations.statements script a)))
+
+  pub no-join : (a i : ℕ) → has_join (statement script a i) ≡ false
+  no-join a i =
+      ⊎_elim
+      (λ (b : is_built_statement (statement script a i) ≡ true). joins-none (statement script a i) b)
+      (λ (e : statement script a i ≡ statements.Fence). ap has_join e)
+      (forms a i)
+
+  pub no-am : (a i : ℕ) → is_am (statement script a i) ≡ false
+  no-am a i =
+      ⊎_elim
+      (λ (b : is_built_statement (statement script a i) ≡ true). actives-none (statement script a i) b)
+      (λ (e : statement script a i ≡ statements.Fence). ap is_am e)
+      (forms a i)
+
 -- a put to a plain address, and its statement
 pub record Put : Type 0 where
   pub target : ℕ
@@ -44,15 +106,6 @@ put-shape (statements.Set counter value) h d = absurd (false≢true d)
 put-shape (statements.Read counter) h d = absurd (false≢true d)
 put-shape _ h d = absurd (false≢true h)
 
-joins-none : (s : Statement) → is_built_statement s ≡ true → has_join s ≡ false
-unfolding is_built_statement
-joins-none (statements.Put target to from len tgt org cmpl) h = refl
-joins-none (statements.Store at bytes) h = refl
-joins-none (statements.Wait counter value) h = refl
-joins-none (statements.Set counter value) h = refl
-joins-none (statements.Read counter) h = refl
-joins-none _ h = absurd (false≢true h)
-
 backs-none : (s : Statement) → is_built_statement s ≡ true → (has_back s ≡ false) × (is_am s ≡ false) × (is_rmw s ≡ false)
 unfolding is_built_statement
 backs-none (statements.Put target to from len tgt org cmpl) h = (refl, refl, refl)
@@ -62,39 +115,13 @@ backs-none (statements.Set counter value) h = (refl, refl, refl)
 backs-none (statements.Read counter) h = (refl, refl, refl)
 backs-none _ h = absurd (false≢true h)
 
-pub statement-is : (script : Script) (a i : ℕ) (s : Statement) → slice_get (operations.statements script a) i ≡ Some s → statement script a i ≡ s
-unfolding statement
-statement-is script a i s h = get_or_from_slice_get (operations.statements script a) i s statements.Fence h
-
 module _ (script : Script) (perf : IsSupported script) where
-  pub list-built : (a : ℕ) → IsBuiltList (operations.statements script a)
-  list-built a = all-or IsBuiltList script.lists a [] perf.built tt
-
-  pub statement-built : (a i : ℕ) (s : Statement) → slice_get (operations.statements script a) i ≡ Some s → is_built_statement s ≡ true
-  statement-built a i s h = all-get (λ x. IsTrue (is_built_statement x)) (operations.statements script a) i s (list-built a) h
-
-  -- a statement is of these forms, or stands past the end
-  pub forms : (a i : ℕ) → (is_built_statement (statement script a i) ≡ true) ⊎ (statement script a i ≡ statements.Fence)
-  unfolding statement
-  forms a i =
-      ⊎_elim
-      (λ (lt : i < length (operations.statements script a)). let some = get-some (operations.statements script a) i lt in inl (subst (λ (x : Statement). is_built_statement x ≡ true) (sym (statement-is script a i some.0 some.1)) (statement-built a i some.0 some.1)))
-      (λ (ge : length (operations.statements script a) ≤ i). inr (get_or_past (operations.statements script a) i statements.Fence ge))
-      (cases_lt i (length (operations.statements script a)))
-
   pub data-put : (a i : ℕ) → is_data (statement script a i) ≡ true → (put : Put) × (statement script a i ≡ statement_of put)
   data-put a i d =
       ⊎_elim
       (λ (b : is_built_statement (statement script a i) ≡ true). put-shape (statement script a i) b d)
       (λ (e : statement script a i ≡ statements.Fence). absurd (false≢true (ap is_data (sym e) ∙ d)))
-      (forms a i)
-
-  pub no-join : (a i : ℕ) → has_join (statement script a i) ≡ false
-  no-join a i =
-      ⊎_elim
-      (λ (b : is_built_statement (statement script a i) ≡ true). joins-none (statement script a i) b)
-      (λ (e : statement script a i ≡ statements.Fence). ap has_join e)
-      (forms a i)
+      (forms script perf a i)
 
   -- no data come back, no message is active, and no word is updated
   pub no-back : (a i : ℕ) → (has_back (statement script a i) ≡ false) × (is_am (statement script a i) ≡ false) × (is_rmw (statement script a i) ≡ false)
@@ -102,8 +129,4 @@ module _ (script : Script) (perf : IsSupported script) where
       ⊎_elim
       (λ (b : is_built_statement (statement script a i) ≡ true). backs-none (statement script a i) b)
       (λ (e : statement script a i ≡ statements.Fence). (ap has_back e, ap is_am e, ap is_rmw e))
-      (forms a i)
-
-  -- no message is active
-  pub no-am : (a i : ℕ) → is_am (statement script a i) ≡ false
-  no-am a i = (no-back a i).1.0
+      (forms script perf a i)

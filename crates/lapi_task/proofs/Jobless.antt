@@ -14,12 +14,12 @@ use Rattle.lapi_base.specs.Record.Jobs.{is_job, landed_jobs, queue, runs, busy}
 use Rattle.lapi_base.specs.Record.Names.{leg_eq, Begun, happened}
 use Rattle.lapi_base.specs.Record.Operations.{statement, is_am, receiver}
 use Rattle.lapi_task.specs.Supported.{IsSupported}
-use Rattle.lapi_task.proofs.Forms.{no-back}
+use Rattle.lapi_task.proofs.Forms.{no-am}
 
 module _ (script : Script) (rules : Rules) (perf : IsSupported script) where
   pub no-completion : (a i : ℕ) → has_completion script rules a i ≡ false
   unfolding has_completion
-  no-completion a i = and_left (is_am (statement script a i)) _ (no-back script perf a i).1
+  no-completion a i = and_left (is_am (statement script a i)) _ (no-am script perf a i)
 
   no-job : (t : ℕ) (m : MsgName) → is_job script rules t m ≡ false
   unfolding is_job

@@ -5,6 +5,8 @@ pub mod ArrivingAcks
 pub mod ArrivingFits
 pub mod CopyLaws
 pub mod CopyLists
+pub mod CopyParts
+pub mod CopySendable
 pub mod Forms
 pub mod Jobless
 pub mod MessageCopies

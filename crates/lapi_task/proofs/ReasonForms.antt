@@ -1,108 +1,56 @@
--- The statements of a script that is performed: refusal_of they are refused, and what they do otherwise.
-use Rattle.std.proofs.Common.{◌≡◌, ℕ, ◌+◌, ◌<◌, ◌≤◌, Bool, true, false, cond, not, ◌||◌, List, [], ◌∷◌, length, Option, Some, None, refl, sym, ap, ◌∙◌, ⊎_elim, lit≤}
-use Rattle.std.specs.Prelude.{nat_le, nat_lt}
-use Rattle.std.specs.List.{AllByRecursion}
-use Rattle.std.proofs.lemmas.Bool.{false≢true, cases_lt, le-leb, lt-leb, le-ltb, lt-ltb}
-use Rattle.lapi_base.specs.declared.address.Addr.TheVariants.{Plain}
+-- What a statement that isn't refused finds, and that a task has few statements and no round of addresses.
+use Rattle.std.proofs.Common.{◌≡◌, ℕ, ◌+◌, ◌<◌, ◌≤◌, true, false, List, [], ◌∷◌, length, None, refl, sym, ap, subst, ⊎_elim, arith, lit≤}
+use Rattle.std.specs.Prelude.{not, nat_le, nat_lt, slice_get}
+use Rattle.std.specs.List.{AllByRecursion, list_any}
+use Rattle.std.proofs.lemmas.Bool.{false≢true, not-false, or_parts, leb-true, ltb-true}
+use Rattle.lapi_base.specs.declared.piece.Piece.{Piece}
 use Rattle.lapi_base.specs.declared.statement.Statement.{Statement}
 use Rattle.lapi_base.specs.declared.statement.Statement.TheVariants as statements
 use Rattle.lapi_base.specs.declared.script.Script.{Script}
 use Rattle.lapi_base.specs.declared.rule.Rules.{Rules}
-use Rattle.lapi_base.specs.declared.refusal.Refusal.TheVariants.{BadTask, BadTargetRange, BadOriginRange, BadCounter, TooLong}
 use Rattle.lapi_base.specs.declared.event.Event.{Event}
-use Rattle.lapi_base.specs.Packet.Layout.{longest_of, layout_of, longest, sizes_of}
 use Rattle.lapi_base.specs.Input.Built.{is_built_statement}
-use Rattle.lapi_base.specs.Record.Operations.{statement, address}
+use Rattle.lapi_base.specs.Record.Operations.{statement, address, target, origin_pieces, table_rounds, is_table}
 use Rattle.lapi_base.specs.Record.Operations as operations
-use Rattle.lapi_base.specs.Record.Refusals.{first_reason, refusal_by, refusal_of}
-use Rattle.lapi_base.specs.Record.Valid.{ValidStatement}
-use Rattle.lapi_base.proofs.ListLaws.{all-or}
-use Rattle.lapi_base.specs.declared.sizes.Sizes.{Sizes}
-use Rattle.lapi_base.specs.declared.refusal.Refusal.{Refusal}
-use Rattle.lapi_base.specs.Record.Refusals.{counters_of, round_passed, option_any}
-use Rattle.lapi_base.specs.Record.Operations.{table_rounds, is_table}
 use Rattle.lapi_base.specs.Record.Names.{happened, Passed}
+use Rattle.lapi_base.specs.Record.Refusals.{refusal_by, refusal_of, lies_within, counters_of, round_passed, option_any}
+use Rattle.lapi_base.specs.Record.Valid.{ValidStatement}
 use Rattle.lapi_base.proofs.BelowLaws.{below-none}
-use Rattle.std.specs.Prelude.{not, slice_get}
-use Rattle.std.specs.List.{list_any}
-use Rattle.lapi_task.proofs.Forms.{forms}
+use Rattle.lapi_base.proofs.ListLaws.{all-or}
+use Rattle.lapi_laws.proofs.Shorts.{none-tests}
+use Rattle.lapi_task.specs.Steps.{MayStep}
 use Rattle.lapi_task.specs.Supported.{IsSupported}
+use Rattle.lapi_task.proofs.Forms.{forms}
 
--- a counter that the statement names isn't there
-abbrev pub names_no_counter : Sizes → Statement → Bool
-names_no_counter sizes s = list_any (λ c. not (nat_lt c sizes.counters)) (counters_of s)
+module _ (script : Script) (rules : Rules) (J : List Event) (a i : ℕ) (accepted : refusal_of script rules J a i ≡ None) where
+  no-outside : list_any (λ (p : Piece). not (lies_within script (target script a i) p)) (origin_pieces (statement script a i)) ≡ false
+  unfolding refusal_of refusal_by
+  no-outside = (none-tests _ accepted).1.1.0
 
--- why a statement of these forms is refused
-abbrev pub reason_of : Sizes → Statement → Option Refusal
-reason_of sizes (statements.Store at bytes) = cond (nat_le (at + length bytes) sizes.memory) None (Some BadOriginRange)
-reason_of sizes (statements.Put target (Plain to) from len tgt org cmpl) =
-    cond (nat_lt target sizes.tasks)
-    (cond (nat_le (to + len) sizes.memory)
-    (cond (nat_le (from + len) sizes.memory)
-    (cond (names_no_counter sizes (statements.Put target (Plain to) from len tgt org cmpl)) (Some BadCounter)
-    (cond (nat_le len (longest (layout_of sizes.layout))) None (Some TooLong)))
-    (Some BadOriginRange))
-    (Some BadTargetRange))
-    (Some BadTask)
-reason_of sizes (statements.Wait counter value) = cond (nat_lt counter sizes.counters) None (Some BadCounter)
-reason_of sizes (statements.Set counter value) = cond (nat_lt counter sizes.counters) None (Some BadCounter)
-reason_of sizes (statements.Read counter) = cond (nat_lt counter sizes.counters) None (Some BadCounter)
-reason_of sizes _ = None
+  no-missing : list_any (λ c. not (nat_lt c script.counters)) (counters_of (statement script a i)) ≡ false
+  unfolding refusal_of refusal_by
+  no-missing = (none-tests _ accepted).1.1.1.0
 
-lt-is-not-le : (a b : ℕ) → nat_lt a b ≡ not (nat_le b a)
-lt-is-not-le a b =
-    ⊎_elim
-    (λ (lt : a < b). lt-ltb a b lt ∙ sym (ap not (lt-leb b a lt)))
-    (λ (ge : b ≤ a). le-ltb a b ge ∙ sym (ap not (le-leb b a ge)))
-    (cases_lt a b)
+  -- a store finds its places
+  store-fits : (at : ℕ) (bytes : List ℕ) → statement script a i ≡ statements.Store at bytes → at + length bytes ≤ script.memory
+  unfolding address
+  store-fits at bytes e =
+      let none = subst (λ (s : Statement). list_any (λ (p : Piece). not (lies_within script (target script a i) p)) (origin_pieces s) ≡ false) e no-outside in
+      leb-true (at + length bytes) script.memory (not-false _ (or_parts (not (nat_le (at + length bytes) script.memory)) false none).0)
 
-module _ (script : Script) (rules : Rules) (J : List Event) (a i : ℕ) where
-  why-store : (at : ℕ) (bytes : List ℕ) → statement script a i ≡ statements.Store at bytes → refusal_of script rules J a i ≡ reason_of (sizes_of script) (statements.Store at bytes)
-  unfolding refusal_of refusal_by first_reason address
-  why-store at bytes e = rw e (tests (nat_le (at + length bytes) script.memory))
-    where
-      tests : (b : Bool) → cond (not b || false) (Some BadOriginRange) None ≡ cond b None (Some BadOriginRange)
-      tests true = refl
-      tests false = refl
+  -- and what names one counter finds it,
+  counter-there : (c : ℕ) → counters_of (statement script a i) ≡ c ∷ [] → c < script.counters
+  counter-there c e =
+      let none = subst (λ (cs : List ℕ). list_any (λ c. not (nat_lt c script.counters)) cs ≡ false) e no-missing in
+      ltb-true c script.counters (not-false _ (or_parts (not (nat_lt c script.counters)) false none).0)
 
-  why-put : (target to from len : ℕ) (tgt org cmpl : Option ℕ) → statement script a i ≡ statements.Put target (Plain to) from len tgt org cmpl → refusal_of script rules J a i ≡ reason_of (sizes_of script) (statements.Put target (Plain to) from len tgt org cmpl)
-  unfolding refusal_of refusal_by first_reason address longest_of
-  why-put target to from len tgt org cmpl e =
-      rw e (tests (nat_lt target script.tasks) (nat_le (to + len) script.memory) (nat_le (from + len) script.memory) (names_no_counter (sizes_of script) (statements.Put target (Plain to) from len tgt org cmpl)) (nat_lt (longest (layout_of script.layout)) len) (nat_le len (longest (layout_of script.layout))) (lt-is-not-le (longest (layout_of script.layout)) len))
-    where
-      tests : (b c d m long short : Bool) → long ≡ not short → cond (not b) (Some BadTask) (cond (not c || false) (Some BadTargetRange) (cond (not d || false) (Some BadOriginRange) (cond m (Some BadCounter) (cond long (Some TooLong) None)))) ≡ cond b (cond c (cond d (cond m (Some BadCounter) (cond short None (Some TooLong))) (Some BadOriginRange)) (Some BadTargetRange)) (Some BadTask)
-      tests true true true true long short h = refl
-      tests true true true false long true h = ap (λ b. cond b (Some TooLong) None) h
-      tests true true true false long false h = ap (λ b. cond b (Some TooLong) None) h
-      tests true true false m long short h = refl
-      tests true false d m long short h = refl
-      tests false c d m long short h = refl
-
-  counter-test : (b : Bool) → cond (not b || false) (Some BadCounter) None ≡ cond b None (Some BadCounter)
-  counter-test true = refl
-  counter-test false = refl
-
-  why-wait : (counter value : ℕ) → statement script a i ≡ statements.Wait counter value → refusal_of script rules J a i ≡ reason_of (sizes_of script) (statements.Wait counter value)
-  unfolding refusal_of refusal_by first_reason
-  why-wait counter value e = rw e (counter-test (nat_lt counter script.counters))
-
-  why-set : (counter value : ℕ) → statement script a i ≡ statements.Set counter value → refusal_of script rules J a i ≡ reason_of (sizes_of script) (statements.Set counter value)
-  unfolding refusal_of refusal_by first_reason
-  why-set counter value e = rw e (counter-test (nat_lt counter script.counters))
-
-  why-read : (counter : ℕ) → statement script a i ≡ statements.Read counter → refusal_of script rules J a i ≡ reason_of (sizes_of script) (statements.Read counter)
-  unfolding refusal_of refusal_by first_reason
-  why-read counter e = rw e (counter-test (nat_lt counter script.counters))
-
-  -- the reason does not depend on the journal
-  pub why-is : (s : Statement) → statement script a i ≡ s → is_built_statement s ≡ true → refusal_of script rules J a i ≡ reason_of (sizes_of script) s
-  unfolding is_built_statement
-  why-is (statements.Store at bytes) e h = why-store at bytes e
-  why-is (statements.Put target (Plain to) from len tgt org cmpl) e h = why-put target to from len tgt org cmpl e
-  why-is (statements.Wait counter value) e h = why-wait counter value e
-  why-is (statements.Set counter value) e h = why-set counter value e
-  why-is (statements.Read counter) e h = why-read counter e
-  why-is _ e h = absurd (false≢true h)
+  -- so a statement that isn't refused may be performed, whatever its form.
+  pub suits : (s : Statement) (memory counters : List ℕ) → statement script a i ≡ s → length memory ≡ script.memory → length counters ≡ script.counters → MayStep s memory counters
+  suits (statements.Store at bytes) memory counters e m c = let l = store-fits at bytes e in omega (arith, l, m)
+  suits (statements.Wait counter value) memory counters e m c = let l = counter-there counter (ap counters_of e) in omega (arith, l, c)
+  suits (statements.Set counter value) memory counters e m c = let l = counter-there counter (ap counters_of e) in omega (arith, l, c)
+  suits (statements.Read counter) memory counters e m c = let l = counter-there counter (ap counters_of e) in omega (arith, l, c)
+  suits _ memory counters e m c = tt
 
 -- a task has few statements
 pub few-statements : (script : Script) → IsSupported script → (a : ℕ) → length (operations.statements script a) ≤ 512
@@ -115,8 +63,12 @@ few-statements script p a = all-or (λ (list : List Statement). length list ≤ 
 -- No round of addresses was passed, since no task has one.
 plain : (script : Script) (s : Statement) → is_built_statement s ≡ true → is_table script s ≡ false
 unfolding is_built_statement
-plain script (statements.Put target to from len tgt org cmpl) h = refl
 plain script (statements.Store at bytes) h = refl
+plain script (statements.Put target to from len tgt org cmpl) h = refl
+plain script (statements.Get target from to len tgt org) h = refl
+plain script (statements.Putv target to from tgt org cmpl) h = refl
+plain script (statements.Getv target from to tgt org) h = refl
+plain script (statements.Rmw target op at in1 in2 prev org) h = refl
 plain script (statements.Wait counter value) h = refl
 plain script (statements.Set counter value) h = refl
 plain script (statements.Read counter) h = refl

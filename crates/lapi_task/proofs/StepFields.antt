@@ -1,7 +1,7 @@
 -- What a task holds after each event of a step.
-use Rattle.std.proofs.Common.{◌≡◌, ℕ, suc, ◌+◌, ◌-◌, ◌<◌, ◌≤◌, ◌==◌, Bool, true, false, cond, not, ◌&&◌, List, [], ◌∷◌, ◌++◌, length, slice_set, Some, None, refl, sym, ap, ◌∙◌, subst, ⊎_elim, arith, add-zero}
-use Rattle.std.specs.Prelude.{nat_le, nat_lt, slice_index}
-use Rattle.std.proofs.lemmas.Bool.{false≢true, cond-true, cond-false, and_left, and_right, and_from, cases_eq, ne_eqb, leb-true, ltb-true}
+use Rattle.std.proofs.Common.{◌≡◌, ℕ, suc, ◌-◌, ◌<◌, ◌≤◌, ◌==◌, Bool, true, false, cond, not, ◌&&◌, List, [], ◌∷◌, ◌++◌, length, slice_set, refl, sym, ap, ◌∙◌, subst, ⊎_elim, arith, add-zero}
+use Rattle.std.specs.Prelude.{slice_index}
+use Rattle.std.proofs.lemmas.Bool.{cond-true, cond-false, cond_both, and_left, and_right, and_from, cases_eq, ne_eqb}
 use Rattle.std.proofs.lemmas.List.{append-nil, length-set, get_or-set_same, get_or-set_other}
 use Rattle.lapi_base.specs.declared.script.Script.{Script}
 use Rattle.lapi_base.specs.declared.rule.Rules.{Rules}
@@ -11,9 +11,7 @@ use Rattle.lapi_base.specs.declared.event.Event.{Event}
 use Rattle.lapi_base.specs.declared.event.Event.TheVariants.{Issue, Refuse, Pass}
 use Rattle.lapi_base.specs.declared.message.Leg.TheVariants.{Go}
 use Rattle.lapi_base.specs.declared.refusal.Refusal.{Refusal}
-use Rattle.lapi_base.specs.declared.refusal.Refusal.TheVariants.{BadOriginRange, BadCounter}
 use Rattle.lapi_base.specs.Record.Below.{below}
-use Rattle.lapi_base.specs.Input.Built.{is_built_statement}
 use Rattle.lapi_base.specs.Record.Counters.{count, reads, read_by, tells, issued_count, passed_count}
 use Rattle.lapi_base.specs.Record.Jobs.{runs}
 use Rattle.lapi_base.specs.Record.Names.{message, happened, key_of, key_eq, Issued, Copied}
@@ -25,8 +23,6 @@ use Rattle.lapi_base.proofs.BelowLaws.{below-cut, below-same}
 use Rattle.lapi_base.proofs.NameLaws.{happened-head, happened-other}
 use Rattle.lapi_base.proofs.TestLaws.{eqb-refl}
 use Rattle.lapi_task.specs.declared.state.State.{State}
-use Rattle.lapi_base.specs.Packet.Layout.{sizes_of}
-use Rattle.lapi_task.proofs.ReasonForms.{reason_of}
 use Rattle.lapi_task.specs.StandsFor.{HoldsFor, is_uncopied}
 use Rattle.lapi_task.specs.Steps.{MayStep, stored, counters_set, with_read, with_uncopied, IsRefused, IsIssued, PassesWait}
 use Rattle.lapi_task.proofs.StepMemories.{memory-none, memory-written, memory-length}
@@ -39,28 +35,6 @@ below-more n i p q l same none here past =
     ∙ sym (below-cut (suc i) n q (omega arith) past ∙ cond-true (q i) (below i q ++ i ∷ []) (below i q) here)
 
 module _ (script : Script) (rules : Rules) where
-  store-fits : (size : ℕ) → cond (nat_le size script.memory) None (Some BadOriginRange) ≡ None → size ≤ script.memory
-  store-fits size h = elim (nat_le size script.memory) as (λ b. nat_le size script.memory ≡ b → cond b None (Some BadOriginRange) ≡ None → size ≤ script.memory) [
-    | true ↦ λ e _. leb-true size script.memory e
-    | false ↦ λ _ n. absurd (cc)
-  ] refl h
-
-  counter-there : (c : ℕ) → cond (nat_lt c script.counters) None (Some BadCounter) ≡ None → c < script.counters
-  counter-there c h = elim (nat_lt c script.counters) as (λ b. nat_lt c script.counters ≡ b → cond b None (Some BadCounter) ≡ None → c < script.counters) [
-    | true ↦ λ e _. ltb-true c script.counters e
-    | false ↦ λ _ n. absurd (cc)
-  ] refl h
-
-  -- a statement that isn't refused finds its places and its counter
-  pub suits : (s : Statement) (memory counters : List ℕ) → length memory ≡ script.memory → length counters ≡ script.counters → is_built_statement s ≡ true → reason_of (sizes_of script) s ≡ None → MayStep s memory counters
-  unfolding is_built_statement
-  suits (statements.Store at bytes) memory counters m c b h = let l = store-fits (at + length bytes) h in omega (arith, l, m)
-  suits (statements.Put target to from len tgt org cmpl) memory counters m c b h = tt
-  suits (statements.Wait counter value) memory counters m c b h = let l = counter-there counter h in omega (arith, l, c)
-  suits (statements.Set counter value) memory counters m c b h = let l = counter-there counter h in omega (arith, l, c)
-  suits (statements.Read counter) memory counters m c b h = let l = counter-there counter h in omega (arith, l, c)
-  suits _ memory counters m c b h = absurd (false≢true b)
-
   module _ (t : ℕ) (J : List Event) where
     -- an event that issues and copies nothing
     uncopied-same : (e : Event) (k : ℕ) → key_eq (Issued t k) (key_of e) ≡ false → key_eq (Copied (message t k Go)) (key_of e) ≡ false → is_uncopied script J t k ≡ is_uncopied script (e ∷ J) t k
@@ -191,46 +165,26 @@ module _ (script : Script) (rules : Rules) where
     issued-later i k l h = happened-other (Issued t k) (Issue t i) J (and_right (t == t) (k == i) (ne_eqb k i (λ e. let x = e in omega (arith, l, x)))) ∙ h
 
     module _ (before : State) (h : HoldsFor script rules t before J) where
-      reads-issued : (s : Statement) → is_built_statement s ≡ true → MayStep s before.memory before.counters → with_read s before.counters before.next before.reads.items ≡ reads script rules J t ++ read_by script rules J t before.next s
-      unfolding is_built_statement
-      reads-issued (statements.Store at bytes) b u = h.reads ∙ sym (append-nil (reads script rules J t))
-      reads-issued (statements.Put target to from len tgt org cmpl) b u = h.reads ∙ sym (append-nil (reads script rules J t))
-      reads-issued (statements.Wait counter value) b u = h.reads ∙ sym (append-nil (reads script rules J t))
-      reads-issued (statements.Set counter value) b u = h.reads ∙ sym (append-nil (reads script rules J t))
-      reads-issued (statements.Read counter) b u =
+      reads-issued : (s : Statement) → MayStep s before.memory before.counters → with_read s before.counters before.next before.reads.items ≡ reads script rules J t ++ read_by script rules J t before.next s
+      reads-issued (statements.Read counter) u =
           ap (λ xs. xs ++ (before.next, slice_index before.counters counter) ∷ []) h.reads
           ∙ ap (λ n. reads script rules J t ++ (before.next, n) ∷ []) (h.counters counter (let n = h.counter_count in omega (arith, u, n)))
-      reads-issued _ b u = absurd (false≢true b)
+      reads-issued _ u = h.reads ∙ sym (append-nil (reads script rules J t))
 
-      memory-issued : (s : Statement) → statement script t before.next ≡ s → is_built_statement s ≡ true → MayStep s before.memory before.counters → stored s before.memory ≡ memory_bytes script rules (Issue t before.next ∷ J) t
-      unfolding is_built_statement
-      memory-issued (statements.Store at bytes) e b u =
+      memory-issued : (s : Statement) → statement script t before.next ≡ s → MayStep s before.memory before.counters → stored s before.memory ≡ memory_bytes script rules (Issue t before.next ∷ J) t
+      memory-issued (statements.Store at bytes) e u =
           ap (stored (statements.Store at bytes)) h.memory
           ∙ memory-written script rules (Issue t before.next) J at bytes (ap (λ (x : Statement). store_writes script rules x) e)
           (let n = ap length h.memory ∙ memory-length script rules J t in omega (arith, u, n))
-      memory-issued (statements.Put target to from len tgt org cmpl) e b u = h.memory ∙ sym (memory-none script rules (Issue t before.next) J t (ap (λ (x : Statement). store_writes script rules x) e))
-      memory-issued (statements.Wait counter value) e b u = h.memory ∙ sym (memory-none script rules (Issue t before.next) J t (ap (λ (x : Statement). store_writes script rules x) e))
-      memory-issued (statements.Set counter value) e b u = h.memory ∙ sym (memory-none script rules (Issue t before.next) J t (ap (λ (x : Statement). store_writes script rules x) e))
-      memory-issued (statements.Read counter) e b u = h.memory ∙ sym (memory-none script rules (Issue t before.next) J t (ap (λ (x : Statement). store_writes script rules x) e))
-      memory-issued _ e b u = absurd (false≢true b)
+      memory-issued _ e u = h.memory ∙ sym (memory-none script rules (Issue t before.next) J t (ap (λ (x : Statement). store_writes script rules x) e))
 
-      count-issued : (s : Statement) → is_built_statement s ≡ true → length (counters_set s before.counters) ≡ length before.counters
-      unfolding is_built_statement
-      count-issued (statements.Store at bytes) b = refl
-      count-issued (statements.Put target to from len tgt org cmpl) b = refl
-      count-issued (statements.Wait counter value) b = refl
-      count-issued (statements.Set counter value) b = length-set before.counters counter value
-      count-issued (statements.Read counter) b = refl
-      count-issued _ b = absurd (false≢true b)
+      count-issued : (s : Statement) → length (counters_set s before.counters) ≡ length before.counters
+      count-issued (statements.Set counter value) = length-set before.counters counter value
+      count-issued _ = refl
 
-      counters-issued : (s : Statement) → is_built_statement s ≡ true → MayStep s before.memory before.counters → (c : ℕ) → c < script.counters → slice_index (counters_set s before.counters) c ≡ issued_count script rules s t t c (count script rules J t c)
-      unfolding is_built_statement
-      counters-issued (statements.Store at bytes) b u c l = h.counters c l
-      counters-issued (statements.Put target to from len tgt org cmpl) b u c l = h.counters c l
-      counters-issued (statements.Wait counter value) b u c l = h.counters c l
-      counters-issued (statements.Set counter value) b u c l = set-at before.counters counter value c (count script rules J t c) u (h.counters c l)
-      counters-issued (statements.Read counter) b u c l = h.counters c l
-      counters-issued _ b u c l = absurd (false≢true b)
+      counters-issued : (s : Statement) → MayStep s before.memory before.counters → (c : ℕ) → c < script.counters → slice_index (counters_set s before.counters) c ≡ issued_count script rules s t t c (count script rules J t c)
+      counters-issued (statements.Set counter value) u c l = set-at before.counters counter value c (count script rules J t c) u (h.counters c l)
+      counters-issued _ u c l = h.counters c l
 
       uncopied-other : (k : ℕ) → (k ≡ before.next → ⊥) → is_uncopied script J t k ≡ is_uncopied script (Issue t before.next ∷ J) t k
       uncopied-other k apart = uncopied-same (Issue t before.next) k (and_right (t == t) (k == before.next) (ne_eqb k before.next apart)) refl
@@ -258,17 +212,14 @@ module _ (script : Script) (rules : Rules) where
           (ap not (happened-other (Copied (message t before.next Go)) (Issue t before.next) J refl ∙ fresh))))
           (λ k l. and_right (is_data (statement script t k)) _ (and_left (happened (Issued t k) (Issue t before.next ∷ J)) _ (issued-later before.next k l (h.ahead k (omega arith)))))
 
-      uncopied-issued : (s : Statement) → statement script t before.next ≡ s → is_built_statement s ≡ true → before.next < length (operations.statements script t) → happened (Copied (message t before.next Go)) J ≡ false → with_uncopied s before.next before.uncopied.items ≡ below (length (operations.statements script t)) (is_uncopied script (Issue t before.next ∷ J) t)
-      unfolding is_built_statement
-      uncopied-issued (statements.Store at bytes) e b l fresh = no-data (statements.Store at bytes) e refl
-      uncopied-issued (statements.Put target to from len tgt org cmpl) e b l fresh = some-data (statements.Put target to from len tgt org cmpl) e refl l fresh
-      uncopied-issued (statements.Wait counter value) e b l fresh = no-data (statements.Wait counter value) e refl
-      uncopied-issued (statements.Set counter value) e b l fresh = no-data (statements.Set counter value) e refl
-      uncopied-issued (statements.Read counter) e b l fresh = no-data (statements.Read counter) e refl
-      uncopied-issued _ e b l fresh = absurd (false≢true b)
+      uncopied-issued : (s : Statement) → statement script t before.next ≡ s → before.next < length (operations.statements script t) → happened (Copied (message t before.next Go)) J ≡ false → with_uncopied s before.next before.uncopied.items ≡ below (length (operations.statements script t)) (is_uncopied script (Issue t before.next ∷ J) t)
+      uncopied-issued s e l fresh =
+          cond_both (is_data s) (before.uncopied.items ++ before.next ∷ []) before.uncopied.items (λ xs. xs ≡ below (length (operations.statements script t)) (is_uncopied script (Issue t before.next ∷ J) t))
+          (λ d. some-data s e d l fresh)
+          (λ d. no-data s e d)
 
-      pub issued-holds : (after : State) (old new : List Event) (s : Statement) → statement script t before.next ≡ s → is_built_statement s ≡ true → MayStep s before.memory before.counters → before.next < length (operations.statements script t) → happened (Copied (message t before.next Go)) J ≡ false → IsIssued s before after old new → HoldsFor script rules t after (Issue t before.next ∷ J)
-      issued-holds after old new s e b u within fresh g =
+      pub issued-holds : (after : State) (old new : List Event) (s : Statement) → statement script t before.next ≡ s → MayStep s before.memory before.counters → before.next < length (operations.statements script t) → happened (Copied (message t before.next Go)) J ≡ false → IsIssued s before after old new → HoldsFor script rules t after (Issue t before.next ∷ J)
+      issued-holds after old new s e u within fresh g =
           let i = before.next in
           let step = g.past.next in
           let was = h.next in
@@ -277,11 +228,11 @@ module _ (script : Script) (rules : Rules) where
             number = g.past.number ∙ h.number;
             next = (let x : after.next ≡ suc (next J t) = omega (arith, step, was) in x) ∙ sym r.0;
             ahead = λ k l. issued-later i k (omega (arith, l, step)) (h.ahead k (omega (arith, l, step)));
-            reads = g.reads ∙ reads-issued s b u ∙ sym (reads-issue i s e);
+            reads = g.reads ∙ reads-issued s u ∙ sym (reads-issue i s e);
             refusals = g.refusals ∙ h.refusals ∙ sym r.1;
-            memory = g.memory ∙ memory-issued s e b u;
-            counter_count = ap length g.counters ∙ count-issued s b ∙ h.counter_count;
-            counters = λ c l. ap (λ xs. slice_index xs c) g.counters ∙ counters-issued s b u c l ∙ sym (count-issue i c s e);
-            uncopied = g.uncopied ∙ uncopied-issued s e b within fresh;
+            memory = g.memory ∙ memory-issued s e u;
+            counter_count = ap length g.counters ∙ count-issued s ∙ h.counter_count;
+            counters = λ c l. ap (λ xs. slice_index xs c) g.counters ∙ counters-issued s u c l ∙ sym (count-issue i c s e);
+            uncopied = g.uncopied ∙ uncopied-issued s e within fresh;
             jobless = λ w. runs-issue i w ∙ h.jobless w;
           }

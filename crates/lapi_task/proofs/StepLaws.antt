@@ -31,7 +31,6 @@ use Rattle.lapi_parts.proofs.Records.{record-sound}
 use Rattle.lapi_task.specs.declared.outcome.Outcome.{Outcome}
 use Rattle.lapi_task.specs.declared.state.State.{State}
 use Rattle.lapi_task.specs.declared.task.Task.{Task}
-use Rattle.lapi_base.specs.Packet.Layout.{sizes_of}
 use Rattle.lapi_task.specs.Supported.{IsSupported}
 use Rattle.lapi_calls.specs.Reasons.{IsRefusalAfter}
 use Rattle.lapi_task.specs.Sends.{packet_at, SendsFor}
@@ -39,9 +38,9 @@ use Rattle.lapi_task.specs.StandsFor.{SenderAt, HoldsFor, StandsFor}
 use Rattle.lapi_task.specs.HasEffect.{IsAt, HasEffect}
 use Rattle.lapi_task.specs.Steps.{MayStep, Advances, IsRefused, IsIssued, PassesWait, IsBlocked}
 use Rattle.lapi_task.proofs.Forms.{statement-is, statement-built}
-use Rattle.lapi_task.proofs.ReasonForms.{reason_of, none-passed, why-is, few-statements}
+use Rattle.lapi_task.proofs.ReasonForms.{suits, none-passed, few-statements}
 use Rattle.lapi_task.proofs.StepMemories.{memory-length}
-use Rattle.lapi_task.proofs.StepFields.{suits, refused-holds, passed-holds, issued-holds}
+use Rattle.lapi_task.proofs.StepFields.{refused-holds, passed-holds, issued-holds}
 
 -- why a task without addresses refuses a statement, if it does
 abbrev pub FindsReason : Task → Statement → Option Refusal → Type 0
@@ -136,13 +135,12 @@ module _ (script : Script) (rules : Rules) where
 
   module _ (p : IsSupported script) where
     -- what a step adds, by its statement
-    step-some : (r : Run) (t i : ℕ) (s : Statement) → i ≡ next r.journal t → slice_get (operations.statements script t) i ≡ Some s → step script rules r t ≡ add_event script rules r (unless_refused script rules r t i (reason_of (sizes_of script) s))
+    step-some : (r : Run) (t i : ℕ) (s : Statement) → i ≡ next r.journal t → slice_get (operations.statements script t) i ≡ Some s → step script rules r t ≡ add_event script rules r (unless_refused script rules r t i (refusal_of script rules r.journal t i))
     unfolding step
     step-some r t i s e found =
         let within = slice_get_within (operations.statements script t) i s found in
         ap (λ j. cond (nat_lt j (length (operations.statements script t))) (add_event script rules r (unless_refused script rules r t j (refusal_of script rules r.journal t j))) (reply_with script rules r Idle)) (sym e)
         ∙ cond-true (nat_lt i (length (operations.statements script t))) _ _ (lt-ltb i (length (operations.statements script t)) within)
-        ∙ ap (λ o. add_event script rules r (unless_refused script rules r t i o)) (why-is script rules r.journal t i s (statement-is script t i s found) (statement-built script p t i s found))
 
     step-none : (r : Run) (t i : ℕ) → i ≡ next r.journal t → slice_get (operations.statements script t) i ≡ None → step script rules r t ≡ reply_with script rules r Idle
     unfolding step
@@ -150,7 +148,7 @@ module _ (script : Script) (rules : Rules) where
         ap (λ j. cond (nat_lt j (length (operations.statements script t))) (add_event script rules r (unless_refused script rules r t j (refusal_of script rules r.journal t j))) (reply_with script rules r Idle)) (sym e)
         ∙ cond-false (nat_lt i (length (operations.statements script t))) _ _ (le-ltb i (length (operations.statements script t)) (get-none (operations.statements script t) i found))
 
-    step-by : (r : Run) (t i : ℕ) (s : Statement) → i ≡ next r.journal t → slice_get (operations.statements script t) i ≡ Some s → reason_of (sizes_of script) s ≡ None → step script rules r t ≡ add_event script rules r (proposed script rules r t i s)
+    step-by : (r : Run) (t i : ℕ) (s : Statement) → i ≡ next r.journal t → slice_get (operations.statements script t) i ≡ Some s → refusal_of script rules r.journal t i ≡ None → step script rules r t ≡ add_event script rules r (proposed script rules r t i s)
     step-by r t i s e found h =
         step-some r t i s e found
         ∙ ap (λ o. add_event script rules r (unless_refused script rules r t i o)) h
@@ -161,6 +159,10 @@ module _ (script : Script) (rules : Rules) where
     unfolding is_built_statement
     issues r t i (statements.Store at bytes) b no-wait = refl
     issues r t i (statements.Put target to from len tgt org cmpl) b no-wait = refl
+    issues r t i (statements.Get target from to len tgt org) b no-wait = refl
+    issues r t i (statements.Putv target to from tgt org cmpl) b no-wait = refl
+    issues r t i (statements.Getv target from to tgt org) b no-wait = refl
+    issues r t i (statements.Rmw target op at in1 in2 prev org) b no-wait = refl
     issues r t i (statements.Set counter value) b no-wait = refl
     issues r t i (statements.Read counter) b no-wait = refl
     issues r t i (statements.Wait counter value) b no-wait = absurd (no-wait counter value refl)
@@ -200,10 +202,9 @@ module _ (script : Script) (rules : Rules) where
         within = slice_get_within (operations.statements script t) place s here
 
         -- The reason that was found is the record's, since no address is known.
-        sized : (o : Option Refusal) → FindsReason before s o → reason_of (sizes_of script) s ≡ o
-        sized o h =
-            sym (why-is script rules r.journal t place s is built)
-            ∙ ap (λ (a : ℕ). refusal_of script rules r.journal a place) (sym at.stands.holds.number)
+        found-reason : (o : Option Refusal) → FindsReason before s o → refusal_of script rules r.journal t place ≡ o
+        found-reason o h =
+            ap (λ (a : ℕ). refusal_of script rules r.journal a place) (sym at.stands.holds.number)
             ∙ sym (h.1 script rules r.journal place at.stands.calls.limits (record { is_statement = sym (ap (λ (a : ℕ). statement script a place) at.stands.holds.number ∙ is); are_given = λ round d known. absurd (false≢true known) }) (none-passed script p r.journal before.state.number))
             ∙ h.2
 
@@ -211,11 +212,11 @@ module _ (script : Script) (rules : Rules) where
         next-fits = let few = few-statements script p t in let l = within in omega (arith, few, l)
 
         pub is-suited : FindsReason before s None → MayStep s before.state.memory before.state.counters
-        is-suited h = suits script rules s before.state.memory before.state.counters (ap length at.stands.holds.memory ∙ memory-length script rules r.journal t) at.stands.holds.counter_count built (sized None h)
+        is-suited h = suits script rules r.journal t place (found-reason None h) s before.state.memory before.state.counters is (ap length at.stands.holds.memory ∙ memory-length script rules r.journal t) at.stands.holds.counter_count
 
         -- It is refused;
         refused-step : (reason : Refusal) → FindsReason before s (Some reason) → step script rules r t ≡ stepped r (Refuse t place reason)
-        refused-step reason h = step-some r t place s at.stands.holds.next here ∙ ap (λ o. add_event script rules r (unless_refused script rules r t place o)) (sized (Some reason) h)
+        refused-step reason h = step-some r t place s at.stands.holds.next here ∙ ap (λ o. add_event script rules r (unless_refused script rules r t place o)) (found-reason (Some reason) h)
 
         pub refused-does : (reason : Refusal) (after : State) (old new : Outcome) → FindsReason before s (Some reason) → new.entries ≡ old.entries → IsRefused reason before.state after old.events new.events → HasEffect script rules t r (step script rules r t) (record before { state = after }) old new
         refused-does reason after old new h same g =
@@ -235,14 +236,14 @@ module _ (script : Script) (rules : Rules) where
             false_from_ne_true _ (λ d. both_ways _ (at.stands.holds.ahead place (omega arith)) (closed script rules (Copied (message t place Go)) r.journal sound.atomic d).0)
 
         issued-step : ((counter value : ℕ) → s ≡ statements.Wait counter value → ⊥) → FindsReason before s None → step script rules r t ≡ stepped r (Issue t place)
-        issued-step no-wait h = step-by r t place s at.stands.holds.next here (sized None h) ∙ ap (add_event script rules r) (issues r t place s built no-wait)
+        issued-step no-wait h = step-by r t place s at.stands.holds.next here (found-reason None h) ∙ ap (add_event script rules r) (issues r t place s built no-wait)
 
         pub issued-does : (after : State) (old new : Outcome) → ((counter value : ℕ) → s ≡ statements.Wait counter value → ⊥) → FindsReason before s None → new.entries ≡ old.entries → IsIssued s before.state after old.events new.events → HasEffect script rules t r (step script rules r t) (record before { state = after }) old new
         issued-does after old new no-wait h same g =
             subst (λ x. HasEffect script rules t r x (record before { state = after }) old new) (sym (issued-step no-wait h))
             (does-event t r (Issue t place) before after old new (issue-quiet t place r.journal) at.stands
             (named Issue after old.events new.events g.past) same
-            (issued-holds script rules t r.journal before.state at.stands.holds after old.events new.events s is built (is-suited h) within fresh g))
+            (issued-holds script rules t r.journal before.state at.stands.holds after old.events new.events s is (is-suited h) within fresh g))
 
         pub issued-replies : ((counter value : ℕ) → s ≡ statements.Wait counter value → ⊥) → FindsReason before s None → (step script rules r t).replies ≡ r.replies ++ Did ∷ []
         issued-replies no-wait h = ap (λ (x : Run). x.replies) (issued-step no-wait h)
@@ -260,7 +261,7 @@ module _ (script : Script) (rules : Rules) where
 
         waited : (b : Bool) → nat_le value (count script rules r.journal t counter) ≡ b → step script rules r t ≡ add_event script rules r (event_if script rules b (Pass t place))
         waited b h =
-            step-by r t place (statements.Wait counter value) at.stands.holds.next (here (statements.Wait counter value) found) (sized (statements.Wait counter value) found None accepted)
+            step-by r t place (statements.Wait counter value) at.stands.holds.next (here (statements.Wait counter value) found) (found-reason (statements.Wait counter value) found None accepted)
             ∙ ap (λ x. add_event script rules r (event_if script rules x (Pass t place))) h
 
         passed-step : value ≤ slice_index before.state.counters counter → step script rules r t ≡ stepped r (Pass t place)

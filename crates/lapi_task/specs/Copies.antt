@@ -1,5 +1,6 @@
 -- What a copy changes in its task, and what a poll sends.
-use Rattle.std.specs.Prelude.{◌≡◌, ℕ, ◌*◌, ◌<◌, ◌≤◌, List, [], ◌∷◌, ◌++◌, length, take, set, slice_get, Option, Some, None, option_map}
+use Rattle.std.specs.Prelude.{◌≡◌, ℕ, ◌*◌, ◌<◌, ◌≤◌, List, [], ◌∷◌, ◌++◌, cond, length, take, set, slice_get, Some, None, option_map}
+use Rattle.std.specs.List.{flat_map}
 use Rattle.lapi_base.specs.declared.event.Event.{Event}
 use Rattle.lapi_base.specs.declared.event.Event.TheVariants.{Copy}
 use Rattle.lapi_base.specs.declared.script.Script.{Script}
@@ -8,41 +9,40 @@ use Rattle.lapi_base.specs.declared.message.Leg.TheVariants.{Go}
 use Rattle.lapi_base.specs.declared.layout.TheConstants.{PAYLOAD_ROOM}
 use Rattle.lapi_base.specs.Record.Atomic.{Atomic}
 use Rattle.lapi_base.specs.Record.Names.{message}
+use Rattle.lapi_base.specs.Record.Operations.{statement, target, spans, origin_pieces, org_counter, has_back}
 use Rattle.lapi_base.specs.Record.Wires.{Run}
 use Rattle.lapi_base.specs.Record.Acts.{followed, copy_each, ready}
 use Rattle.lapi_link.specs.Sender.{SendingEnd, sendable, sent}
-use Rattle.lapi_memory.specs.TaskMemory.{bytes_at, IsWithin}
+use Rattle.lapi_memory.specs.TaskMemory.{bytes_at}
 use Rattle.lapi_reassembly.specs.Partial.{IsUnit}
 use Rattle.lapi_task.specs.declared.copy.DataCopy.{DataCopy}
 use Rattle.lapi_task.specs.declared.task.Task.{Task}
 use Rattle.lapi_task.specs.Counting.{announced}
-use Rattle.lapi_task.specs.Outgoing.{with_message, AreSpelled}
-use Rattle.lapi_base.specs.declared.head.Head.{Head}
-use Rattle.lapi_base.specs.declared.statement.Statement.{Statement}
-use Rattle.lapi_base.specs.declared.statement.Statement.TheVariants as statements
-use Rattle.lapi_base.specs.declared.address.Addr.TheVariants.{Plain}
+use Rattle.lapi_task.specs.Outgoing.{outgoing, with_message, AreSpelled}
+use Rattle.lapi_vector.specs.Pieces.{AreWithin}
 use Rattle.lapi_task.specs.StandsFor.{StandsFor}
 
--- the copy of the data of statement i of task t, if it has some
-abbrev pub copy_of : (t i : ℕ) → Statement → Option DataCopy
-copy_of t i (statements.Put target (Plain to) from len tgt org cmpl) = Some (record {
-  message = record { from = t; to = target; seq = 0; name = message t i Go; head = Head.Put to tgt cmpl; length = len; fragment = 0; payload = [] };
-  source = record { at = from; len = len };
-  counter = org;
-})
-copy_of t i _ = None
+-- the copy of the data of statement i of task t: where they don't come back, its bytes are those of the pieces at the
+-- origin, and it announces the origin's counter
+abbrev pub copy_of : Script → (t i : ℕ) → DataCopy
+copy_of script t i =
+    let s = statement script t i in record {
+      message = outgoing script (message t i Go);
+      source = cond (has_back s) [] (spans script (target script t i) (origin_pieces s));
+      counter = cond (has_back s) None (org_counter s);
+    }
 
--- the bytes that it reads
+-- the bytes of its pieces, in order
 abbrev pub source : List ℕ → DataCopy → List ℕ
-source memory c = bytes_at memory c.source.at c.source.len
+source memory c = flat_map (λ p. bytes_at memory p.at p.len) c.source
 
--- A task may copy these data: their target, their source and their counter are there, they aren't too long, and their
+-- A task may copy these data: their target, their pieces and their counter are there, they aren't too long, and their
 -- packets have spellings;
 pub record IsCopyable (unit : ℕ) (task : Task) (c : DataCopy) : Type 0 where
   pub target : c.message.to < length task.senders.items
-  pub within : IsWithin task.state.memory c.source.at c.source.len
+  pub within : AreWithin c.source (length task.state.memory)
   pub size : IsUnit unit × (unit ≤ PAYLOAD_ROOM)
-  pub long : (c.source.len ≡ c.message.length) × (c.message.length ≤ 64 * unit)
+  pub long : (length (source task.state.memory c) ≡ c.message.length) × (c.message.length ≤ 64 * unit)
   pub counter : (d : ℕ) → c.counter ≡ Some d → d < length task.state.counters
   pub spelled : AreSpelled unit c.message (source task.state.memory c)
 

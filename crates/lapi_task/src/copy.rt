@@ -1,59 +1,91 @@
-ghost use Rattle.std.specs.Prelude.{◌≡◌};
-ghost use Rattle.lapi_task.specs.Copies.{copy_of};
+ghost use Rattle.std.specs.Prelude.{◌≡◌, ◌*◌, ◌≤◌, true, false, length, OnOk};
+ghost use Rattle.lapi_base.specs.declared.script.Script.{Script};
+ghost use Rattle.lapi_base.specs.Record.Operations as operations;
+ghost use Rattle.lapi_base.specs.Record.Valid.{ValidStatement};
+ghost use Rattle.lapi_calls.specs.Calls.{IsSendable};
+ghost use Rattle.lapi_reassembly.specs.Partial.{IsUnit};
+ghost use Rattle.lapi_vector.specs.Pieces.{AreWithin};
+ghost use Rattle.lapi_task.specs.Copies.{copy_of, source};
+ghost use Rattle.lapi_task.specs.Outgoing.{with_message, AreSpelled};
 
-use lapi_base::{Addr, DataPacket, Head, Leg, MsgName, Payload, Span, Statement};
+use crate::packet::append_message;
+use lapi_base::{DataPacket, Leg, Memory, MsgName, PAYLOAD_ROOM, Payload, Spans, Statement};
+use lapi_calls::{
+    NoEntries, go_head, has_back, message_length, origin_counter, origin_spans, peer,
+};
+use lapi_link::Sender;
+use lapi_memory::TaskMemory;
+use lapi_vector::Pieces;
+use std::alloc::Global;
 
-/// The copy of a statement's data: what the packets that leave have in common, the bytes that it reads, and the counter
-/// that it announces.
+/// The copy of a statement's data: what the packets that leave have in common, the pieces whose bytes they bring, and
+/// the counter that it announces. Where the data come back, the packets only ask for them.
 #[derive(Debug, Drop)]
 pub struct DataCopy {
     pub message: DataPacket,
-    pub source: Span,
+    pub source: Spans,
     pub counter: Option<u32>,
 }
 
 impl DataCopy {
-    /// The copy of the data of statement `i` of task `t`, if it has some.
-    pub fn of(t: u32, i: u32, statement: &Statement) -> Option<DataCopy>
-        ensures { result ≡ copy_of t i statement.now }
+    /// The copy of the data of statement `i` of task `t`.
+    pub fn of(t: u32, i: u32, statement: &Statement) -> DataCopy
+        requires statement { ValidStatement statement.now × (operations.is_data statement.now ≡ true) }
+        requires sendable { IsSendable (λ _. false) (λ _ _. 0) t statement.now }
+        ensures { (script : Script) → statement.now ≡ operations.statement script t i → result ≡ copy_of script t i }
     {
-        let Statement::Put {
-            target,
-            to: Addr::Plain(to),
-            from,
-            len,
-            tgt,
-            org,
-            cmpl,
-        } = statement
-        else {
-            return None;
-        };
         let message = DataPacket {
             from: t,
-            to: *target,
+            to: peer(t, statement),
             seq: 0,
             name: MsgName {
                 origin: t,
                 statement: i,
                 leg: Leg::Go,
             },
-            head: Head::Put {
-                at: *to,
-                tgt: *tgt,
-                cmpl: *cmpl,
-            },
-            length: *len,
+            head: go_head(&NoEntries, t, statement),
+            length: message_length(Leg::Go, statement),
             fragment: 0,
             payload: Payload::new(),
         };
-        Some(DataCopy {
+        if has_back(statement) {
+            return DataCopy {
+                message,
+                source: Spans::new(),
+                counter: None,
+            };
+        }
+        DataCopy {
             message,
-            source: Span {
-                at: u64::from(*from),
-                len: *len,
-            },
-            counter: *org,
-        })
+            source: origin_spans(statement),
+            counter: origin_counter(statement),
+        }
+    }
+
+    /// Gives numbers to the packets, with the bytes that stand in the memory now. Those of one piece are read where
+    /// they stand.
+    pub fn append(
+        self,
+        alloc: Global,
+        memory: &TaskMemory,
+        unit: u32,
+        sender: &mut Sender,
+    ) -> Result<(), Memory>
+        requires unit { IsUnit unit × (unit ≤ PAYLOAD_ROOM) }
+        requires within { AreWithin self.source (length memory.now) }
+        requires bytes { (length (source memory.now self) ≡ self.message.length) × (self.message.length ≤ 64 * unit) }
+        requires spelled { AreSpelled unit self.message (source memory.now self) }
+        ensures { OnOk result (sender.new ≡ with_message unit self.message (source memory.now self) sender.old) }
+    {
+        let DataCopy {
+            message,
+            source,
+            ..
+        } = self;
+        if let [span] = source.as_slice() {
+            return append_message(alloc, sender, unit, message, memory.read(span));
+        }
+        let bytes = Pieces::list(source).gather(alloc, memory)?;
+        append_message(alloc, sender, unit, message, bytes.as_slice())
     }
 }

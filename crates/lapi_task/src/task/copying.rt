@@ -1,4 +1,4 @@
-//! How the data of a task's puts are copied.
+//! How the data of a task's statements are copied.
 ghost use Rattle.std.specs.Prelude.{◌≡◌, ℕ, ◌∷◌, [], ◌++◌, List, OnOk};
 ghost use Rattle.lapi_base.specs.declared.event.Event.TheVariants.{Copy as IsCopy};
 ghost use Rattle.lapi_base.specs.declared.message.Leg.TheVariants.{Go};
@@ -11,7 +11,6 @@ ghost use Rattle.lapi_task.specs.Copies.{IsCopyable, IsCopied, CopiesNext};
 
 use crate::copy::DataCopy;
 use crate::counting::announce;
-use crate::packet::append_message;
 use crate::statement::statement_at;
 use crate::task::Task;
 use lapi_base::{Event, Events, Memory};
@@ -35,23 +34,20 @@ impl Task {
         let Some(statement) = statement_at(&self.statements, i) else {
             unreachable!()
         };
-        let Some(copy) = DataCopy::of(self.state.number, i, statement) else {
-            unreachable!()
-        };
+        let copy = DataCopy::of(self.state.number, i, statement);
         let name = copy.message.name;
         self.copy(alloc, copy)?;
         events.push(Event::Copy(name))
     }
 
-    /// Reads the bytes, which have their numbers on the link from then on.
+    /// Gives the packets their numbers on the link, and counts the copy.
     fn copy(&mut self, alloc: Global, copy: DataCopy) -> Result<(), Memory>
         requires { IsCopyable (task_unit self.old) self.old copy }
         ensures { OnOk result (IsCopied (task_unit self.old) copy self.old self.new) }
     {
-        let unit = self.sizes.unit();
+        let counter = copy.counter;
         let sender = &mut self.senders[copy.message.to as usize];
-        let bytes = self.state.memory.read(&copy.source);
-        append_message(alloc, sender, unit, copy.message, bytes)?;
-        announce(&mut self.state.counters, copy.counter)
+        copy.append(alloc, &self.state.memory, self.sizes.unit(), sender)?;
+        announce(&mut self.state.counters, counter)
     }
 }
