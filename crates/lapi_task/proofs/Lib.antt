@@ -20,6 +20,7 @@ pub mod ReceiveHolds
 pub mod ReceiveKinds
 pub mod ReceiveLaws
 pub mod ReceiveLinks
+pub mod Replies
 pub mod SenderLaws
 pub mod StepFields
 pub mod StepLaws
