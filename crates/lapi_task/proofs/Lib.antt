@@ -5,8 +5,10 @@ pub mod ArrivingAcks
 pub mod ArrivingFits
 pub mod CopyLaws
 pub mod CopyLists
+pub mod Followers
 pub mod Forms
 pub mod Jobless
+pub mod Landings
 pub mod MessageCopies
 pub mod MessagePackets
 pub mod NewStands

@@ -94,7 +94,7 @@ pub record HeadMayLand (unit t a : ℕ) (m : MsgName) (head : Head) (bytes memor
   pub total : total_of (head_pieces head (length bytes)) ≡ length bytes
   pub asked : AreWithin (asked_pieces head) (length memory)
   pub counter : (c : ℕ) → announces head false ≡ Some c → c < length counters
-  pub reply : (x : Reply) → reply t a m head memory ≡ Some x → MayLeave unit x
+  pub leaves : (x : Reply) → reply t a m head memory ≡ Some x → MayLeave unit x
 
 -- the message that is whole with a packet, whatever was answered to its header
 abbrev pub landed : Arrival → Option Message

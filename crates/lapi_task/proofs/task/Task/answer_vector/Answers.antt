@@ -1,4 +1,4 @@
-use Rattle.std.proofs.Common.{◌≡◌, ℕ, List, sym, ap, ◌∙◌, subst, length}
+use Rattle.std.proofs.Common.{◌≡◌, List, sym, ap, ◌∙◌, subst, length}
 use Rattle.std.specs.List.{flat_map}
 use Rattle.lapi_base.specs.declared.span.Span.{Span}
 use Rattle.lapi_memory.specs.TaskMemory.{bytes_at}

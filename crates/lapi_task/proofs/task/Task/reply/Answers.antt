@@ -1,5 +1,4 @@
-use Rattle.std.proofs.Common.{◌≡◌, ℕ, [], ◌∷◌, List, refl, sym, ap, subst}
-use Rattle.lapi_base.specs.declared.head.Head.{Head}
+use Rattle.std.proofs.Common.{[], ◌∷◌, List, refl, sym, ap, subst}
 use Rattle.lapi_base.specs.declared.head.Head.TheVariants as heads
 use Rattle.lapi_base.specs.declared.head.NoteOp.{NoteOp}
 use Rattle.lapi_base.specs.declared.span.Span.{Span}
