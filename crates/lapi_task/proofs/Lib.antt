@@ -7,8 +7,10 @@ pub mod CopyLaws
 pub mod CopyLists
 pub mod CopyParts
 pub mod CopySendable
+pub mod Followers
 pub mod Forms
 pub mod Jobless
+pub mod Landings
 pub mod MessageCopies
 pub mod MessagePackets
 pub mod NewStands
@@ -22,6 +24,7 @@ pub mod ReceiveHolds
 pub mod ReceiveKinds
 pub mod ReceiveLaws
 pub mod ReceiveLinks
+pub mod Replies
 pub mod SenderLaws
 pub mod StepFields
 pub mod StepLaws

@@ -1,4 +1,4 @@
--- What landings and notices leave of what a task did.
+-- What landings and what follows them leave of what a task did.
 use Rattle.std.proofs.Common.{◌≡◌, ℕ, ◌==◌, Bool, true, false, cond, not, ◌&&◌, List, [], ◌∷◌, ◌++◌, Option, Some, None, refl, sym, ap, ◌∙◌}
 use Rattle.std.specs.List.{AllByRecursion}
 use Rattle.std.proofs.lemmas.Bool.{and_right}
@@ -9,8 +9,7 @@ use Rattle.lapi_base.specs.declared.event.Event.TheVariants.{Copy, Land}
 use Rattle.lapi_base.specs.declared.handler.HeaderOut.{HeaderOut}
 use Rattle.lapi_base.specs.declared.head.Head.{Head}
 use Rattle.lapi_base.specs.declared.head.Head.TheVariants as heads
-use Rattle.lapi_base.specs.declared.message.Leg.{Leg}
-use Rattle.lapi_base.specs.declared.message.Leg.TheVariants.{Go, Note}
+use Rattle.lapi_base.specs.declared.message.Leg.TheVariants.{Go}
 use Rattle.lapi_base.specs.declared.message.MsgName.{MsgName}
 use Rattle.lapi_base.specs.declared.packet.Packet.{Packet}
 use Rattle.lapi_base.specs.declared.packet.DataPacket.{DataPacket}
@@ -29,13 +28,12 @@ use Rattle.lapi_base.proofs.NameLaws.{happened-other}
 use Rattle.lapi_reassembly.specs.declared.message.Message.{Message}
 use Rattle.lapi_link.specs.declared.arrival.Arrival.TheVariants.{Repeat}
 use Rattle.lapi_link.specs.Receiver.{came, message_of, arrival_of}
-use Rattle.lapi_task.specs.Landed.{landed, head_events, events_of}
+use Rattle.lapi_task.specs.Landed.{IsDirect, landed, events_of}
 use Rattle.lapi_task.specs.StandsFor.{is_uncopied}
-use Rattle.lapi_task.proofs.ReceiveKinds.{IsKind}
 
--- What lands with a packet: by whether its number was known and its message is whole.
-abbrev pub come : (known whole : Bool) → MsgName → Head → List ℕ → Option Message
-come known whole m h bytes = cond known None (cond whole (Some (record { name = m; head = h; bytes = bytes; out = None })) None)
+-- What lands with a packet that makes its message whole, and with another one.
+abbrev pub come : (whole : Bool) → MsgName → Head → List ℕ → Option Message
+come whole m h bytes = cond whole (Some (record { name = m; head = h; bytes = bytes; out = None })) None
 
 abbrev pub came_bytes : Script → List Packet → DataPacket → List ℕ
 came_bytes script ps p = assembled (count_of script p.length) (Data p ∷ ps) p.name
@@ -43,52 +41,55 @@ came_bytes script ps p = assembled (count_of script p.length) (Data p ∷ ps) p.
 abbrev pub is_all : Script → List Packet → DataPacket → Bool
 is_all script ps p = whole_by (count_of script p.length) (Data p ∷ ps) p.name
 
-landed-come : (known some whole : Bool) (m : Message) → landed (cond known Repeat (came some whole m)) ≡ come known whole m.name m.head m.bytes
+landed-come : (known some whole : Bool) (m : Message) → landed (cond known Repeat (came some whole m)) ≡ come (not known && whole) m.name m.head m.bytes
 landed-come true some whole m = refl
 landed-come false true true m = refl
 landed-come false false true m = refl
 landed-come false true false m = refl
 landed-come false false false m = refl
 
-pub come-is : (script : Script) (ps : List Packet) (p : DataPacket) (out : Option HeaderOut) → landed (arrival_of script ps p out) ≡ come (has_number ps p.seq) (is_all script ps p) p.name p.head (came_bytes script ps p)
+pub come-is : (script : Script) (ps : List Packet) (p : DataPacket) (out : Option HeaderOut) → landed (arrival_of script ps p out) ≡ come (not (has_number ps p.seq) && is_all script ps p) p.name p.head (came_bytes script ps p)
 unfolding arrival_of
 come-is script ps p out = landed-come (has_number ps p.seq) (has_some ps p.name) (is_all script ps p) (message_of script ps p out)
 
-brings : (h : Head) → IsKind h → (some whole completion : Bool) (m : MsgName) → cond (is_active h && some) (Event.Head m ∷ []) [] ++ cond whole (Land m ∷ follows h completion m) [] ≡ cond whole (head_events m h) []
+brings : (h : Head) → IsDirect h → (some whole completion : Bool) (m : MsgName) → cond (is_active h && some) (Event.Head m ∷ []) [] ++ cond whole (Land m ∷ follows h completion m) [] ≡ cond whole (Land m ∷ follows h false m) []
 unfolding follows
-brings (heads.Put at tgt cmpl) k some whole completion m = refl
-brings (heads.Note op cmpl) k some whole completion m = refl
-brings _ k some whole completion m = absurd k
+brings (heads.Am handler tgt cmpl header) k some whole completion m = absurd k
+brings _ k some whole completion m = refl
 
 -- its events
-pub come-events : (script : Script) (rules : Rules) (ps : List Packet) (p : DataPacket) → IsKind p.head → (known : Bool) → cond known [] (comes script rules ps p) ≡ events_of (come known (is_all script ps p) p.name p.head (came_bytes script ps p))
+pub come-events : (script : Script) (rules : Rules) (ps : List Packet) (p : DataPacket) → IsDirect p.head → (known : Bool) → cond known [] (comes script rules ps p) ≡ events_of (come (not known && is_all script ps p) p.name p.head (came_bytes script ps p))
 unfolding comes
 come-events script rules ps p k true = refl
 come-events script rules ps p k false = brings p.head k (not (has_some ps p.name)) (is_all script ps p) (has_completion script rules p.name.origin p.name.statement) p.name ∙ one (is_all script ps p)
   where
-    one : (whole : Bool) → cond whole (head_events p.name p.head) [] ≡ events_of (come false whole p.name p.head (came_bytes script ps p))
+    one : (whole : Bool) → cond whole (Land p.name ∷ follows p.head false p.name) [] ≡ events_of (come whole p.name p.head (came_bytes script ps p))
     one true = refl
     one false = refl
 
--- a landing, or the copy of a notice
+-- a landing, or a copy that the task's own statements did not make
 abbrev pub IsMild : Event → Type 0
 IsMild (Land m) = Unit {0}
-IsMild (Copy m) = m.leg ≡ Note
+IsMild (Copy m) = leg_eq Go m.leg ≡ false
 IsMild _ = ⊥
 
 mild-noted : (m : MsgName) (o : Option ℕ) → AllByRecursion IsMild (noted m o)
 mild-noted m None = tt
 mild-noted m (Some c) = (refl, tt)
 
-mild-head : (m : MsgName) (h : Head) → IsKind h → AllByRecursion IsMild (head_events m h)
-mild-head m (heads.Put at tgt cmpl) k = (tt, mild-noted m cmpl)
-mild-head m (heads.Note op cmpl) k = (tt, tt)
-mild-head m _ k = absurd k
+mild-follows : (h : Head) (m : MsgName) → AllByRecursion IsMild (follows h false m)
+unfolding follows
+mild-follows (heads.Put at tgt cmpl) m = mild-noted m cmpl
+mild-follows (heads.Putv tgt cmpl pieces) m = mild-noted m cmpl
+mild-follows (heads.Am handler tgt cmpl header) m = mild-noted m cmpl
+mild-follows (heads.GetGo asked source dest tgt org) m = (refl, tt)
+mild-follows (heads.GetvGo tgt org source dest) m = (refl, tt)
+mild-follows (heads.RmwGo op at in1 in2 prev org) m = (refl, tt)
+mild-follows _ m = tt
 
-pub come-mild : (known whole : Bool) (m : MsgName) (h : Head) (bytes : List ℕ) → IsKind h → AllByRecursion IsMild (events_of (come known whole m h bytes))
-come-mild true whole m h bytes k = tt
-come-mild false true m h bytes k = mild-head m h k
-come-mild false false m h bytes k = tt
+pub come-mild : (whole : Bool) (m : MsgName) (h : Head) (bytes : List ℕ) → AllByRecursion IsMild (events_of (come whole m h bytes))
+come-mild true m h bytes = (tt, mild-follows h m)
+come-mild false m h bytes = tt
 
 module _ (script : Script) (rules : Rules) (t : ℕ) where
   -- what the task did is as it was
@@ -100,12 +101,9 @@ module _ (script : Script) (rules : Rules) (t : ℕ) where
     pub refusals : refusals K t ≡ refusals J t
     pub running : (w : ℕ) → runs K t w ≡ runs J t w
 
-  not-go : (l : Leg) → l ≡ Note → leg_eq Go l ≡ false
-  not-go l e = ap (leg_eq Go) e
-
-  not-copied : (i : ℕ) (m : MsgName) → m.leg ≡ Note → name_eq (message t i Go) m ≡ false
+  not-copied : (i : ℕ) (m : MsgName) → leg_eq Go m.leg ≡ false → name_eq (message t i Go) m ≡ false
   unfolding name_eq
-  not-copied i m e = and_right (t == m.origin && i == m.statement) (leg_eq Go m.leg) (not-go m.leg e)
+  not-copied i m e = and_right (t == m.origin && i == m.statement) (leg_eq Go m.leg) e
 
   mild-one : (e : Event) (J : List Event) → IsMild e → DidSame J (e ∷ J)
   unfolding next reads refusals runs

@@ -1,8 +1,9 @@
 -- What the delivery of a data packet makes of its task.
-use Rattle.std.proofs.Common.{◌≡◌, ◌≤◌, ◌⊎◌, ℕ, ◌<◌, ◌==◌, Bool, true, false, cond, ◌&&◌, ◌||◌, List, [], ◌∷◌, ◌++◌, map, length, slice_set, Option, Some, None, refl, sym, ap, ◌∙◌, subst, ⊎_elim, arith}
+use Rattle.std.proofs.Common.{◌≡◌, ◌+◌, ◌≤◌, ℕ, ◌<◌, ◌==◌, Bool, true, false, cond, ◌&&◌, ◌||◌, List, [], ◌∷◌, ◌++◌, map, length, slice_set, Option, Some, None, refl, sym, ap, ◌∙◌, subst, ⊎_elim, arith}
 use Rattle.std.specs.Prelude.{slice_get}
 use Rattle.std.specs.List.{list_any}
-use Rattle.std.proofs.lemmas.Bool.{cond-true, cond-false, cond_both, cases_eq, and_from, and_left, and_right, ne_eqb}
+use Rattle.std.proofs.lemmas.Bool.{cond-true, cond-false, cond_both, cases_eq, and_from, and_left, and_right, and_parts, ne_eqb}
+use Rattle.std.proofs.lemmas.List.Elements.{All-from_recursion}
 use Rattle.std.specs.Vec.{with_items}
 use Rattle.std.specs.declared.vec.Vec.{Vec}
 use Rattle.std.proofs.lemmas.List.{append-nil, length-set, map-append, with_items_is}
@@ -10,9 +11,8 @@ use Rattle.std.proofs.lemmas.List.Folds.{list_any-append}
 use Rattle.lapi_base.specs.declared.script.Script.{Script}
 use Rattle.lapi_base.specs.declared.rule.Rules.{Rules}
 use Rattle.lapi_base.specs.declared.event.Event.{Event}
-use Rattle.lapi_base.specs.declared.event.Event.TheVariants.{Copy, Land}
+use Rattle.lapi_base.specs.declared.event.Event.TheVariants.{Land}
 use Rattle.lapi_base.specs.declared.head.Head.{Head}
-use Rattle.lapi_base.specs.declared.head.Head.TheVariants as heads
 use Rattle.lapi_base.specs.declared.message.MsgName.{MsgName}
 use Rattle.lapi_base.specs.declared.packet.Packet.{Packet}
 use Rattle.lapi_base.specs.declared.packet.Packet.TheVariants.{Data}
@@ -20,15 +20,15 @@ use Rattle.lapi_base.specs.declared.packet.DataPacket.{DataPacket}
 use Rattle.lapi_base.specs.declared.reply.Reply.TheVariants.{Did}
 use Rattle.lapi_base.specs.Record.Arrived.{ack_of}
 use Rattle.lapi_base.specs.Record.Atomic.{Atomic}
-use Rattle.lapi_base.specs.Laws.Entries.{carried}
-use Rattle.lapi_base.specs.Record.Operations.{statement, sender, receiver, fragment_count, message_length}
+use Rattle.lapi_base.specs.Laws.Landing.{completes}
+use Rattle.lapi_base.specs.Record.HeadSays.{announces, head_pieces, asked_pieces}
+use Rattle.lapi_base.specs.Record.Values.{memory_bytes}
+use Rattle.lapi_base.specs.declared.span.Span.{Span}
 use Rattle.lapi_base.specs.Record.Wires.{Run, is_number, has_number, has_ack, is_delivered}
 use Rattle.lapi_base.specs.Record.Acts.{followed, first_delivery, hand_over, deliver_entry, deliver}
-use Rattle.lapi_base.specs.Laws.Receiving.{HeadFits, NamesCounter}
-use Rattle.lapi_base.specs.Packet.Spelling.{HasSpelling}
+use Rattle.lapi_base.specs.Laws.Receiving.{NamesCounter, SpansAreInMemory}
 use Rattle.lapi_base.specs.Packet.PacketBytes as written
 use Rattle.lapi_base.proofs.ListLaws.{get-set, get-set-other}
-use Rattle.lapi_base.proofs.NameLaws.{happened-head}
 use Rattle.lapi_base.proofs.TestLaws.{eqb-refl}
 use Rattle.lapi_laws.proofs.Lines.{deliver-sound}
 use Rattle.lapi_reassembly.specs.declared.message.Message.{Message}
@@ -37,30 +37,26 @@ use Rattle.lapi_link.specs.Receiver.{ReceivingEnd, ReceivesFor, MayArrive, answe
 use Rattle.lapi_link.specs.Sender.{entries_to}
 use Rattle.lapi_parts.proofs.ArrivingPackets.{arrivals-told, next-acks-told}
 use Rattle.lapi_parts.proofs.Records.{record-sound}
-use Rattle.lapi_parts.proofs.SpelledPackets.{message-spelled}
+use Rattle.lapi_vector.specs.Pieces.{AreWithin}
 use Rattle.lapi_task.specs.declared.outcome.Outcome.{Outcome}
 use Rattle.lapi_task.specs.declared.task.Task.{Task}
 use Rattle.lapi_task.specs.Acknowledging.{HasTaken, answer}
 use Rattle.lapi_task.specs.HasEffect.{IsAt, HasEffect, bytes_to}
-use Rattle.lapi_task.specs.Landed.{note_name, note_of, ends_after, events_of, ArrivalMayLand, HeadMayLand, HasArrived, MayTake, HasCome, landed}
-use Rattle.lapi_task.specs.Supported.{IsSupported}
-use Rattle.lapi_task.proofs.Forms.{Put, statement_of}
-use Rattle.lapi_task.specs.Outgoing.{packet_of, AreSpelled}
+use Rattle.lapi_task.specs.Landed.{IsDirect, Reply, reply, MayLeave, ends_after, events_of, ArrivalMayLand, HasArrived, MayTake, HasCome, landed}
 use Rattle.lapi_task.specs.declared.state.State.{State}
 use Rattle.lapi_task.specs.StandsFor.{task_unit}
 use Rattle.lapi_task.proofs.CopyLaws.{unit-is}
-use Rattle.lapi_task.proofs.MessageCopies.{packet-is}
 use Rattle.lapi_task.proofs.ReceiveHolds.{Lands}
 use Rattle.lapi_base.specs.Packet.Layout.{layout_of, unit, unit_of}
-use Rattle.lapi_base.specs.Record.Fragments.{fragments_in}
 use Rattle.lapi_parts.proofs.FirstLayout.{first-unit}
-use Rattle.lapi_base.specs.Record.Valid.{ValidRules}
 use Rattle.lapi_task.specs.StandsFor.{SenderAt, ReceiverAt}
 use Rattle.lapi_task.proofs.ArrivingFits.{arriving-fits}
-use Rattle.lapi_task.proofs.ReceiveEvents.{come, come-is, come-events, came_bytes, is_all, come-mild, mild-all}
+use Rattle.lapi_task.proofs.ReceiveEvents.{come, come-is, come-events, came_bytes, come-mild, mild-all}
 use Rattle.lapi_task.proofs.ReceiveHolds.{came-length, holds-arrived}
-use Rattle.lapi_task.proofs.ReceiveKinds.{IsKind, IsPut, IsNote, Comes, comes as what-comes, is-kind}
-use Rattle.lapi_task.proofs.ReceiveLinks.{told, Settled, notice-is, notice-carries, ends-come, ends-length}
+use Rattle.lapi_task.proofs.ReceiveKinds.{Comes, comes as what-comes, IsThere, there-is, direct-is}
+use Rattle.lapi_task.proofs.Followers.{Follows, may-leave, copied-then, reply-follows}
+use Rattle.lapi_task.proofs.Replies.{total-is}
+use Rattle.lapi_task.proofs.ReceiveLinks.{told, Settled, ends-come, ends-length}
 use Rattle.lapi_task.proofs.SenderLaws.{bytes-here, bytes-there}
 use Rattle.lapi_task.proofs.Unanswered.{still-unanswered}
 use Rattle.lapi_task.proofs.StepMemories.{memory-length}
@@ -156,49 +152,31 @@ module _ (script : Script) (rules : Rules) where
 
   -- ---- what a message finds at its task
 
-  notice-spelled : (performed : IsSupported script) (ok : ValidRules rules) (J : List Event) (m : MsgName) (a t : ℕ) (put : Put) → statement script m.origin m.statement ≡ statement_of put → IsPut script rules m (heads.Put put.to put.tgt put.cmpl) → sender script m ≡ a → receiver script m ≡ t → (c : ℕ) → put.cmpl ≡ Some c → Atomic script rules (Copy (note_name m) ∷ J) → AreSpelled (unit_of script) (note_of t a m c) []
-  unfolding fragment_count message_length
-  notice-spelled performed ok J m a t put is kind from to c named atomic = λ n j few lj.
-      let note = note_name m in
-      let K = Copy note ∷ J in
-      let leaves = notice-is script rules m put is c named a t kind.leg from to in
-      let bytes = notice-carries script rules m put is c named J in
-      let spells = message-spelled script rules performed.valid ok K note n j atomic (happened-head (Copy note) J) few (subst (λ (o : _). j < fragments_in (unit_of script) o.length) (sym leaves) lj) in
-      subst HasSpelling (packet-is script rules note n j (carried script rules K note) ∙ (λ i. packet_of (leaves i) (unit_of script) n j (bytes i))) (_, spells)
-
   counter-there : (o : Option ℕ) (counters : List ℕ) → NamesCounter script o → length counters ≡ script.counters → (c : ℕ) → o ≡ Some c → c < length counters
   counter-there None counters h e c x = absurd (cc)
   counter-there (Some d) counters h e c x = let same : d ≡ c = cc in omega (arith, h, e, same)
 
-  module _ (performed : IsSupported script) (ok : ValidRules rules) (r : Run) (a t : ℕ) (m : MsgName) (from : sender script m ≡ a) (to : receiver script m ≡ t) (n : ℕ) (bytes memory counters : List ℕ) (places : length memory ≡ script.memory) (count : length counters ≡ script.counters) where
-    suits-put : (put : Put) (cmpl : Option ℕ) → put.cmpl ≡ cmpl → IsPut script rules m (heads.Put put.to put.tgt put.cmpl) → statement script m.origin m.statement ≡ statement_of put → HeadFits script rules n (heads.Put put.to put.tgt cmpl) → length bytes ≡ n → Atomic script rules (followed r.journal (events_of (come false true m (heads.Put put.to put.tgt cmpl) bytes))) → HeadMayLand (unit_of script) t a m (heads.Put put.to put.tgt cmpl) bytes memory counters
-    unfolding followed
-    suits-put put None named kind is f size atomic = ((let l = f.0 in omega (arith, l, size, places)), counter-there put.tgt counters f.1 count, λ c x. absurd (cc))
-    suits-put put (Some d) named kind is f size atomic =
-        ((let l = f.0 in omega (arith, l, size, places)), counter-there put.tgt counters f.1 count, λ c x. let same : d ≡ c = cc in notice-spelled performed ok (Land m ∷ r.journal) m a t put is kind from to c (named ∙ ap Some same) atomic)
+  pieces-there : (pieces : List Span) (memory : List ℕ) → length memory ≡ script.memory → SpansAreInMemory script pieces → AreWithin pieces (length memory)
+  pieces-there pieces memory e h = subst (AreWithin pieces) (sym e) (All-from_recursion (λ (p : Span). p.at + p.len ≤ script.memory) pieces h)
 
-    suits-note : (h : Head) → IsNote script rules m h → HeadFits script rules n h → HeadMayLand (unit_of script) t a m h bytes memory counters
-    suits-note (heads.Note op cmpl) note f = omega (arith, f, count)
-    suits-note (heads.Put at tgt cmpl) note f = absurd (note.counter at tgt cmpl refl)
-    suits-note _ note f = absurd note.head
-
-    suits-come : (known whole : Bool) (h : Head) → IsPut script rules m h ⊎ IsNote script rules m h → HeadFits script rules n h → (whole ≡ true → length bytes ≡ n) → Atomic script rules (followed r.journal (events_of (come known whole m h bytes))) → ArrivalMayLand (unit_of script) t a (come known whole m h bytes) memory counters
-    suits-come true whole h kind f size atomic = tt
-    suits-come false false h kind f size atomic = tt
-    suits-come false true h kind f size atomic =
-        ⊎_elim
-        (λ (x : IsPut script rules m h).
-        let head = x.head in
-        let good = λ (g : Head). Atomic script rules (followed r.journal (events_of (come false true m g bytes))) in
-        subst (λ (g : Head). HeadMayLand (unit_of script) t a m g bytes memory counters) (sym head) (suits-put x.put x.put.cmpl refl (subst (IsPut script rules m) head x) x.is (subst (HeadFits script rules n) head f) (size refl) (subst good head atomic)))
-        (λ (x : IsNote script rules m h). suits-note h x f)
-        kind
+  suits-come : (unit t a : ℕ) (whole : Bool) (m : MsgName) (h : Head) (len : ℕ) (bytes memory counters : List ℕ) → IsDirect h → IsThere script rules h len → (whole ≡ true → length bytes ≡ len) → length memory ≡ script.memory → length counters ≡ script.counters → (whole ≡ true → (x : Reply) → reply t a m h memory ≡ Some x → MayLeave unit x) → ArrivalMayLand unit t a (come whole m h bytes) memory counters
+  suits-come unit t a false m h len bytes memory counters direct there size places count leaves = tt
+  suits-come unit t a true m h len bytes memory counters direct there size places count leaves =
+      let own : IsThere script rules h (length bytes) = subst (IsThere script rules h) (sym (size refl)) there in
+      record {
+        direct = direct;
+        pieces = pieces-there (head_pieces h (length bytes)) memory places own.pieces;
+        total = total-is (head_pieces h (length bytes)) ∙ own.total;
+        asked = pieces-there (asked_pieces h) memory places own.asked;
+        counter = counter-there (announces h false) counters own.counter count;
+        leaves = leaves refl;
+      }
 
   -- ---- a delivery
 
   module _ (t : ℕ) (r : Run) (task : Task) (at : IsAt script rules t task r) (a k : ℕ) (known_task : a < script.tasks) (p : DataPacket) (entry : slice_get (r.wire a t) k ≡ Some (Data p)) where
     abbrev arrives : Option Message
-    arrives = come (is_delivered r a t p.seq) (is_all script (r.handed a t) p) p.name p.head (came_bytes script (r.handed a t) p)
+    arrives = come (completes script rules r a t p) p.name p.head (came_bytes script (r.handed a t) p)
 
     abbrev then : List Event
     then = followed r.journal (events_of arrives)
@@ -206,8 +184,8 @@ module _ (script : Script) (rules : Rules) where
     packet-comes : Comes script rules r a t p
     packet-comes = what-comes script rules at.stands.calls.supported at.stands.calls.rules_valid r a t k p at.recorded entry
 
-    kind : IsKind p.head
-    kind = is-kind script rules at.stands.calls.supported at.stands.calls.rules_valid p.name p.head packet-comes.kind
+    direct : IsDirect p.head
+    direct = direct-is p.head p.length packet-comes.kind
 
     end-there : (end : ReceivingEnd) × (slice_get task.receivers.items a ≡ Some end) × (ReceivesFor script end (r.handed a t) × IsUnanswered end)
     end-there = receiver-there script (r.handed a t) (slice_get task.receivers.items a) (at.stands.receivers a known_task)
@@ -222,7 +200,7 @@ module _ (script : Script) (rules : Rules) where
     unfolding deliver hand_over
     delivered =
         let q = next-acks-told script rules r at.recorded a t k p entry in
-        let es = ap (λ es. cond (is_delivered r a t p.seq) [] es) (arrivals-told script rules r at.recorded a t k p entry) ∙ come-events script rules (r.handed a t) p kind (is_delivered r a t p.seq) in
+        let es = ap (λ es. cond (is_delivered r a t p.seq) [] es) (arrivals-told script rules r at.recorded a t k p entry) ∙ come-events script rules (r.handed a t) p direct (is_delivered r a t p.seq) in
         let held = holds-nothing script at.stands.calls.supported.valid in
         let once = λ (told : Packet). told-at-once script rules at.stands.calls.supported.valid told in
         ap (deliver_entry script rules r a t) entry
@@ -243,6 +221,19 @@ module _ (script : Script) (rules : Rules) where
     unit-then : (mid : Task) → KeepsRest task mid → task_unit mid ≡ unit_of script
     unit-then mid g = ap (λ (z : _). unit (layout_of z.layout)) g.sizes ∙ unit-is script rules t task at.stands.calls
 
+    -- what follows is the record's
+    memory-there : task.state.memory ≡ memory_bytes script rules r.journal t
+    memory-there = at.stands.holds.memory
+
+    follower : completes script rules r a t p ≡ true → (x : Reply) → reply t a p.name p.head task.state.memory ≡ Some x → Follows script rules (Land p.name ∷ r.journal) t a x
+    follower whole x e = reply-follows script rules r a t k p at.recorded entry packet-comes whole x (ap (reply t a p.name p.head) (sym memory-there) ∙ e)
+
+    leaves : completes script rules r a t p ≡ true → (x : Reply) → reply t a p.name p.head task.state.memory ≡ Some x → MayLeave (unit_of script) x
+    unfolding followed
+    leaves whole x e =
+        may-leave script rules at.stands.calls.supported at.stands.calls.rules_valid (Land p.name ∷ r.journal) t a x (follower whole x e)
+        (subst (Atomic script rules) (copied-then script rules r a t k p at.recorded entry packet-comes whole (Some x) (ap (reply t a p.name p.head) (sym memory-there) ∙ e)) atomic)
+
     pub suits-arrival : (mid : Task) (first_delivery : Arrival) → KeepsRest task mid → landed first_delivery ≡ arrives → ArrivalMayLand (task_unit mid) mid.state.number a (landed first_delivery) mid.state.memory mid.state.counters
     suits-arrival mid first_delivery g e =
         let h = at.stands.holds in
@@ -251,10 +242,13 @@ module _ (script : Script) (rules : Rules) where
         (subst (λ (x : State). ArrivalMayLand (task_unit mid) x.number a arrives x.memory x.counters) (sym g.state)
         (subst (λ n. ArrivalMayLand (task_unit mid) n a arrives task.state.memory task.state.counters) (sym h.number)
         (subst (λ u. ArrivalMayLand u t a arrives task.state.memory task.state.counters) (sym (unit-then mid g))
-        (suits-come at.stands.calls.supported at.stands.calls.rules_valid r a t p.name c.from c.to p.length (came_bytes script (r.handed a t) p) task.state.memory task.state.counters
+        (suits-come (unit_of script) t a (completes script rules r a t p) p.name p.head p.length (came_bytes script (r.handed a t) p) task.state.memory task.state.counters
+        direct
+        (there-is script rules p.head p.length c.kind c.fits.head)
+        (λ whole. came-length script rules t r a p c (and_parts _ _ whole).1)
         (ap length h.memory ∙ memory-length script rules r.journal t)
         h.counter_count
-        (is_delivered r a t p.seq) (is_all script (r.handed a t) p) p.head c.kind c.fits.head (λ all. came-length script rules t r a p c all) atomic))))
+        leaves))))
 
     pub room-there : (mid : Task) → KeepsRest task mid → task_unit mid ≤ 256
     room-there mid g = let e = unit-then mid g in let u = first-unit script at.stands.calls.supported.valid in omega (arith, e, u)
@@ -282,14 +276,13 @@ module _ (script : Script) (rules : Rules) where
     arrived-does mid after first_delivery old new g e took h added =
         let ps = Data p ∷ r.handed a t in
         let q = ack_of script ps a t in
-        let known = is_delivered r a t p.seq in
-        let whole = is_all script (r.handed a t) p in
+        let whole = completes script rules r a t p in
         let bytes = came_bytes script (r.handed a t) p in
         let c = packet-comes in
         let s = at.stands in
         let own : HasArrived a arrives mid after old.events new.events = subst (λ x. HasArrived a x mid after old.events new.events) e h in
-        let same = mild-all script rules t (events_of arrives) r.journal (come-mild known whole p.name p.head bytes kind) in
-        let ends : after.senders.items ≡ ends_after (unit_of script) t a arrives task.senders.items = own.senders ∙ (λ i. ends_after (unit-then mid g i) ((ap (λ (x : State). x.number) g.state ∙ s.holds.number) i) a arrives (g.senders i)) in
+        let same = mild-all script rules t (events_of arrives) r.journal (come-mild whole p.name p.head bytes) in
+        let ends : after.senders.items ≡ ends_after (unit_of script) t a arrives task.state.memory task.senders.items = own.senders ∙ (λ i. ends_after (unit-then mid g i) ((ap (λ (x : State). x.number) g.state ∙ s.holds.number) i) a arrives (g.state i).memory (g.senders i)) in
         let lands : Lands arrives task.state after.state = subst (λ (x : State). Lands arrives x after.state) g.state (record { memory = own.memory; counters = own.counters; rest = ap (λ (x : Task). x.state) own.rest }) in
         let x = receives mid after took (ap (λ (x : Task). x.receivers.items) h.rest) in
         subst (λ y. HasEffect script rules t r y after old new) (sym delivered)
@@ -304,10 +297,10 @@ module _ (script : Script) (rules : Rules) where
               statements = ap (λ (y : Task). y.statements) own.rest ∙ g.statements ∙ s.calls.statements;
               limits = ap (λ (y : Task). y.limits) own.rest ∙ g.limits ∙ s.calls.limits;
             };
-            holds = holds-arrived script rules t r a k p at.recorded entry c kind then (ap (λ (y : Run). y.journal) delivered) same task.state after.state s.holds lands;
-            sender_count = ap length ends ∙ ends-length script rules (unit_of script) t a known whole p.name p.head bytes task.senders.items ∙ s.sender_count;
+            holds = holds-arrived script rules t r a k p at.recorded entry c then (ap (λ (y : Run). y.journal) delivered) same task.state after.state s.holds lands;
+            sender_count = ap length ends ∙ ends-length script rules (unit_of script) t a whole p.name p.head bytes task.state.memory task.senders.items ∙ s.sender_count;
             receiver_count = ap length x.1 ∙ length-set task.receivers.items a x.0 ∙ s.receiver_count;
-            senders = λ b l. subst (λ xs. SenderAt script rules next_run t b (slice_get xs b)) (sym ends) (ends-come script rules r (handed_on r a t p q) a t task.senders.items (λ y. settled r a t p ps y) known_task s.senders known whole p.name p.head bytes c.from c.to c.kind atomic b l);
+            senders = λ b l. subst (λ xs. SenderAt script rules next_run t b (slice_get xs b)) (sym ends) (ends-come script rules r (handed_on r a t p q) a t task.senders.items (λ y. settled r a t p ps y) known_task s.senders whole p.name p.head bytes task.state.memory follower atomic b l);
             receivers = handed-ends r a t p q task.receivers.items after.receivers.items end-there.0 x.0 end-there.1 x.1 x.2 s.receivers;
           };
           journal = refl;

@@ -1,19 +1,26 @@
 -- What the arrival of a packet makes of a task.
-use Rattle.std.specs.Prelude.{◌≡◌, ℕ, ◌<◌, true, List, [], ◌∷◌, ◌++◌, length, slice_get, slice_set, Option, Some, None}
+use Rattle.std.specs.Prelude.{◌≡◌, ℕ, ◌*◌, ◌<◌, ◌≤◌, true, false, List, [], ◌∷◌, ◌++◌, length, slice_get, slice_set, Option, Some, None, option_map}
+use Rattle.std.specs.Option.{option_or}
+use Rattle.std.specs.List.{flat_map, fold}
 use Rattle.lapi_base.specs.declared.event.Event.{Event}
 use Rattle.lapi_base.specs.declared.event.Event.TheVariants.{Land}
 use Rattle.lapi_base.specs.declared.head.Head.{Head}
 use Rattle.lapi_base.specs.declared.head.Head.TheVariants as heads
-use Rattle.lapi_base.specs.declared.head.NoteOp.{NoteOp}
-use Rattle.lapi_base.specs.declared.message.Leg.TheVariants.{Note}
+use Rattle.lapi_base.specs.declared.message.Leg.{Leg}
+use Rattle.lapi_base.specs.declared.message.Leg.TheVariants.{Back, Note}
 use Rattle.lapi_base.specs.declared.message.MsgName.{MsgName}
 use Rattle.lapi_base.specs.declared.packet.DataPacket.{DataPacket}
 use Rattle.lapi_base.specs.declared.packet.Packet.{Packet}
 use Rattle.lapi_base.specs.declared.packet.Packet.TheVariants.{Data}
 use Rattle.lapi_base.specs.declared.script.Script.{Script}
-use Rattle.lapi_base.specs.Record.HeadSays.{noted}
+use Rattle.lapi_base.specs.declared.span.Span.{Span}
+use Rattle.lapi_base.specs.Laws.Receiving.{bytes_in}
+use Rattle.lapi_base.specs.Record.Handlers.{number_of, word_bytes}
+use Rattle.lapi_base.specs.Record.HeadSays.{announces, follows, head_pieces, back_head, asked_pieces, note_head}
 use Rattle.lapi_base.specs.Record.Names.{message}
-use Rattle.lapi_memory.specs.TaskMemory as memories
+use Rattle.lapi_base.specs.Record.Values.{Write, rmw_word, scattered}
+use Rattle.lapi_memory.specs.TaskMemory.{bytes_at, written}
+use Rattle.lapi_vector.specs.Pieces.{AreWithin, total_of}
 use Rattle.lapi_reassembly.specs.declared.message.Message.{Message}
 use Rattle.lapi_link.specs.declared.arrival.Arrival.{Arrival}
 use Rattle.lapi_link.specs.declared.arrival.Arrival.TheVariants.{Whole, Repeat, First, More, FirstWhole}
@@ -24,49 +31,70 @@ use Rattle.lapi_task.specs.StandsFor.{task_unit}
 use Rattle.lapi_task.specs.declared.task.Task.{Task}
 use Rattle.lapi_task.specs.Counting.{announced}
 
--- the notice from task t to task a that the message is complete
-abbrev pub note_name : MsgName → MsgName
-note_name m = message m.origin m.statement Note
+-- a message takes effect by its head alone: no handler takes it or sent it, and it joins no tasks
+abbrev pub IsDirect : Head → Type 0
+IsDirect (heads.Am handler tgt cmpl header) = ⊥
+IsDirect (heads.Echo dest cmpl) = ⊥
+IsDirect (heads.Gfence round) = ⊥
+IsDirect (heads.Addr round address) = ⊥
+IsDirect _ = Unit {0}
 
-abbrev pub note_of : (t a : ℕ) → MsgName → (counter : ℕ) → DataPacket
-note_of t a m c = record { from = t; to = a; seq = 0; name = note_name m; head = heads.Note NoteOp.Put c; length = 0; fragment = 0; payload = [] }
+-- What its landing writes: the word that it makes of the one that stood there, or its bytes, piece by piece;
+abbrev pub head_writes : Head → (bytes memory : List ℕ) → List Write
+head_writes (heads.RmwGo op at in1 in2 prev org) bytes memory = (at, word_bytes (rmw_word op (number_of (bytes_at memory at 4)) in1 in2)) ∷ []
+head_writes head bytes memory = scattered (head_pieces head (length bytes)) bytes
 
--- the sending ends of task t with a message more that has no bytes
-abbrev pub with_empty_at : (unit : ℕ) → DataPacket → Option SendingEnd → List SendingEnd → List SendingEnd
-with_empty_at unit o None ends = ends
-with_empty_at unit o (Some s) ends = slice_set ends o.to (with_message unit o [] s)
+-- and the memory after these writes, in order.
+abbrev pub after_writes : (memory : List ℕ) → List Write → List ℕ
+after_writes memory writes = fold (λ m w. written m w.0 w.1) memory writes
 
--- and with the notice to task a, if a counter is named
-abbrev pub with_note : (unit t a : ℕ) → MsgName → Option ℕ → List SendingEnd → List SendingEnd
-with_note unit t a m None ends = ends
-with_note unit t a m (Some c) ends = with_empty_at unit (note_of t a m c) (slice_get ends a) ends
+abbrev pub head_memory : Head → (bytes memory : List ℕ) → List ℕ
+head_memory head bytes memory = after_writes memory (head_writes head bytes memory)
 
--- What a message with this head makes of a memory, of counters and of sending ends, and which events it brings;
-abbrev pub head_memory : Head → (bytes : List ℕ) → (memory : List ℕ) → List ℕ
-head_memory (heads.Put at tgt cmpl) bytes memory = memories.written memory at bytes
-head_memory _ bytes memory = memory
+-- A message that follows a landing: what its packets have in common, and its bytes.
+pub record Reply : Type 0 where
+  pub packet : DataPacket
+  pub bytes : List ℕ
 
-abbrev pub head_counters : Head → (counters : List ℕ) → List ℕ
-head_counters (heads.Put at tgt cmpl) counters = announced counters tgt
-head_counters (heads.Note op cmpl) counters = announced counters (Some cmpl)
-head_counters _ counters = counters
+-- what the packets have in common, where task t sends this leg of message m to task a
+abbrev pub reply_packet : (t a : ℕ) → MsgName → Leg → Head → (length : ℕ) → DataPacket
+reply_packet t a m leg head len = record { from = t; to = a; seq = 0; name = message m.origin m.statement leg; head = head; length = len; fragment = 0; payload = [] }
 
-abbrev pub head_ends : (unit t a : ℕ) → MsgName → Head → (ends : List SendingEnd) → List SendingEnd
-head_ends unit t a m (heads.Put at tgt cmpl) ends = with_note unit t a m cmpl ends
-head_ends unit t a m _ ends = ends
+-- a notice, which has no bytes,
+abbrev pub note_of : (t a : ℕ) → MsgName → Head → Reply
+note_of t a m head = record { packet = reply_packet t a m Note head 0; bytes = [] }
 
-abbrev pub head_events : MsgName → Head → List Event
-head_events m (heads.Put at tgt cmpl) = Land m ∷ noted m cmpl
-head_events m _ = Land m ∷ []
+-- and an answer with what stands at these pieces of a memory
+abbrev pub back_of : (t a : ℕ) → MsgName → (pieces : List Span) → (memory : List ℕ) → Head → Reply
+back_of t a m pieces memory head = record { packet = reply_packet t a m Back head (bytes_in pieces); bytes = flat_map (λ p. bytes_at memory p.at p.len) pieces }
 
--- where its places and its counters are there, and its notice has a spelling. No other message comes yet.
-abbrev pub HeadMayLand : (unit t a : ℕ) → MsgName → Head → (bytes memory counters : List ℕ) → Type 0
-HeadMayLand unit t a m (heads.Put at tgt cmpl) bytes memory counters =
-    memories.IsWithin memory at (length bytes)
-    × ((c : ℕ) → tgt ≡ Some c → c < length counters)
-    × ((c : ℕ) → cmpl ≡ Some c → AreSpelled unit (note_of t a m c) [])
-HeadMayLand unit t a m (heads.Note op cmpl) bytes memory counters = cmpl < length counters
-HeadMayLand unit t a m _ bytes memory counters = ⊥
+-- the message that follows the landing at task t of what came from task a, if one does
+abbrev pub reply : (t a : ℕ) → MsgName → Head → (memory : List ℕ) → Option Reply
+reply t a m head memory = option_or (option_map (back_of t a m (asked_pieces head) memory) (back_head head)) (option_map (note_of t a m) (note_head head))
+
+-- the sending ends with a reply more, at the end of its link
+abbrev pub with_reply_at : (unit : ℕ) → Reply → Option SendingEnd → List SendingEnd → List SendingEnd
+with_reply_at unit x None ends = ends
+with_reply_at unit x (Some s) ends = slice_set ends x.packet.to (with_message unit x.packet x.bytes s)
+
+abbrev pub with_reply : (unit : ℕ) → Option Reply → List SendingEnd → List SendingEnd
+with_reply unit None ends = ends
+with_reply unit (Some x) ends = with_reply_at unit x (slice_get ends x.packet.to) ends
+
+-- the reply has the length that its packets say, it is short, and they have spellings
+pub record MayLeave (unit : ℕ) (x : Reply) : Type 0 where
+  pub size : length x.bytes ≡ x.packet.length
+  pub short : x.packet.length ≤ 64 * unit
+  pub spelled : AreSpelled unit x.packet x.bytes
+
+-- The message may land: its places, the places that it asks for and its counter are there, and its reply may leave.
+pub record HeadMayLand (unit t a : ℕ) (m : MsgName) (head : Head) (bytes memory counters : List ℕ) : Type 0 where
+  pub direct : IsDirect head
+  pub pieces : AreWithin (head_pieces head (length bytes)) (length memory)
+  pub total : total_of (head_pieces head (length bytes)) ≡ length bytes
+  pub asked : AreWithin (asked_pieces head) (length memory)
+  pub counter : (c : ℕ) → announces head false ≡ Some c → c < length counters
+  pub leaves : (x : Reply) → reply t a m head memory ≡ Some x → MayLeave unit x
 
 -- the message that is whole with a packet, whatever was answered to its header
 abbrev pub landed : Arrival → Option Message
@@ -82,15 +110,15 @@ memory_after (Some m) memory = head_memory m.head m.bytes memory
 memory_after None memory = memory
 
 abbrev pub counters_after : Option Message → (counters : List ℕ) → List ℕ
-counters_after (Some m) counters = head_counters m.head counters
+counters_after (Some m) counters = announced counters (announces m.head false)
 counters_after None counters = counters
 
-abbrev pub ends_after : (unit t a : ℕ) → Option Message → (ends : List SendingEnd) → List SendingEnd
-ends_after unit t a (Some m) ends = head_ends unit t a m.name m.head ends
-ends_after unit t a None ends = ends
+abbrev pub ends_after : (unit t a : ℕ) → Option Message → (memory : List ℕ) → (ends : List SendingEnd) → List SendingEnd
+ends_after unit t a (Some m) memory ends = with_reply unit (reply t a m.name m.head memory) ends
+ends_after unit t a None memory ends = ends
 
 abbrev pub events_of : Option Message → List Event
-events_of (Some m) = head_events m.name m.head
+events_of (Some m) = Land m.name ∷ follows m.head false m.name
 events_of None = []
 
 abbrev pub ArrivalMayLand : (unit t a : ℕ) → Option Message → (memory counters : List ℕ) → Type 0
@@ -101,7 +129,7 @@ ArrivalMayLand unit t a None memory counters = Unit {0}
 pub record HasArrived (a : ℕ) (arrival : Option Message) (before after : Task) (old new : List Event) : Type 0 where
   pub memory : after.state.memory ≡ memory_after arrival before.state.memory
   pub counters : after.state.counters ≡ counters_after arrival before.state.counters
-  pub senders : after.senders.items ≡ ends_after (task_unit before) before.state.number a arrival before.senders.items
+  pub senders : after.senders.items ≡ ends_after (task_unit before) before.state.number a arrival before.state.memory before.senders.items
   pub events : new ≡ old ++ events_of arrival
   pub rest : after ≡ record before { senders = after.senders; state = record before.state { memory = after.state.memory; counters = after.state.counters } }
 

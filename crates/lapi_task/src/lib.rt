@@ -3,11 +3,13 @@
 
 mod copy;
 mod counting;
+mod landing;
 mod law;
-mod note;
 mod outcome;
 mod packet;
 mod received;
+mod reply;
+mod spans;
 mod state;
 mod statement;
 mod task;

@@ -8,6 +8,7 @@ mod answering;
 mod copying;
 mod polling;
 mod receiving;
+mod replying;
 mod stepping;
 mod ticking;
 

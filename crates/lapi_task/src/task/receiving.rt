@@ -5,7 +5,6 @@ ghost use Rattle.lapi_base.specs.declared.script.Script.{Script};
 ghost use Rattle.lapi_base.specs.declared.packet.Packet.{Packet as ThePacket};
 ghost use Rattle.lapi_base.specs.declared.packet.Packet.TheVariants.{Data};
 ghost use Rattle.lapi_base.specs.declared.reply.Bad.{Bad};
-ghost use Rattle.lapi_base.specs.Record.HeadSays.{noted};
 ghost use Rattle.lapi_base.specs.Record.Wires.{Run};
 ghost use Rattle.lapi_base.specs.Record.Acts.{deliver};
 ghost use Rattle.lapi_base.specs.Packet.Spelling.{Spells, decoded};
@@ -13,19 +12,16 @@ ghost use Rattle.lapi_handlers.specs.Handlers.{rules_of};
 ghost use Rattle.lapi_link.specs.declared.arrival.Arrival.TheVariants as arrivals;
 ghost use Rattle.lapi_link.specs.Receiver.{ReceivingEnd, ReceivesFor, MayArrive, arrival_of, answer_of};
 ghost use Rattle.lapi_task.specs.HasEffect.{IsAt, HasEffect, IsOnWire, received_as};
-ghost use Rattle.lapi_task.specs.Landed.{ArrivalMayLand, HeadMayLand, HasArrived, note_of, with_note, MayTake, HasCome, landed};
-ghost use Rattle.lapi_task.specs.Outgoing.{AreSpelled};
+ghost use Rattle.lapi_task.specs.Landed.{ArrivalMayLand, HeadMayLand, HasArrived, MayTake, HasCome, landed};
 ghost use Rattle.lapi_task.specs.StandsFor.{task_unit};
 ghost use Rattle.lapi_base.specs.declared.layout.TheConstants.{PAYLOAD_ROOM};
-ghost use Rattle.lapi_task.specs.Supported.{IsSupported};
 
 use crate::counting::announce;
-use crate::note::{note_name, note_of};
+use crate::landing::{announced_by, write};
 use crate::outcome::Outcome;
-use crate::packet::append_message;
 use crate::received::Received;
 use crate::task::Task;
-use lapi_base::{DataPacket, Event, Events, Head, Memory, MsgName, Packet};
+use lapi_base::{DataPacket, Event, Events, Memory, Packet};
 use lapi_handlers::Handlers;
 use lapi_link::{Arrival, Receiver};
 use lapi_packet::decode;
@@ -119,52 +115,16 @@ impl Task {
         ensures { OnOk result (HasArrived from (landed (arrivals.Whole message.now)) self.old
             self.new events.old events.new) }
     {
-        events.push(Event::Land(message.name))?;
-        match &message.head {
-            Head::Put { at, tgt, cmpl } => {
-                self.state.memory.write(*at, message.bytes.as_slice());
-                announce(&mut self.state.counters, *tgt)?;
-                self.note(alloc, from, message.name, *cmpl, events)
-            }
-            Head::Note { cmpl, .. } => announce(&mut self.state.counters, Some(*cmpl)),
-            Head::GetGo { .. }
-            | Head::GetBack { .. }
-            | Head::Putv { .. }
-            | Head::GetvGo { .. }
-            | Head::GetvBack { .. }
-            | Head::RmwGo { .. }
-            | Head::RmwBack { .. }
-            | Head::Am { .. }
-            | Head::Echo { .. }
-            | Head::Gfence { .. }
-            | Head::Addr { .. } => unreachable!(),
-        }
-    }
-
-    /// Tells task `from` that the message is complete, where a counter is named for it.
-    fn note(
-        &mut self,
-        alloc: Global,
-        from: u32,
-        name: MsgName,
-        cmpl: Option<u32>,
-        events: &mut Events,
-    ) -> Result<(), Memory>
-        requires link { (from < length self.old.senders.items) × (task_unit self.old ≤ PAYLOAD_ROOM) }
-        requires spelled { (c : ℕ) → cmpl ≡ Some c
-            → AreSpelled (task_unit self.old) (note_of self.old.state.number from name c) [] }
-        ensures senders { OnOk result (self.new.senders.items ≡ with_note (task_unit self.old)
-            self.old.state.number from name cmpl self.old.senders.items) }
-        ensures events { OnOk result (events.new ≡ events.old ++ noted name cmpl) }
-        ensures rest { self.new ≡ record self.old { senders = self.new.senders } }
-    {
-        let Some(cmpl) = cmpl else {
-            return Ok(());
-        };
-        let note = note_of(self.state.number, from, name, cmpl);
-        let sender = &mut self.senders[from as usize];
-        append_message(alloc, sender, self.sizes.unit(), note, &[])?;
-        events.push(Event::Copy(note_name(name)))
+        let Message {
+            name,
+            head,
+            bytes,
+            ..
+        } = message;
+        events.push(Event::Land(*name))?;
+        self.reply(alloc, from, *name, head, events)?;
+        write(&mut self.state.memory, head, bytes.as_slice())?;
+        announce(&mut self.state.counters, announced_by(head))
     }
 }
 

@@ -1,0 +1,149 @@
+-- The message that follows a landing, as the record has it.
+use Rattle.std.proofs.Common.{◌≡◌, ℕ, ◌<◌, true, cond, List, [], ◌∷◌, length, Option, None, Some, refl, sym, ap, ◌∙◌, subst, arith}
+use Rattle.std.specs.Prelude.{option_map}
+use Rattle.std.specs.Option.{option_or}
+use Rattle.std.proofs.lemmas.Bool.{cond-true}
+use Rattle.lapi_base.specs.declared.script.Script.{Script}
+use Rattle.lapi_base.specs.declared.rule.Rules.{Rules}
+use Rattle.lapi_base.specs.declared.event.Event.{Event}
+use Rattle.lapi_base.specs.declared.event.Event.TheVariants.{Copy, Land}
+use Rattle.lapi_base.specs.declared.head.Head.{Head}
+use Rattle.lapi_base.specs.declared.message.Leg.TheVariants.{Back, Note}
+use Rattle.lapi_base.specs.declared.message.MsgName.{MsgName}
+use Rattle.lapi_base.specs.declared.packet.Packet.{Packet}
+use Rattle.lapi_base.specs.declared.packet.Packet.TheVariants.{Data, Ack}
+use Rattle.lapi_base.specs.declared.packet.DataPacket.{DataPacket}
+use Rattle.lapi_base.specs.declared.schedule.Act.TheVariants.{Deliver}
+use Rattle.lapi_base.specs.Packet.Layout.{unit_of}
+use Rattle.lapi_base.specs.Packet.Spelling.{HasSpelling}
+use Rattle.lapi_base.specs.Record.Acts.{followed}
+use Rattle.lapi_base.specs.Record.Atomic.{Atomic}
+use Rattle.lapi_base.specs.Record.Fragments.{fragments_in}
+use Rattle.lapi_base.specs.Record.HeadSays.{back_head, note_head, asked_pieces}
+use Rattle.lapi_base.specs.Record.Names.{message, name_eq}
+use Rattle.lapi_base.specs.Record.Operations.{fragment_count, message_length}
+use Rattle.lapi_base.specs.Record.Packets.{data_packet}
+use Rattle.lapi_base.specs.Record.Valid.{ValidRules}
+use Rattle.lapi_base.specs.Record.Values.{values, memory_bytes}
+use Rattle.lapi_base.specs.Record.Wires.{Run, IsEntry, is_delivered}
+use Rattle.lapi_base.specs.Record.WorldView.{IsRecord, performed}
+use Rattle.lapi_base.specs.Laws.Answering.{IsSentAs}
+use Rattle.lapi_base.specs.Laws.Entries.{carried}
+use Rattle.lapi_base.specs.Laws.Landing.{completes}
+use Rattle.lapi_base.specs.Laws.Receiving.{bytes_in}
+use Rattle.lapi_base.proofs.ListLaws.{some-same}
+use Rattle.lapi_base.proofs.NameLaws.{name_eq-refl, happened-head}
+use Rattle.lapi_laws.proofs.Shorts.{copied-short}
+use Rattle.lapi_parts.proofs.ArrivingPackets.{arrivals-told}
+use Rattle.lapi_parts.proofs.CarriedLengths.{carried-length}
+use Rattle.lapi_parts.proofs.Deliveries.{delivered}
+use Rattle.lapi_parts.proofs.FirstLayout.{first-unit, first-longest}
+use Rattle.lapi_parts.proofs.HeadAnswers.{backs-follow, backs-bring, notes-follow}
+use Rattle.lapi_parts.proofs.SpelledPackets.{message-spelled}
+use Rattle.lapi_task.specs.Landed.{Reply, note_of, back_of, reply, MayLeave, events_of}
+use Rattle.lapi_task.specs.Outgoing.{outgoing, packet_of}
+use Rattle.lapi_task.specs.Supported.{IsSupported}
+use Rattle.lapi_task.proofs.Landings.{picked-is}
+use Rattle.lapi_task.proofs.MessageCopies.{packet-is}
+use Rattle.lapi_task.proofs.ReceiveEvents.{come, come-events, came_bytes}
+use Rattle.lapi_task.proofs.ReceiveKinds.{Comes, direct-is, there-is}
+use Rattle.lapi_task.proofs.Replies.{copies, follows-is}
+
+-- what the packets have in common with this one
+common : DataPacket → Packet → DataPacket
+common o (Data p) = record p { seq = 0; fragment = 0; payload = [] }
+common o (Ack from to base bits) = o
+
+module _ (script : Script) (rules : Rules) where
+  -- The reply from task t to task a is the message of the record that is copied after these events.
+  pub record Follows (J : List Event) (t a : ℕ) (x : Reply) : Type 0 where
+    pub from : x.packet.from ≡ t
+    pub to : x.packet.to ≡ a
+    pub is : outgoing script x.packet.name ≡ x.packet
+    pub bytes : x.bytes ≡ carried script rules (Copy x.packet.name ∷ J) x.packet.name
+
+  sent-is : (m : MsgName) (t a len : ℕ) (head : Head) → IsSentAs script rules m t a head len → outgoing script m ≡ record { from = t; to = a; seq = 0; name = m; head = head; length = len; fragment = 0; payload = [] }
+  unfolding common data_packet
+  sent-is m t a len head sent = ap (common (outgoing script m)) (sent 0 0 [])
+
+  note-carries : (m : MsgName) (J : List Event) → let n = message m.origin m.statement Note in [] ≡ carried script rules (Copy n ∷ J) n
+  unfolding values
+  note-carries m J = let n = message m.origin m.statement Note in sym (cond-true (name_eq n n) [] (carried script rules J n) (name_eq-refl n))
+
+  -- It may leave, once it is copied.
+  pub may-leave : IsSupported script → ValidRules rules → (before : List Event) (t a : ℕ) (x : Reply) → Follows before t a x → Atomic script rules (Copy x.packet.name ∷ before) → MayLeave (unit_of script) x
+  unfolding fragment_count
+  may-leave supported ok before t a x f atomic =
+      let m = x.packet.name in
+      let K = Copy m ∷ before in
+      let copied = happened-head (Copy m) before in
+      let size : message_length script m ≡ x.packet.length = ap (λ (o : DataPacket). o.length) f.is in
+      let short = copied-short script rules K m atomic copied in
+      let longest = first-longest script supported.valid in
+      let unit = first-unit script supported.valid in
+      record {
+        size = ap length f.bytes ∙ carried-length script rules K m atomic copied ∙ size;
+        short = omega (arith, short, longest, unit, size);
+        spelled = λ n j few lj.
+            let spells = message-spelled script rules supported.valid ok K m n j atomic copied few (subst (λ (o : DataPacket). j < fragments_in (unit_of script) o.length) (sym f.is) lj) in
+            subst HasSpelling (packet-is script rules m n j (carried script rules K m) ∙ (λ i. packet_of (f.is i) (unit_of script) n j (sym f.bytes i))) (_, spells);
+      }
+
+  -- ---- a delivery
+
+  module _ (r : Run) (a t k : ℕ) (p : DataPacket) (is : IsRecord script rules r) (entry : IsEntry r a t k (Data p)) (c : Comes script rules r a t p) where
+    abbrev pub brought : List Event
+    brought = events_of (come (completes script rules r a t p) p.name p.head (came_bytes script (r.handed a t) p))
+
+    pub journal-is : (performed script rules r (Deliver a t k)).journal ≡ followed r.journal brought
+    journal-is =
+        delivered script rules r a t k p entry
+        ∙ ap (λ es. followed r.journal (cond (is_delivered r a t p.seq) [] es)) (arrivals-told script rules r is a t k p entry)
+        ∙ ap (followed r.journal) (come-events script rules (r.handed a t) p (direct-is p.head p.length c.kind) (is_delivered r a t p.seq))
+
+    module _ (whole : completes script rules r a t p ≡ true) where
+      abbrev J : List Event
+      J = Land p.name ∷ r.journal
+
+      abbrev memory : List ℕ
+      memory = memory_bytes script rules r.journal t
+
+      -- a reply is copied after the landing
+      pub copied-then : (o : Option Reply) → reply t a p.name p.head memory ≡ o → followed r.journal brought ≡ followed J (copies o)
+      unfolding followed
+      copied-then o e =
+          ap (λ b. followed r.journal (events_of (come b p.name p.head (came_bytes script (r.handed a t) p)))) whole
+          ∙ ap (followed J) (follows-is t a p.name memory p.head ∙ ap copies e)
+
+      back-follows : (head : Head) → back_head p.head ≡ Some head → Follows J t a (back_of t a p.name (asked_pieces p.head) memory head)
+      unfolding followed
+      back-follows head e =
+          let m = message p.name.origin p.name.statement Back in
+          let x = back_of t a p.name (asked_pieces p.head) memory head in
+          let given : reply t a p.name p.head memory ≡ Some x = ap (λ o. option_or (option_map (back_of t a p.name (asked_pieces p.head) memory) o) (option_map (note_of t a p.name) (note_head p.head))) e in
+          let then : (performed script rules r (Deliver a t k)).journal ≡ Copy m ∷ J = journal-is ∙ copied-then (Some x) given in
+          record {
+            from = refl;
+            to = refl;
+            is = sent-is m t a (bytes_in (asked_pieces p.head)) head (backs-follow script rules r is a t k p head entry e);
+            bytes =
+                picked-is script rules r.journal t (asked_pieces p.head) (there-is script rules p.head p.length c.kind c.fits.head).asked
+                ∙ sym (backs-bring script rules r is a t k p head entry e whole)
+                ∙ ap (λ K. carried script rules K m) then;
+          }
+
+      note-follows : (head : Head) → note_head p.head ≡ Some head → Follows J t a (note_of t a p.name head)
+      note-follows head e = record {
+        from = refl;
+        to = refl;
+        is = sent-is (message p.name.origin p.name.statement Note) t a 0 head (notes-follow script rules r is a t k p head entry e);
+        bytes = note-carries p.name J;
+      }
+
+      reply-follows-by : (ob on : Option Head) → back_head p.head ≡ ob → note_head p.head ≡ on → (x : Reply) → option_or (option_map (back_of t a p.name (asked_pieces p.head) memory) ob) (option_map (note_of t a p.name) on) ≡ Some x → Follows J t a x
+      reply-follows-by (Some head) on b n x e = subst (Follows J t a) (some-same _ _ e) (back-follows head b)
+      reply-follows-by None (Some head) b n x e = subst (Follows J t a) (some-same _ _ e) (note-follows head n)
+      reply-follows-by None None b n x e = absurd (cc)
+
+      pub reply-follows : (x : Reply) → reply t a p.name p.head memory ≡ Some x → Follows J t a x
+      reply-follows x e = reply-follows-by (back_head p.head) (note_head p.head) refl refl x e

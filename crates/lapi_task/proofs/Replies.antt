@@ -1,0 +1,47 @@
+-- A reply of one piece, and of several.
+use Rattle.std.proofs.Common.{◌≡◌, ℕ, ◌+◌, false, [], ◌∷◌, List, Option, None, Some, refl, sym, ap, ◌∙◌, arith}
+use Rattle.std.specs.List.{flat_map}
+use Rattle.std.proofs.lemmas.List.Folds.{fold-map}
+use Rattle.std.proofs.lemmas.List.Sums.{sum_by-cons}
+use Rattle.lapi_base.specs.declared.event.Event.{Event}
+use Rattle.lapi_base.specs.declared.event.Event.TheVariants.{Copy}
+use Rattle.lapi_base.specs.declared.head.Head.{Head}
+use Rattle.lapi_base.specs.declared.head.Head.TheVariants as heads
+use Rattle.lapi_base.specs.declared.message.MsgName.{MsgName}
+use Rattle.lapi_base.specs.declared.message.Leg.TheVariants.{Back}
+use Rattle.lapi_base.specs.declared.packet.DataPacket.{DataPacket}
+use Rattle.lapi_base.specs.declared.span.Span.{Span}
+use Rattle.lapi_base.specs.Laws.Receiving.{bytes_in}
+use Rattle.lapi_base.specs.Record.HeadSays.{follows}
+use Rattle.lapi_memory.specs.TaskMemory.{bytes_at}
+use Rattle.lapi_vector.specs.Pieces.{total_of}
+use Rattle.lapi_task.specs.Landed.{Reply, reply_packet, back_of, reply, MayLeave}
+
+pub total-is : (spans : List Span) → total_of spans ≡ bytes_in spans
+total-is spans = fold-map ◌+◌ (λ (p : Span). p.len) 0 spans
+
+pub one-total : (p : Span) → p.len ≡ bytes_in (p ∷ [])
+one-total p = let e : p.len ≡ p.len + 0 = omega arith in e ∙ sym (sum_by-cons (λ (s : Span). s.len) p [])
+
+-- what was made is the answer
+pub back-made : (t a : ℕ) (m : MsgName) (pieces : List Span) (memory : List ℕ) (head : Head) (len : ℕ) (packet : DataPacket) (bytes : List ℕ) → packet ≡ reply_packet t a m Back head len → len ≡ bytes_in pieces → bytes ≡ flat_map (λ p. bytes_at memory p.at p.len) pieces → record { packet = packet; bytes = bytes } ≡ back_of t a m pieces memory head
+back-made t a m pieces memory head len packet bytes made size same = λ i. record { packet = (made ∙ ap (reply_packet t a m Back head) size) i; bytes = same i }
+
+-- each reply to this head may leave
+abbrev pub MayReply : (unit t a : ℕ) → MsgName → (memory : List ℕ) → Head → Type 0
+MayReply unit t a m memory head = (x : Reply) → reply t a m head memory ≡ Some x → MayLeave unit x
+
+-- the events of a reply
+abbrev pub copies : Option Reply → List Event
+copies None = []
+copies (Some x) = Copy x.packet.name ∷ []
+
+pub follows-is : (t a : ℕ) (m : MsgName) (memory : List ℕ) (h : Head) → follows h false m ≡ copies (reply t a m h memory)
+unfolding follows
+follows-is t a m memory (heads.Put at tgt None) = refl
+follows-is t a m memory (heads.Put at tgt (Some c)) = refl
+follows-is t a m memory (heads.Putv tgt None pieces) = refl
+follows-is t a m memory (heads.Putv tgt (Some c) pieces) = refl
+follows-is t a m memory (heads.Am handler tgt None header) = refl
+follows-is t a m memory (heads.Am handler tgt (Some c) header) = refl
+follows-is t a m memory _ = refl

@@ -1,0 +1,193 @@
+//! What follows a landing: a notice that the message is complete, or an answer with what stood at its target.
+ghost use Rattle.std.specs.Prelude.{◌≡◌, ℕ, ◌<◌, ◌≤◌, false, ◌∷◌, [], ◌++◌, length, OnOk, Some, option_map};
+ghost use Rattle.lapi_base.specs.declared.head.Head.TheVariants.{Note};
+ghost use Rattle.lapi_base.specs.declared.layout.TheConstants.{PAYLOAD_ROOM};
+ghost use Rattle.lapi_base.specs.Record.HeadSays.{noted, answered, follows, asked_pieces};
+ghost use Rattle.lapi_memory.specs.TaskMemory.{IsWithin};
+ghost use Rattle.lapi_vector.specs.Pieces.{AreWithin};
+ghost use Rattle.lapi_task.specs.Landed.{Reply, IsDirect, MayLeave, note_of, back_of, reply, with_reply};
+ghost use Rattle.lapi_task.specs.StandsFor.{task_unit};
+
+use crate::reply::{reply_packet, send};
+use crate::spans::same_spans;
+use crate::task::Task;
+use lapi_base::{Events, Head, Leg, Memory, MsgName, NoteOp, Span, Spans};
+use lapi_vector::Pieces;
+use std::alloc::Global;
+
+impl Task {
+    /// Sends what follows the landing of a message from task `from`. An answer has the bytes as they stand now, so this
+    /// comes before the message writes.
+    #[tactic(auto, unfolding(lapi_base::specs::Record::HeadSays::follows))]
+    pub(super) fn reply(
+        &mut self,
+        alloc: Global,
+        from: u32,
+        name: MsgName,
+        head: &Head,
+        events: &mut Events,
+    ) -> Result<(), Memory>
+        requires link { (from < length self.old.senders.items) × (task_unit self.old ≤ PAYLOAD_ROOM) }
+        requires head { IsDirect head.now × AreWithin (asked_pieces head.now) (length self.old.state.memory) }
+        requires allowed { (x : Reply) → reply self.old.state.number from name head.now self.old.state.memory ≡ Some x
+            → MayLeave (task_unit self.old) x }
+        ensures senders { OnOk result (self.new.senders.items ≡ with_reply (task_unit self.old)
+            (reply self.old.state.number from name head.now self.old.state.memory) self.old.senders.items) }
+        ensures events { OnOk result (events.new ≡ events.old ++ follows head.now false name) }
+        ensures rest { self.new ≡ record self.old { senders = self.new.senders } }
+    {
+        match head {
+            Head::Put { cmpl, .. } => self.note(alloc, from, name, NoteOp::Put, *cmpl, events),
+            Head::Putv { cmpl, .. } => self.note(alloc, from, name, NoteOp::Putv, *cmpl, events),
+            Head::GetGo {
+                asked,
+                source,
+                dest,
+                org,
+                ..
+            } => {
+                let back = Head::GetBack {
+                    dest: *dest,
+                    org: *org,
+                };
+                self.answer(alloc, from, name, back, span_of(*source, *asked), events)
+            }
+            Head::RmwGo { at, prev, org, .. } => {
+                let back = Head::RmwBack {
+                    dest: *prev,
+                    org: *org,
+                };
+                self.answer(alloc, from, name, back, span_of(*at, 4), events)
+            }
+            Head::GetvGo {
+                org,
+                source,
+                dest,
+                ..
+            } => {
+                let back = Head::GetvBack {
+                    org: *org,
+                    dest: same_spans(dest)?,
+                };
+                self.answer_vector(alloc, from, name, back, source, events)
+            }
+            Head::GetBack { .. }
+            | Head::GetvBack { .. }
+            | Head::RmwBack { .. }
+            | Head::Note { .. } => Ok(()),
+            Head::Am { .. } | Head::Echo { .. } | Head::Gfence { .. } | Head::Addr { .. } => {
+                unreachable!()
+            }
+        }
+    }
+
+    /// Tells task `from` that the message is complete, where a counter is named for it.
+    fn note(
+        &mut self,
+        alloc: Global,
+        from: u32,
+        name: MsgName,
+        op: NoteOp,
+        cmpl: Option<u32>,
+        events: &mut Events,
+    ) -> Result<(), Memory>
+        requires link { (from < length self.old.senders.items) × (task_unit self.old ≤ PAYLOAD_ROOM) }
+        requires allowed { (c : ℕ) → cmpl ≡ Some c
+            → MayLeave (task_unit self.old) (note_of self.old.state.number from name (Note op c)) }
+        ensures senders { OnOk result (self.new.senders.items ≡ with_reply (task_unit self.old)
+            (option_map (λ c. note_of self.old.state.number from name (Note op c)) cmpl) self.old.senders.items) }
+        ensures events { OnOk result (events.new ≡ events.old ++ noted name cmpl) }
+        ensures rest { self.new ≡ record self.old { senders = self.new.senders } }
+    {
+        let Some(cmpl) = cmpl else {
+            return Ok(());
+        };
+        let head = Head::Note { op, cmpl };
+        let packet = reply_packet(self.state.number, from, name, Leg::Note, head, 0);
+        send(
+            alloc,
+            &mut self.senders,
+            self.sizes.unit(),
+            packet,
+            &[],
+            events,
+        )
+    }
+
+    /// Answers task `from` with the bytes of a span.
+    fn answer(
+        &mut self,
+        alloc: Global,
+        from: u32,
+        name: MsgName,
+        head: Head,
+        span: Span,
+        events: &mut Events,
+    ) -> Result<(), Memory>
+        requires link { (from < length self.old.senders.items) × (task_unit self.old ≤ PAYLOAD_ROOM) }
+        requires within { IsWithin self.old.state.memory span.at span.len }
+        requires allowed { MayLeave (task_unit self.old)
+            (back_of self.old.state.number from name (span ∷ []) self.old.state.memory head) }
+        ensures senders { OnOk result (self.new.senders.items ≡ with_reply (task_unit self.old)
+            (Some (back_of self.old.state.number from name (span ∷ []) self.old.state.memory head))
+            self.old.senders.items) }
+        ensures events { OnOk result (events.new ≡ events.old ++ answered name) }
+        ensures rest { self.new ≡ record self.old { senders = self.new.senders } }
+    {
+        let bytes = self.state.memory.read(&span);
+        let packet = reply_packet(self.state.number, from, name, Leg::Back, head, span.len);
+        send(
+            alloc,
+            &mut self.senders,
+            self.sizes.unit(),
+            packet,
+            bytes,
+            events,
+        )
+    }
+
+    /// Answers task `from` with the bytes of some pieces, in order.
+    fn answer_vector(
+        &mut self,
+        alloc: Global,
+        from: u32,
+        name: MsgName,
+        head: Head,
+        pieces: &Spans,
+        events: &mut Events,
+    ) -> Result<(), Memory>
+        requires link { (from < length self.old.senders.items) × (task_unit self.old ≤ PAYLOAD_ROOM) }
+        requires within { AreWithin pieces.now (length self.old.state.memory) }
+        requires allowed { MayLeave (task_unit self.old)
+            (back_of self.old.state.number from name pieces.now self.old.state.memory head) }
+        ensures senders { OnOk result (self.new.senders.items ≡ with_reply (task_unit self.old)
+            (Some (back_of self.old.state.number from name pieces.now self.old.state.memory head))
+            self.old.senders.items) }
+        ensures events { OnOk result (events.new ≡ events.old ++ answered name) }
+        ensures rest { self.new ≡ record self.old { senders = self.new.senders } }
+    {
+        let pieces = Pieces::list(same_spans(pieces)?);
+        let bytes = pieces.gather(alloc, &self.state.memory)?;
+        let bytes = bytes.as_slice();
+        let length = bytes.len() as u32;
+        let packet = reply_packet(self.state.number, from, name, Leg::Back, head, length);
+        send(
+            alloc,
+            &mut self.senders,
+            self.sizes.unit(),
+            packet,
+            bytes,
+            events,
+        )
+    }
+}
+
+/// So many bytes from a place on.
+fn span_of(at: u32, len: u32) -> Span
+    ensures { result ≡ record { at = at; len = len } }
+{
+    Span {
+        at: u64::from(at),
+        len,
+    }
+}
