@@ -1,5 +1,5 @@
 -- What the receiving end of a link stands for: the packets that were handed over on it, the latest first.
-use Rattle.std.specs.Prelude.{◌≡◌, ◌⊎◌, ℕ, ◌+◌, ◌-◌, ◌*◌, ◌^◌, ◌<◌, ◌≤◌, min, Bool, true, false, cond, List, [], ◌∷◌, length, map, slice_get, Option, Some, None, option_map}
+use Rattle.std.specs.Prelude.{◌≡◌, ◌≢◌, ◌⊎◌, ℕ, ◌+◌, ◌-◌, ◌*◌, ◌^◌, ◌<◌, ◌≤◌, ◌==◌, ◌||◌, min, Bool, true, false, cond, List, [], ◌∷◌, length, map, slice_get, Option, Some, None, option_map}
 use Rattle.std.specs.List.{AllByRecursion, IsDistinct}
 use Rattle.lapi_base.specs.declared.script.Script.{Script}
 use Rattle.lapi_base.specs.declared.handler.HeaderOut.{HeaderOut}
@@ -15,7 +15,7 @@ use Rattle.lapi_base.specs.Record.Wires.{has_number}
 use Rattle.lapi_base.specs.Record.Arrived.{has_fragment, has_some, some_packet, whole_by, payload_of, assembled, least_number, count_of, IsKnown}
 use Rattle.lapi_window.specs.RecvWindow.{Receiving, is_taken, base_of}
 use Rattle.lapi_reassembly.specs.Partial.{Gathered, is_whole, message}
-use Rattle.lapi_reassembly.specs.Partials.{Gathering, partial, is_there, HasRoom, Agrees, IsMissing, gathered}
+use Rattle.lapi_reassembly.specs.Partials.{Gathering, partial, is_there, HasRoom, Agrees, IsMissing, gathered, kept_of}
 use Rattle.lapi_reassembly.specs.declared.message.Message.{Message}
 use Rattle.lapi_reassembly.specs.declared.put.Put.{Put}
 use Rattle.lapi_reassembly.specs.declared.put.Put.TheVariants as puts
@@ -61,7 +61,8 @@ pub record MayBring (s : Gathering) (p : DataPacket) : Type 0 where
   pub payload : IsPayload s.unit p.length p.fragment p.payload
   pub room : (is_there s p.name ≡ true) ⊎ HasRoom s
 
--- The end may take the packet: its number is below the end of the window, and a new number brings a missing fragment.
+-- The end may take the packet: its number is below 2 ^ 32 - 1 and below the end of the window, and a new number brings a
+-- missing fragment.
 pub record MayTake (end : ReceivingEnd) (p : DataPacket) : Type 0 where
   pub number : p.seq < 4294967295
   pub reach : p.seq < base_of end.window + end.window.window
@@ -151,8 +152,15 @@ whole_message More = None
 whole_message (Whole m) = Some m
 whole_message (FirstWhole m) = Some m
 
--- A number is taken once: with one that was taken before nothing comes, and with a new one what its fragment makes of its
--- message.
+-- the end has the packet's number too, and its fragment has been put to its message
+pub record HasTaken (old new : ReceivingEnd) (p : DataPacket) : Type 0 where
+  pub numbers : (n : ℕ) → is_taken new.window n ≡ (n == p.seq || is_taken old.window n)
+  pub message : partial new.partials p.name ≡ kept_of (gathered_with old.partials p)
+  pub others : (m : MsgName) → m ≢ p.name → partial new.partials m ≡ partial old.partials m
+  pub sizes : (new.window.window ≡ old.window.window) × (new.partials.names ≡ old.partials.names) × (new.partials.unit ≡ old.partials.unit)
+
+-- A number is taken once: one that was taken before is a repeat, and changes nothing; with a new one comes what its
+-- fragment makes of its message.
 pub record TakesOnce (old new : ReceivingEnd) (p : DataPacket) (arrival : Arrival) : Type 0 where
   pub repeat : is_taken old.window p.seq ≡ true → (arrival ≡ Repeat) × (new ≡ old)
-  pub fresh : is_taken old.window p.seq ≡ false → arrival ≡ arrival_with (is_there old.partials p.name) (gathered_with old.partials p)
+  pub fresh : is_taken old.window p.seq ≡ false → (arrival ≡ arrival_with (is_there old.partials p.name) (gathered_with old.partials p)) × HasTaken old new p

@@ -52,10 +52,14 @@ impl Receiver {
     /// Takes a packet that was handed over. Its number lies in the window: below the least missing one plus the window.
     pub fn arrive(&mut self, alloc: Global, packet: &DataPacket) -> Result<Arrival, Memory>
         requires { MayTake self.old packet.now }
-        ensures kept { OnOk result ((script : Script) (ps : List Packet) → ReceivesFor script self.old ps → MayArrive script ps packet.now → ReceivesFor script self.new (Data packet.now ∷ ps)) }
-        ensures arrival { IfOk result (λ arrival. (script : Script) (ps : List Packet) → ReceivesFor script self.old ps → MayArrive script ps packet.now → arrival ≡ arrival_of script ps packet.now (answer_of self.old packet.now.name)) }
+        ensures kept { OnOk result ((script : Script) (ps : List Packet) → ReceivesFor script self.old ps
+            → MayArrive script ps packet.now → ReceivesFor script self.new (Data packet.now ∷ ps)) }
+        ensures arrival { IfOk result (λ arrival. (script : Script) (ps : List Packet)
+            → ReceivesFor script self.old ps → MayArrive script ps packet.now
+            → arrival ≡ arrival_of script ps packet.now (answer_of self.old packet.now.name)) }
         ensures first { IfOk result (λ arrival. arrival ≡ First → is_partial self.new packet.now.name ≡ true) }
-        ensures answers { OnOk result ((m : MsgName) → is_partial self.new m ≡ true → answer_of self.new m ≡ answer_of self.old m) }
+        ensures answers { OnOk result ((m : MsgName) → is_partial self.new m ≡ true
+            → answer_of self.new m ≡ answer_of self.old m) }
         ensures whole { IfOk result (λ arrival. IfSome (whole_message arrival)
             (IsMessageOf packet.now.name packet.now.head packet.now.length)) }
         ensures once { IfOk result (λ arrival. TakesOnce self.old self.new packet.now arrival) }
@@ -70,9 +74,11 @@ impl Receiver {
     /// Keeps what the header handler answered for a message of which fragments are missing.
     pub fn answer(&mut self, name: MsgName, out: HeaderOut)
         requires { is_partial self.old name ≡ true }
-        ensures kept { (script : Script) (ps : List Packet) → ReceivesFor script self.old ps → ReceivesFor script self.new ps }
+        ensures kept { (script : Script) (ps : List Packet) → ReceivesFor script self.old ps
+            → ReceivesFor script self.new ps }
         ensures answer { answer_of self.new name ≡ Some out }
-        ensures others { (other : MsgName) → other ≢ name → answer_of self.new other ≡ answer_of self.old other }
+        ensures others { (other : MsgName) → other ≢ name
+            → answer_of self.new other ≡ answer_of self.old other }
     {
         self.partials.answer(name, out);
     }
@@ -108,12 +114,15 @@ impl Receiver {
 // Puts a fragment that has not come before to those of its message.
 fn put(partials: &mut Partials, alloc: Global, packet: &DataPacket) -> Result<Arrival, Memory>
     requires { MayBring partials.old packet.now }
-    ensures answer { IfOk result (λ arrival. arrival ≡ arrival_with (is_there partials.old packet.now.name) (gathered_with partials.old packet.now)) }
+    ensures answer { IfOk result (λ arrival.
+        arrival ≡ arrival_with (is_there partials.old packet.now.name) (gathered_with partials.old packet.now)) }
     ensures first { IfOk result (λ arrival. arrival ≡ First → is_there partials.new packet.now.name ≡ true) }
     ensures whole { IfOk result (λ arrival. IfSome (whole_message arrival)
         (IsMessageOf packet.now.name packet.now.head packet.now.length)) }
-    ensures name { OnOk result (partial partials.new packet.now.name ≡ kept_of (gathered_with partials.old packet.now)) }
-    ensures others { (other : MsgName) → other ≢ packet.now.name → partial partials.new other ≡ partial partials.old other }
+    ensures name { OnOk result (partial partials.new packet.now.name
+        ≡ kept_of (gathered_with partials.old packet.now)) }
+    ensures others { (other : MsgName) → other ≢ packet.now.name
+        → partial partials.new other ≡ partial partials.old other }
     ensures sizes { (partials.new.names ≡ partials.old.names) × (partials.new.unit ≡ partials.old.unit) }
 {
     let put = partials.put(
