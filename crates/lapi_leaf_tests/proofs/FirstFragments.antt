@@ -1,5 +1,5 @@
 -- The later of two fragments may be the first that comes to a link.
-use Rattle.std.proofs.Common.{◌≡◌, ℕ, ◌+◌, ◌-◌, ◌*◌, ◌^◌, ◌<◌, ◌≤◌, min, true, false, List, [], ◌∷◌, length, refl, sym, ◌∙◌, subst, arith}
+use Rattle.std.proofs.Common.{◌≡◌, ◌-◌, ◌*◌, ◌<◌, min, false, List, [], ◌∷◌, length, refl, sym, ◌∙◌, subst, arith}
 use Rattle.std.specs.List.{AllByRecursion}
 use Rattle.std.proofs.lemmas.Bool.{false≢true}
 use Rattle.lapi_base.specs.declared.script.Script.{Script}
@@ -8,7 +8,7 @@ use Rattle.lapi_base.specs.declared.packet.DataPacket.{DataPacket}
 use Rattle.lapi_base.specs.Packet.Layout.{unit_of, window_of}
 use Rattle.lapi_base.specs.Record.Below.{least_missing, every_below}
 use Rattle.lapi_base.specs.Record.Wires.{has_number}
-use Rattle.lapi_base.specs.Record.Arrived.{has_fragment, has_some, some_packet, whole_by, number_bound, least_number, count_of}
+use Rattle.lapi_base.specs.Record.Arrived.{has_fragment, some_packet, whole_by, number_bound, least_number, count_of}
 use Rattle.lapi_link.specs.Receiver.{is_complete, IsPartOnly, MayArrive}
 
 abbrev pub script : Script

@@ -23,7 +23,7 @@ use Rattle.lapi_window.specs.RecvWindow.{Receiving, is_taken, base_of}
 use Rattle.lapi_reassembly.specs.Partial.{Gathered, nothing_of, with_fragment, is_whole, message, fragment}
 use Rattle.lapi_reassembly.specs.Partials.{Gathering, partial, is_there, HasRoom, Agrees, IsMissing, kept_of}
 use Rattle.lapi_link.specs.declared.arrival.Arrival.TheVariants.{Repeat}
-use Rattle.lapi_link.specs.Receiver.{ReceivingEnd, is_complete, fragment_at, gathered_by, partial_by, partial_of, came, kept_answer, answer_of, unanswered, ReceivesFor, IsPartOnly, MayArrive, message_of, arrival_of, gathered_with, arrival_with}
+use Rattle.lapi_link.specs.Receiver.{ReceivingEnd, is_complete, fragment_at, gathered_by, partial_by, partial_of, came, kept_answer, answer_of, unanswered, ReceivesFor, IsPartOnly, MayArrive, MayBring, WhatArrivesMayBeTaken, message_of, arrival_of, gathered_with, arrival_with}
 use Rattle.lapi_link.proofs.FragmentLists.{every-all, joined-map, told-at, none-yet, one-more}
 use Rattle.lapi_base.proofs.HeldPackets.{number-more, number-known, packet-found, none-found, no-fragment, fragment-there}
 use Rattle.lapi_link.proofs.HeldFragments.{is_some-at, bytes-at, missing-at, first-at, later-at, held-at}
@@ -245,10 +245,10 @@ module _ (script : Script) (ps : List Packet) (p : DataPacket) (w : Receiving) (
   end = subst (λ x. ReceivesFor script x ps) (sym is) receives
 
   -- the window reaches as far as the packet
-  pub reached : base_of w + w.window ≤ p.seq → ⊥
-  reached far =
+  reached : p.seq < base_of w + w.window
+  reached =
       let base = base-is w ps end.taken end.numbers in
-      omega (arith, far, base, end.window, fits.reach)
+      omega (arith, base, end.window, fits.reach)
 
   -- A number that was taken before.
   module _ (taken : is_taken w p.seq ≡ true) where
@@ -273,20 +273,30 @@ module _ (script : Script) (ps : List Packet) (p : DataPacket) (w : Receiving) (
     fresh : has_number ps p.seq ≡ false
     fresh = sym (end.taken p.seq) ∙ absent
 
-    pub fresh-agrees : Agrees g p.name p.head p.length
+    fresh-agrees : Agrees g p.name p.head p.length
     fresh-agrees = agrees script ps p fits fresh g end.sizes.1 (end.partials p.name)
 
-    pub fresh-fragment : (p.length ≤ 64 * g.unit) × (p.fragment < fragments_in g.unit p.length)
+    fresh-fragment : (p.length ≤ 64 * g.unit) × (p.fragment < fragments_in g.unit p.length)
     fresh-fragment = subst (λ (u : ℕ). (p.length ≤ 64 * u) × (p.fragment < fragments_in u p.length)) (sym end.sizes.1) (fits.size, within script ps p fits fresh)
 
-    pub fresh-missing : IsMissing g p.name p.fragment
+    fresh-missing : IsMissing g p.name p.fragment
     fresh-missing = missing-now script ps p fits fresh g end.sizes.1 (end.partials p.name)
 
-    pub fresh-payload : IsPayload g.unit p.length p.fragment p.payload
+    fresh-payload : IsPayload g.unit p.length p.fragment p.payload
     fresh-payload = subst (λ (u : ℕ). IsPayload u p.length p.fragment p.payload) (sym end.sizes.1) fits.payload
 
-    pub fresh-room : (is_there g p.name ≡ true) ⊎ HasRoom g
+    fresh-room : (is_there g p.name ≡ true) ⊎ HasRoom g
     fresh-room = has-room script ps p g fits fresh end.sizes.0 end.partials
+
+    brings : MayBring g p
+    brings = record {
+      message = fresh-agrees;
+      size = fresh-fragment.0;
+      fragment = fresh-fragment.1;
+      missing = fresh-missing;
+      payload = fresh-payload;
+      room = fresh-room;
+    }
 
     pub fresh-arrival : arrival_with (is_there g p.name) (gathered_with g p) ≡ arrival_of script ps p (answer_of s p.name)
     fresh-arrival = arrival-now script ps p fits fresh g end.sizes.1 (end.partials p.name) ∙ ap (λ x. arrival_of script ps p (answer_of x p.name)) is
@@ -299,6 +309,14 @@ module _ (script : Script) (ps : List Packet) (p : DataPacket) (w : Receiving) (
       numbers = numbers-now script ps p fits end.numbers;
       partials = all-partials script ps p (λ m. option_map unanswered (partial g m)) (λ m. option_map unanswered (partial h m)) end.partials (λ m ne. ap (option_map unanswered) (others m ne)) (ap (option_map unanswered) own ∙ kept-now script ps p fits fresh g end.sizes.1 (end.partials p.name));
     }
+
+-- What may come may be taken.
+pub may-take : WhatArrivesMayBeTaken
+may-take script s ps p receives fits = record {
+  number = omega (arith, fits.number);
+  reach = reached script ps p s.window s.partials s refl receives fits;
+  fresh = brings script ps p s.window s.partials s refl receives fits;
+}
 
 -- The answers to headers.
 pub answers-kept : (old new : Gathering) (p : DataPacket) → partial new p.name ≡ kept_of (gathered_with old p) → ((m : MsgName) → m ≢ p.name → partial new m ≡ partial old m) → (m : MsgName) → is_there new m ≡ true → kept_answer (partial new m) ≡ kept_answer (partial old m)

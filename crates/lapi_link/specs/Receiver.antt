@@ -1,5 +1,5 @@
 -- What the receiving end of a link stands for: the packets that were handed over on it, the latest first.
-use Rattle.std.specs.Prelude.{◌≡◌, ℕ, ◌+◌, ◌-◌, ◌*◌, ◌^◌, ◌<◌, ◌≤◌, min, Bool, true, false, cond, List, [], ◌∷◌, length, map, slice_get, Option, Some, None, option_map}
+use Rattle.std.specs.Prelude.{◌≡◌, ◌≢◌, ◌⊎◌, ℕ, ◌+◌, ◌-◌, ◌*◌, ◌^◌, ◌<◌, ◌≤◌, ◌==◌, ◌||◌, min, Bool, true, false, cond, List, [], ◌∷◌, length, map, slice_get, Option, Some, None, option_map}
 use Rattle.std.specs.List.{AllByRecursion, IsDistinct}
 use Rattle.lapi_base.specs.declared.script.Script.{Script}
 use Rattle.lapi_base.specs.declared.handler.HeaderOut.{HeaderOut}
@@ -10,12 +10,12 @@ use Rattle.lapi_base.specs.declared.packet.DataPacket.{DataPacket}
 use Rattle.lapi_base.specs.Packet.Layout.{unit_of, window_of}
 use Rattle.lapi_base.specs.Record.Names.{name_eq}
 use Rattle.lapi_base.specs.Record.Operations.{numbers_below}
-use Rattle.lapi_base.specs.Record.Fragments.{fragments_in}
+use Rattle.lapi_base.specs.Record.Fragments.{fragments_in, IsPayload}
 use Rattle.lapi_base.specs.Record.Wires.{has_number}
 use Rattle.lapi_base.specs.Record.Arrived.{has_fragment, has_some, some_packet, whole_by, payload_of, assembled, least_number, count_of, IsKnown}
-use Rattle.lapi_window.specs.RecvWindow.{Receiving, is_taken}
+use Rattle.lapi_window.specs.RecvWindow.{Receiving, is_taken, base_of}
 use Rattle.lapi_reassembly.specs.Partial.{Gathered, is_whole, message}
-use Rattle.lapi_reassembly.specs.Partials.{Gathering, partial, is_there, gathered}
+use Rattle.lapi_reassembly.specs.Partials.{Gathering, partial, is_there, HasRoom, Agrees, IsMissing, gathered, kept_of}
 use Rattle.lapi_reassembly.specs.declared.message.Message.{Message}
 use Rattle.lapi_reassembly.specs.declared.put.Put.{Put}
 use Rattle.lapi_reassembly.specs.declared.put.Put.TheVariants as puts
@@ -50,6 +50,23 @@ unanswered g = record g { out = None }
 -- what comes of a packet with a new number: by whether some of its message came before, and whether all has come now
 abbrev pub came : (some whole : Bool) → Message → Arrival
 came some whole m = cond whole (cond some (Whole m) (FirstWhole m)) (cond some More First)
+
+-- The packet brings a fragment of its message that is missing: its head and length are those of what has come of the
+-- message, it has the fragment's payload, and a message of which nothing has come finds room.
+pub record MayBring (s : Gathering) (p : DataPacket) : Type 0 where
+  pub message : Agrees s p.name p.head p.length
+  pub size : p.length ≤ 64 * s.unit
+  pub fragment : p.fragment < fragments_in s.unit p.length
+  pub missing : IsMissing s p.name p.fragment
+  pub payload : IsPayload s.unit p.length p.fragment p.payload
+  pub room : (is_there s p.name ≡ true) ⊎ HasRoom s
+
+-- The end may take the packet: its number is below 2 ^ 32 - 1 and below the end of the window, and a new number brings a
+-- missing fragment.
+pub record MayTake (end : ReceivingEnd) (p : DataPacket) : Type 0 where
+  pub number : p.seq < 4294967295
+  pub reach : p.seq < base_of end.window + end.window.window
+  pub fresh : is_taken end.window p.seq ≡ false → MayBring end.partials p
 
 module _ (script : Script) where
   -- all fragments of a message with so many bytes are among these packets
@@ -106,6 +123,10 @@ module _ (script : Script) where
   unfoldable pub arrival_of : List Packet → DataPacket → Option HeaderOut → Arrival
   arrival_of ps p out = cond (has_number ps p.seq) Repeat (came (has_some ps p.name) (is_complete (Data p ∷ ps) p.name p.length) (message_of ps p out))
 
+-- An end that stands for these packets may take each one that may come to them.
+abbrev pub WhatArrivesMayBeTaken : Type 0
+WhatArrivesMayBeTaken = (script : Script) (end : ReceivingEnd) (ps : List Packet) (p : DataPacket) → ReceivesFor script end ps → MayArrive script ps p → MayTake end p
+
 -- Nothing was handed over on a link with this window and this unit.
 abbrev pub IsNewReceiver : (window unit : ℕ) → ReceivingEnd → Type 0
 IsNewReceiver window unit s = (script : Script) → window_of script ≡ window → unit_of script ≡ unit → ReceivesFor script s []
@@ -122,3 +143,24 @@ arrival_by puts.First = First
 arrival_by puts.More = More
 arrival_by (puts.Whole m) = Whole m
 arrival_by (puts.FirstWhole m) = FirstWhole m
+
+-- the message that came whole, if one did
+abbrev pub whole_message : Arrival → Option Message
+whole_message Repeat = None
+whole_message First = None
+whole_message More = None
+whole_message (Whole m) = Some m
+whole_message (FirstWhole m) = Some m
+
+-- the end has the packet's number too, and its fragment has been put to its message
+pub record HasTaken (old new : ReceivingEnd) (p : DataPacket) : Type 0 where
+  pub numbers : (n : ℕ) → is_taken new.window n ≡ (n == p.seq || is_taken old.window n)
+  pub message : partial new.partials p.name ≡ kept_of (gathered_with old.partials p)
+  pub others : (m : MsgName) → m ≢ p.name → partial new.partials m ≡ partial old.partials m
+  pub sizes : (new.window.window ≡ old.window.window) × (new.partials.names ≡ old.partials.names) × (new.partials.unit ≡ old.partials.unit)
+
+-- A number is taken once: one that was taken before is a repeat, and changes nothing; with a new one comes what its
+-- fragment makes of its message.
+pub record TakesOnce (old new : ReceivingEnd) (p : DataPacket) (arrival : Arrival) : Type 0 where
+  pub repeat : is_taken old.window p.seq ≡ true → (arrival ≡ Repeat) × (new ≡ old)
+  pub fresh : is_taken old.window p.seq ≡ false → (arrival ≡ arrival_with (is_there old.partials p.name) (gathered_with old.partials p)) × HasTaken old new p

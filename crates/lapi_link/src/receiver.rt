@@ -1,17 +1,19 @@
-ghost use Rattle.std.specs.Prelude.{◌≡◌, ◌≢◌, ◌⊎◌, ℕ, ◌+◌, ◌*◌, ◌<◌, ◌≤◌, ◌∷◌, true, List, [], Some, IfOk, OnOk};
+ghost use Rattle.std.specs.Prelude.{◌≡◌, ◌≢◌, ℕ, ◌+◌, ◌*◌, ◌%◌, ◌^◌, ◌<◌, ◌≤◌, ◌∷◌, true, List, [], Some, IfOk, IfSome, OnOk};
 ghost use Rattle.lapi_base.specs.declared.script.Script.{Script};
 ghost use Rattle.lapi_base.specs.declared.packet.Packet.{Packet};
 ghost use Rattle.lapi_base.specs.declared.packet.Packet.TheVariants.{Data};
 ghost use Rattle.lapi_base.specs.declared.message.MsgName.{MsgName};
 ghost use Rattle.lapi_base.specs.Record.Below.{bits_of};
-ghost use Rattle.lapi_base.specs.Record.Fragments.{fragments_in, IsPayload};
 ghost use Rattle.lapi_base.specs.Packet.Layout.{window_of};
 ghost use Rattle.lapi_base.specs.Record.Wires.{has_number};
 ghost use Rattle.lapi_base.specs.Record.Arrived.{least_number};
-ghost use Rattle.lapi_reassembly.specs.Partial.{IsUnit};
-ghost use Rattle.lapi_reassembly.specs.Partials.{partial, is_there, HasRoom, Agrees, IsMissing, kept_of};
+ghost use Rattle.lapi_window.specs.RecvWindow.{is_taken, base_of};
+ghost use Rattle.lapi_reassembly.specs.Partial.{IsUnit, IsMessageOf};
+ghost use Rattle.lapi_reassembly.specs.Partials.{partial, is_there, whole_of, kept_of};
 ghost use Rattle.lapi_link.specs.declared.arrival.Arrival.TheVariants.{First};
-ghost use Rattle.lapi_link.specs.Receiver.{ReceivesFor, IsNewReceiver, MayArrive, is_partial, answer_of, arrival_of, arrival_by, arrival_with, gathered_with};
+ghost use Rattle.lapi_link.specs.Receiver.{ReceivesFor, IsNewReceiver, MayArrive, MayBring, MayTake, TakesOnce};
+ghost use Rattle.lapi_link.specs.Receiver.{is_partial, answer_of, arrival_of, arrival_by, arrival_with, gathered_with};
+ghost use Rattle.lapi_link.specs.Receiver.{whole_message};
 
 use crate::arrival::Arrival;
 use lapi_base::{DataPacket, HeaderOut, Memory, MsgName};
@@ -49,11 +51,18 @@ impl Receiver {
 
     /// Takes a packet that was handed over. Its number lies in the window: below the least missing one plus the window.
     pub fn arrive(&mut self, alloc: Global, packet: &DataPacket) -> Result<Arrival, Memory>
-        requires { (script : Script) × (ps : List Packet) × ReceivesFor script self.old ps × MayArrive script ps packet.now }
-        ensures kept { OnOk result ((script : Script) (ps : List Packet) → ReceivesFor script self.old ps → MayArrive script ps packet.now → ReceivesFor script self.new (Data packet.now ∷ ps)) }
-        ensures arrival { IfOk result (λ arrival. (script : Script) (ps : List Packet) → ReceivesFor script self.old ps → MayArrive script ps packet.now → arrival ≡ arrival_of script ps packet.now (answer_of self.old packet.now.name)) }
+        requires { MayTake self.old packet.now }
+        ensures kept { OnOk result ((script : Script) (ps : List Packet) → ReceivesFor script self.old ps
+            → MayArrive script ps packet.now → ReceivesFor script self.new (Data packet.now ∷ ps)) }
+        ensures arrival { IfOk result (λ arrival. (script : Script) (ps : List Packet)
+            → ReceivesFor script self.old ps → MayArrive script ps packet.now
+            → arrival ≡ arrival_of script ps packet.now (answer_of self.old packet.now.name)) }
         ensures first { IfOk result (λ arrival. arrival ≡ First → is_partial self.new packet.now.name ≡ true) }
-        ensures answers { OnOk result ((m : MsgName) → is_partial self.new m ≡ true → answer_of self.new m ≡ answer_of self.old m) }
+        ensures answers { OnOk result ((m : MsgName) → is_partial self.new m ≡ true
+            → answer_of self.new m ≡ answer_of self.old m) }
+        ensures whole { IfOk result (λ arrival. IfSome (whole_message arrival)
+            (IsMessageOf packet.now.name packet.now.head packet.now.length)) }
+        ensures once { IfOk result (λ arrival. TakesOnce self.old self.new packet.now arrival) }
     {
         match self.window.take(packet.seq) {
             Took::Fresh => put(&mut self.partials, alloc, packet),
@@ -65,16 +74,24 @@ impl Receiver {
     /// Keeps what the header handler answered for a message of which fragments are missing.
     pub fn answer(&mut self, name: MsgName, out: HeaderOut)
         requires { is_partial self.old name ≡ true }
-        ensures kept { (script : Script) (ps : List Packet) → ReceivesFor script self.old ps → ReceivesFor script self.new ps }
+        ensures kept { (script : Script) (ps : List Packet) → ReceivesFor script self.old ps
+            → ReceivesFor script self.new ps }
         ensures answer { answer_of self.new name ≡ Some out }
-        ensures others { (other : MsgName) → other ≢ name → answer_of self.new other ≡ answer_of self.old other }
+        ensures others { (other : MsgName) → other ≢ name
+            → answer_of self.new other ≡ answer_of self.old other }
     {
         self.partials.answer(name, out);
     }
 
     /// The least number that was not taken, and which of the next ones were.
     pub fn ack(&self) -> (u32, u64)
-        ensures { (script : Script) (ps : List Packet) → ReceivesFor script self.now ps → (result.0 ≡ least_number ps) × (result.1 ≡ bits_of (window_of script) (λ i. has_number ps (least_number ps + i))) }
+        ensures packets { (script : Script) (ps : List Packet) → ReceivesFor script self.now ps
+            → (result.0 ≡ least_number ps)
+            × (result.1 ≡ bits_of (window_of script) (λ i. has_number ps (least_number ps + i))) }
+        ensures base { result.0 ≡ base_of self.now.window }
+        ensures bits { result.1 ≡ bits_of self.now.window.window
+            (λ i. is_taken self.now.window (base_of self.now.window + i)) }
+        ensures fits { (result.1 < 2 ^ self.now.window.window) × (result.1 % 2 ≡ 0) }
     {
         self.window.ack()
     }
@@ -96,15 +113,16 @@ impl Receiver {
 
 // Puts a fragment that has not come before to those of its message.
 fn put(partials: &mut Partials, alloc: Global, packet: &DataPacket) -> Result<Arrival, Memory>
-    requires message { Agrees partials.old packet.now.name packet.now.head packet.now.length }
-    requires fragment { (packet.now.length ≤ 64 * partials.old.unit) × (packet.now.fragment < fragments_in partials.old.unit packet.now.length) }
-    requires missing { IsMissing partials.old packet.now.name packet.now.fragment }
-    requires payload { IsPayload partials.old.unit packet.now.length packet.now.fragment packet.now.payload }
-    requires room { (is_there partials.old packet.now.name ≡ true) ⊎ HasRoom partials.old }
-    ensures answer { IfOk result (λ arrival. arrival ≡ arrival_with (is_there partials.old packet.now.name) (gathered_with partials.old packet.now)) }
+    requires { MayBring partials.old packet.now }
+    ensures answer { IfOk result (λ arrival.
+        arrival ≡ arrival_with (is_there partials.old packet.now.name) (gathered_with partials.old packet.now)) }
     ensures first { IfOk result (λ arrival. arrival ≡ First → is_there partials.new packet.now.name ≡ true) }
-    ensures name { OnOk result (partial partials.new packet.now.name ≡ kept_of (gathered_with partials.old packet.now)) }
-    ensures others { (other : MsgName) → other ≢ packet.now.name → partial partials.new other ≡ partial partials.old other }
+    ensures whole { IfOk result (λ arrival. IfSome (whole_message arrival)
+        (IsMessageOf packet.now.name packet.now.head packet.now.length)) }
+    ensures name { OnOk result (partial partials.new packet.now.name
+        ≡ kept_of (gathered_with partials.old packet.now)) }
+    ensures others { (other : MsgName) → other ≢ packet.now.name
+        → partial partials.new other ≡ partial partials.old other }
     ensures sizes { (partials.new.names ≡ partials.old.names) × (partials.new.unit ≡ partials.old.unit) }
 {
     let put = partials.put(
@@ -120,7 +138,8 @@ fn put(partials: &mut Partials, alloc: Global, packet: &DataPacket) -> Result<Ar
 
 // What comes of a packet, as what comes of its fragment tells.
 fn arrival_by(put: Put) -> Arrival
-    ensures { result ≡ arrival_by put }
+    ensures arrival { result ≡ arrival_by put }
+    ensures whole { whole_message result ≡ whole_of put }
 {
     match put {
         Put::First => Arrival::First,

@@ -8,8 +8,8 @@ use Rattle.lapi_base.specs.declared.head.Head.{Head}
 use Rattle.lapi_base.specs.declared.handler.HeaderOut.{HeaderOut}
 use Rattle.lapi_reassembly.specs.declared.put.Put.{Put}
 use Rattle.lapi_base.specs.Record.Fragments.{fragments_in, fragment_length, IsPayload}
-use Rattle.lapi_reassembly.specs.Partial.{Gathered, nothing_of, with_fragment, is_whole}
-use Rattle.lapi_reassembly.specs.Partials.{Gathering, found, partial, is_there, HasRoom, Agrees, gathered, put_of, kept_of, IsGathering}
+use Rattle.lapi_reassembly.specs.Partial.{Gathered, IsMessageOf, nothing_of, with_fragment, is_whole}
+use Rattle.lapi_reassembly.specs.Partials.{Gathering, found, partial, is_there, HasRoom, Agrees, gathered, put_of, whole_of, kept_of, IsGathering}
 use Rattle.lapi_reassembly.proofs.Lookups.{NoneAt, Renewed, renewed_held, renewed_absent, found_none, found_at, same_some, room_for_one}
 
 kept_same : (x h : Gathered) → kept_of x ≡ Some h → x ≡ h
@@ -43,6 +43,12 @@ module _ (names unit : ℕ) (s t : Slab Gathered) (S : Gathering) (is : record {
     more_payload head len j payload message long =
         let agrees = rw is_found at message in
         rw kept.1 (rw (unit_of_kept, agrees.1) long)
+
+    pub more_whole : (head : Head) (len : ℕ) (put : Put) → Agrees S name head len → IfSome (get s key) (λ g. IfSome (whole_of put) (IsMessageOf g.name g.head g.length)) → IfSome (whole_of put) (IsMessageOf name head len)
+    more_whole head len put message whole =
+        let agrees = rw is_found at message in
+        let told = rw kept.1 at whole in
+        rw (kept.2, agrees.0, agrees.1) at told
 
     module _ (head : Head) (len j : ℕ) (payload : List ℕ) where
       abbrev pub after : Gathered

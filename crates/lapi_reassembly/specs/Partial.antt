@@ -38,6 +38,12 @@ joined g = flat_map (λ payload. unwrap_or payload []) g.fragments
 abbrev pub message : Gathered → Message
 message g = record { name = g.name; head = g.head; bytes = joined g; out = g.out }
 
+-- the message has this name, this head and so many bytes
+pub record IsMessageOf (this_name : MsgName) (this_head : Head) (count : ℕ) (m : Message) : Type 0 where
+  pub name : m.name ≡ this_name
+  pub head : m.head ≡ this_head
+  pub bytes : length m.bytes ≡ count
+
 -- The fields: bit j tells whether fragment j has come, and then its payload stands at its place.
 unfoldable pub fragments_of : (unit received : ℕ) → List ℕ → List (Option (List ℕ))
 fragments_of unit received bytes =

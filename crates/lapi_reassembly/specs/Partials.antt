@@ -6,6 +6,7 @@ use Rattle.lapi_base.specs.declared.message.MsgName.{MsgName}
 use Rattle.lapi_base.specs.declared.head.Head.{Head}
 use Rattle.lapi_base.specs.Record.Names.{name_eq}
 use Rattle.lapi_reassembly.specs.Partial.{Gathered, IsUnit, nothing_of, fragment, with_fragment, is_whole, message}
+use Rattle.lapi_reassembly.specs.declared.message.Message.{Message}
 use Rattle.lapi_reassembly.specs.declared.put.Put.{Put}
 use Rattle.lapi_reassembly.specs.declared.put.Put.TheVariants.{First, More, Whole, FirstWhole}
 
@@ -45,6 +46,13 @@ gathered s name head len j payload = with_fragment (unwrap_or (partial s name) (
 -- the answer, where the name was there or not, and this much has come now
 abbrev pub put_of : (there : Bool) → Gathered → Put
 put_of there g = cond (is_whole g) (cond there (Whole (message g)) (FirstWhole (message g))) (cond there More First)
+
+-- the message that came whole, if one did
+abbrev pub whole_of : Put → Option Message
+whole_of First = None
+whole_of More = None
+whole_of (Whole m) = Some m
+whole_of (FirstWhole m) = Some m
 
 -- what is kept of it: nothing of a whole message
 abbrev pub kept_of : Gathered → Option Gathered

@@ -94,7 +94,8 @@ impl Partial {
     #[tactic(auto, using(crate::proofs::PartialLaws::whole_joined))]
     pub(crate) fn into_message(self) -> Message
         requires { is_whole self ≡ true }
-        ensures { result ≡ message self }
+        ensures message { result ≡ message self }
+        ensures bytes { length result.bytes ≡ self.length }
     {
         let Partial {
             name,

@@ -2,8 +2,8 @@ ghost use Rattle.std.specs.Prelude.{◌≡◌, ◌≢◌, ◌⊎◌, ℕ, ◌+�
 ghost use Rattle.slab.specs.Slab.{get, ContainsKey, HasRoomFor, Updates};
 ghost use Rattle.lapi_base.specs.declared.message.MsgName.{MsgName as Name};
 ghost use Rattle.lapi_base.specs.Record.Fragments.{fragments_in, fragment_length, IsPayload};
-ghost use Rattle.lapi_reassembly.specs.Partial.{Gathered, IsUnit, nothing_of, with_fragment, is_whole, message};
-ghost use Rattle.lapi_reassembly.specs.Partials.{partial, is_there, HasRoom, Agrees, IsMissing, gathered, put_of, kept_of};
+ghost use Rattle.lapi_reassembly.specs.Partial.{Gathered, IsUnit, IsMessageOf, nothing_of, with_fragment, is_whole, message};
+ghost use Rattle.lapi_reassembly.specs.Partials.{partial, is_there, HasRoom, Agrees, IsMissing, gathered, put_of, whole_of, kept_of};
 
 use crate::partial::Partial;
 use crate::put::Put;
@@ -66,6 +66,7 @@ impl Partials {
         requires room { (is_there self.old name ≡ true) ⊎ HasRoom self.old }
 
         ensures answer { IfOk result (λ put. put ≡ put_of (is_there self.old name) (gathered self.old name head.now length fragment payload.now)) }
+        ensures whole { IfOk result (λ put. IfSome (whole_of put) (IsMessageOf name head.now length)) }
         ensures name { OnOk result (partial self.new name ≡ kept_of (gathered self.old name head.now length fragment payload.now)) }
         ensures others { (other : Name) → other ≢ name → partial self.new other ≡ partial self.old other }
         ensures sizes { (self.new.names ≡ self.old.names) × (self.new.unit ≡ self.old.unit) }
@@ -112,6 +113,7 @@ fn put_more(partials: &mut Slab<Partial>, key: usize, fragment: u32, payload: &[
     requires fragment { IfSome (get partials.old key) (λ g. fragment < fragments_in g.unit g.length) }
     requires payload { IfSome (get partials.old key) (λ g. length payload.now ≡ fragment_length g.unit g.length fragment) }
     ensures answer { IfSome (get partials.old key) (λ g. result ≡ put_of true (with_fragment g fragment payload.now)) }
+    ensures whole { IfSome (get partials.old key) (λ g. IfSome (whole_of result) (IsMessageOf g.name g.head g.length)) }
     ensures updates { IfSome (get partials.old key) (λ g. Updates partials.old partials.new key (kept_of (with_fragment g fragment payload.now))) }
     ensures capacity { partials.new.capacity ≡ partials.old.capacity }
 {
@@ -127,6 +129,7 @@ fn put_more(partials: &mut Slab<Partial>, key: usize, fragment: u32, payload: &[
 fn put_first(partials: &mut Slab<Partial>, partial: Partial) -> Put
     requires { HasRoomFor partials.old 1 }
     ensures answer { result ≡ put_of false partial }
+    ensures whole { IfSome (whole_of result) (IsMessageOf partial.name partial.head partial.length) }
     ensures updates { (key : ℕ) × (get partials.old key ≡ None) × Updates partials.old partials.new key (kept_of partial) }
     ensures capacity { partials.new.capacity ≡ partials.old.capacity }
 {

@@ -63,6 +63,7 @@ impl RecvWindow {
     pub fn ack(&self) -> (u32, u64)
         ensures base { result.0 ≡ base_of self.now }
         ensures bits { result.1 ≡ bits_of self.now.window (λ i. is_taken self.now (base_of self.now + i)) }
+        ensures absent { is_taken self.now result.0 ≡ false }
     {
         (self.taken.least_absent(), self.taken.bits())
     }

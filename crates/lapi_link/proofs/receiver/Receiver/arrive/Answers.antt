@@ -1,12 +1,14 @@
-use Rattle.std.proofs.Common.{◌≡◌, ◌≢◌, ◌↔◌, Bool, true, false, ◌∷◌, refl, sym, ap, ◌∙◌, subst}
+use Rattle.std.proofs.Common.{◌≡◌, ◌≢◌, ◌↔◌, Bool, true, false, ◌∷◌, refl, sym, ap, ◌∙◌, subst, arith}
 use Rattle.std.proofs.lemmas.Bool.{false_from_ne_true}
 use Rattle.std.proofs.lemmas.Result.{IfOk-weaker, on_ok_weaker}
 use Rattle.lapi_base.specs.declared.packet.Packet.TheVariants.{Data}
 use Rattle.lapi_window.specs.declared.took.Took.{Took}
 use Rattle.lapi_window.specs.declared.took.Took.TheVariants.{Repeat, Fresh}
 use Rattle.lapi_window.specs.RecvWindow.{Receiving}
-use Rattle.lapi_link.specs.Receiver.{ReceivingEnd, ReceivesFor, answer_of}
-use Rattle.lapi_link.proofs.ArrivalLaws.{reached, repeat-kept, repeat-arrival, fresh-agrees, fresh-fragment, fresh-missing, fresh-room, fresh-arrival, fresh-kept, answers-kept}
+use Rattle.lapi_base.specs.declared.packet.DataPacket.{DataPacket}
+use Rattle.lapi_reassembly.specs.Partials.{Gathering}
+use Rattle.lapi_link.specs.Receiver.{ReceivingEnd, ReceivesFor, MayTake, answer_of}
+use Rattle.lapi_link.proofs.ArrivalLaws.{repeat-kept, repeat-arrival, fresh-arrival, fresh-kept, answers-kept}
 use Rattle.lapi_link.proofs.receiver.Receiver.arrive.Goals as goal
 
 not_taken : (b : Bool) → (Fresh ≡ Repeat) ↔ (b ≡ true) → b ≡ false
@@ -16,21 +18,12 @@ not_taken b told = false_from_ne_true b (λ e. let same = told.1 e in absurd (cc
 not_fresh : (took : Took) → took ≡ Repeat → took ≢ Fresh
 not_fresh took e = λ f. absurd (cc)
 
-pub put-requires-clause-message : goal.put-requires-clause-message
-put-requires-clause-message c =
-    fresh-agrees c.requires.0 c.requires.1 c.args.packet.now c.self.inside.window c.self.inside.partials c.args.self.now c.self.view_is c.requires.2 c.requires.3 (not_taken _ c.in-Fresh.ensures.repeat)
+-- what the end may take, as its fields tell
+may-take : (w : Receiving) (g : Gathering) (s : ReceivingEnd) (p : DataPacket) → record { window = w; partials = g } ≡ s → MayTake s p → MayTake (record { window = w; partials = g }) p
+may-take w g s p is may = subst (λ x. MayTake x p) (sym is) may
 
-pub put-requires-clause-fragment : goal.put-requires-clause-fragment
-put-requires-clause-fragment c =
-    fresh-fragment c.requires.0 c.requires.1 c.args.packet.now c.self.inside.window c.self.inside.partials c.args.self.now c.self.view_is c.requires.2 c.requires.3 (not_taken _ c.in-Fresh.ensures.repeat)
-
-pub put-requires-clause-missing : goal.put-requires-clause-missing
-put-requires-clause-missing c =
-    fresh-missing c.requires.0 c.requires.1 c.args.packet.now c.self.inside.window c.self.inside.partials c.args.self.now c.self.view_is c.requires.2 c.requires.3 (not_taken _ c.in-Fresh.ensures.repeat)
-
-pub put-requires-clause-room : goal.put-requires-clause-room
-put-requires-clause-room c =
-    fresh-room c.requires.0 c.requires.1 c.args.packet.now c.self.inside.window c.self.inside.partials c.args.self.now c.self.view_is c.requires.2 c.requires.3 (not_taken _ c.in-Fresh.ensures.repeat)
+pub put-requires : goal.put-requires
+put-requires c = (may-take c.self.inside.window c.self.inside.partials c.args.self.now c.args.packet.now c.self.view_is c.requires).fresh (not_taken _ c.in-Fresh.ensures.repeat)
 
 pub returns-in-Fresh-clause-kept : goal.returns-in-Fresh-clause-kept
 returns-in-Fresh-clause-kept c =
@@ -64,4 +57,6 @@ returns-in-Repeat-clause-answers c = λ m there. ap (λ (s : ReceivingEnd). answ
 -- and no packet's number lies beyond the window
 pub unreachable-requires : goal.unreachable-requires
 unreachable-requires c =
-    reached c.requires.0 c.requires.1 c.args.packet.now c.self.inside.window c.self.inside.partials c.args.self.now c.self.view_is c.requires.2 c.requires.3 (c.take.ensures.beyond.0 c.in-Beyond.is)
+    let reach = (may-take c.self.inside.window c.self.inside.partials c.args.self.now c.args.packet.now c.self.view_is c.requires).reach in
+    let far = c.take.ensures.beyond.0 c.in-Beyond.is in
+    omega (arith, reach, far)

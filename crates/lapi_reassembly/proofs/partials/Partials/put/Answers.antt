@@ -1,6 +1,6 @@
 use Rattle.std.proofs.Common.{◌≡◌, ℕ, List, refl, ap, ◌∙◌}
 use Rattle.lapi_reassembly.specs.Partial.{Gathered, with_fragment}
-use Rattle.lapi_reassembly.proofs.PutLaws.{more_fragment, more_payload, more_answer, more_holds, more_name, more_others, first_room, first_answer, first_holds, first_name, first_others}
+use Rattle.lapi_reassembly.proofs.PutLaws.{more_fragment, more_payload, more_answer, more_whole, more_holds, more_name, more_others, first_room, first_answer, first_holds, first_name, first_others}
 use Rattle.lapi_reassembly.proofs.partials.Partials.put.Goals as goal
 
 pub put_more-requires-clause-fragment : goal.put_more-requires-clause-fragment
@@ -18,6 +18,10 @@ invariant_of-self c =
 pub returns-in-Some-clause-answer : goal.returns-in-Some-clause-answer
 returns-in-Some-clause-answer c =
     more_answer c.self.inside.names c.self.inside.unit c.self.inside.partials c.put_more.new.partials c.args.self.now c.self.view_is c.self.invariant c.args.name c.put_more.ensures.capacity c.in-Some.key c.in-Some.ensures.found c.args.head.now c.args.length c.args.fragment c.args.payload.now c.put_more.result c.put_more.ensures.answer
+
+pub returns-in-Some-clause-whole : goal.returns-in-Some-clause-whole
+returns-in-Some-clause-whole c =
+    more_whole c.self.inside.names c.self.inside.unit c.self.inside.partials c.self.inside.partials c.args.self.now c.self.view_is c.self.invariant c.args.name refl c.in-Some.key c.in-Some.ensures.found c.args.head.now c.args.length c.put_more.result c.requires.message c.put_more.ensures.whole
 
 pub returns-in-Some-clause-name : goal.returns-in-Some-clause-name
 returns-in-Some-clause-name c =

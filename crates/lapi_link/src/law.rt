@@ -1,0 +1,7 @@
+//! What the receiving end of a link may take, by the packets that it stands for.
+ghost use Rattle.lapi_link.specs.Receiver.{WhatArrivesMayBeTaken};
+
+/// A packet that may come to those that were handed over on a link may be taken by the link's receiving end.
+pub fn what_arrives_may_be_taken()
+    ensures { WhatArrivesMayBeTaken }
+{}
