@@ -1,4 +1,3 @@
-pub mod Kinds
 pub mod Left
 pub mod Gives
 pub mod Vectors

@@ -4,7 +4,7 @@ ghost use Rattle.std.specs.Prelude.{◌≡◌, ◌++◌, OnOk};
 ghost use Rattle.lapi_base.specs.Input.Forms.{run, putv_form};
 ghost use Rattle.lapi_base.specs.Input.Rows.{statement_row, row_line};
 ghost use Rattle.lapi_script.specs.ReadLines.{HoldsStatement};
-ghost use Rattle.lapi_script.specs.Kinds.{IsPutv};
+ghost use Rattle.lapi_base.specs.Record.Kinds.{IsPutv};
 
 use crate::fault::LineFault;
 use crate::fields::{counter, end, number, plain_vector, target_vector};
