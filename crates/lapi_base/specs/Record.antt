@@ -1,5 +1,6 @@
 pub mod Below
 pub mod Names
+pub mod Kinds
 pub mod Operations
 pub mod Fragments
 pub mod Handlers

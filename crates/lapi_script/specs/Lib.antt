@@ -1,7 +1,5 @@
-pub mod Kinds
 pub mod Left
 pub mod Gives
-pub mod Listed
 pub mod Vectors
 pub mod ReadLines
 pub mod TaskLines

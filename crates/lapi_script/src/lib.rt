@@ -6,6 +6,7 @@ mod cuts;
 mod fault;
 mod fields;
 mod heads;
+mod held_vector;
 mod limits;
 mod pieces;
 mod read;

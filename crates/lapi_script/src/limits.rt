@@ -2,7 +2,7 @@
 
 ghost use Rattle.std.specs.Prelude.{◌≡◌};
 ghost use Rattle.lapi_base.specs.Input.Reading.{checked_sizes, has_few_pieces, keeps_pieces, keeps_bytes, keeps_injected, names_known};
-ghost use Rattle.lapi_base.specs.Input.Built.{is_plain, is_built_statement, is_built_act};
+ghost use Rattle.lapi_base.specs.Input.Built.{is_plain, is_plain_vector, is_built_statement, is_built_act};
 ghost use Rattle.lapi_base.specs.Packet.Spelling.{spells_packet};
 ghost use Rattle.lapi_script.specs.Gives.{Gives};
 
@@ -45,16 +45,32 @@ pub(crate) fn is_built_statement(statement: &Statement) -> bool
         | Statement::Set { .. }
         | Statement::Read { .. } => true,
         Statement::Put { to, .. } => is_plain(*to),
-        _ => false,
+        Statement::Get { from, .. } => is_plain(*from),
+        Statement::Putv { to, from, .. } => is_plain_vector(to) && is_plain_vector(from),
+        Statement::Getv { from, to, .. } => is_plain_vector(from) && is_plain_vector(to),
+        Statement::Rmw { at, .. } => is_plain(*at),
+        Statement::Am { .. } | Statement::Fence | Statement::Gfence | Statement::Addr { .. } => {
+            false
+        }
     }
 }
 
-fn is_plain(at: Addr) -> bool
+pub(crate) fn is_plain(at: Addr) -> bool
     ensures { result ≡ is_plain at }
 {
     match at {
         Addr::Plain(_) => true,
         Addr::Table { .. } => false,
+    }
+}
+
+/// Whether each address of the vector is plain.
+pub(crate) fn is_plain_vector(vector: &Vector) -> bool
+    ensures { result ≡ is_plain_vector vector.now }
+{
+    match vector {
+        Vector::List(pieces) => pieces.as_slice().iter().all(|piece| is_plain(piece.at)),
+        Vector::Stride { base, .. } => is_plain(*base),
     }
 }
 
@@ -85,7 +101,17 @@ pub(crate) fn keeps_pieces(statement: &Statement) -> bool
     match statement {
         Statement::Putv { to, from, .. } => has_few_pieces(to) && has_few_pieces(from),
         Statement::Getv { from, to, .. } => has_few_pieces(from) && has_few_pieces(to),
-        _ => true,
+        Statement::Store { .. }
+        | Statement::Put { .. }
+        | Statement::Get { .. }
+        | Statement::Rmw { .. }
+        | Statement::Am { .. }
+        | Statement::Wait { .. }
+        | Statement::Set { .. }
+        | Statement::Read { .. }
+        | Statement::Fence
+        | Statement::Gfence
+        | Statement::Addr { .. } => true,
     }
 }
 
@@ -96,7 +122,17 @@ pub(crate) fn keeps_bytes(statement: &Statement) -> bool
     match statement {
         Statement::Store { bytes, .. } => bytes.as_slice().len() <= MOST_STORED,
         Statement::Am { header, .. } => header.as_slice().len() <= MOST_USER_HEADER,
-        _ => true,
+        Statement::Put { .. }
+        | Statement::Get { .. }
+        | Statement::Putv { .. }
+        | Statement::Getv { .. }
+        | Statement::Rmw { .. }
+        | Statement::Wait { .. }
+        | Statement::Set { .. }
+        | Statement::Read { .. }
+        | Statement::Fence
+        | Statement::Gfence
+        | Statement::Addr { .. } => true,
     }
 }
 

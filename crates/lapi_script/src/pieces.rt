@@ -1,12 +1,13 @@
 //! The vector that a word stands for.
 
-ghost use Rattle.std.specs.Prelude.{◌≡◌, ◌∷◌, ◌==◌, Some, None, MatchOption, IfSome};
-ghost use Rattle.std.specs.List.{slice_split};
-ghost use Rattle.lapi_base.specs.Input.Tokens.{piece_of, pieces_of, sizes_of, strided_of, listed_of, vector_of};
-ghost use Rattle.lapi_script.specs.Vectors.{address_by, spelled, HoldsVector};
-ghost use Rattle.lapi_script.specs.Listed.{HoldsList};
+ghost use Rattle.std.specs.Prelude.{◌≡◌};
+ghost use Rattle.lapi_base.specs.Input.Built.{is_plain_vector};
+ghost use Rattle.lapi_base.specs.Input.Tokens.{piece_of, sizes_of, strided_of, listed_of, vector_of};
+ghost use Rattle.lapi_script.specs.Vectors.{address_by, spelled, HoldsVector, HoldsListed};
 
 use crate::cuts::{Parts, split};
+use crate::held_vector::HeldVector;
+use crate::limits::is_plain;
 use crate::values::{address_of, number_of, only_number, plain_address_of};
 use lapi_base::{Addr, Piece, PieceList, Vector};
 use std::marker::Model;
@@ -39,48 +40,29 @@ fn piece_of(side: Side, text: &[u8]) -> Option<Piece>
     Some(Piece { at, len })
 }
 
-/// A list of pieces.
-#[derive(Debug, Drop)]
-pub(crate) enum Listed {
-    Held(PieceList),
-    /// More pieces than a vector has.
-    TooManyPieces,
-}
-
-impl Listed {
-    ghost use Rattle.lapi_script.specs.Listed.{IsListed};
-
-    /// The list as a vector, if it is held.
-    fn vector(self) -> Option<Vector>
-        ensures { IsListed self result }
-    {
-        match self {
-            Listed::Held(list) => Some(Vector::List(list)),
-            Listed::TooManyPieces => None,
-        }
-    }
-}
-
 /// Pieces with commas between them.
-fn pieces_of(side: Side, text: &[u8]) -> Option<Listed>
-    ensures { HoldsList result (pieces_of (address_by side) (slice_split (λ b. b == 44) text.now)) }
+#[tactic(auto, unfolding(lapi_base::specs::Input::Tokens::listed_of))]
+fn listed_of(side: Side, text: &[u8]) -> Option<HeldVector>
+    ensures { HoldsListed result (listed_of (address_by side) text.now) }
 {
     let (first, mut parts) = split(text, b',');
-    let mut list = PieceList::new(piece_of(side, first)?);
+    let first = piece_of(side, first)?;
+    let mut list = PieceList::new(first);
+    let mut are_plain = is_plain(first.at);
     let mut many = false;
     while let Some(part) = parts.next() {
         let piece = piece_of(side, part)?;
+        are_plain = are_plain && is_plain(piece.at);
         if list.as_slice().len() < 16 {
             list.push(piece);
         } else {
             many = true;
         }
     }
-    Some(if many {
-        Listed::TooManyPieces
-    } else {
-        Listed::Held(list)
-    })
+    if many {
+        return Some(HeldVector::TooManyPieces { are_plain });
+    }
+    Some(HeldVector::Held(Vector::List(list)))
 }
 
 /// What follows the base of a stride: `BLOCK:STRIDE:COUNT`.
@@ -110,12 +92,12 @@ fn strided_of(side: Side, text: &[u8]) -> Option<Vector>
     sizes_of(address_by(side, base)?, &mut parts)
 }
 
-/// A word that spells a vector, and the vector unless its list has more than 16 pieces.
+/// A word that spells a vector, and what is held of the vector.
 #[derive(Debug, Drop)]
 pub(crate) struct VectorWord<'a> {
     side: Side,
     word: &'a [u8],
-    held: Option<Vector>,
+    held: HeldVector,
 }
 
 impl<'a> Model for VectorWord<'a> {
@@ -130,7 +112,7 @@ impl<'a> Model for VectorWord<'a> {
 }
 
 impl<'a> VectorWord<'a> {
-    #[tactic(auto, unfolding(lapi_base::specs::Input::Tokens::vector_of, lapi_base::specs::Input::Tokens::listed_of), using(crate::proofs::PieceLists::spelled_list))]
+    #[tactic(auto, unfolding(lapi_base::specs::Input::Tokens::vector_of), using(crate::proofs::PieceLists::spelled_list))]
     pub(crate) fn read(side: Side, word: &'a [u8]) -> Option<VectorWord<'a>>
         ensures { result ≡ vector_of (address_by side) word.now }
     {
@@ -141,19 +123,25 @@ impl<'a> VectorWord<'a> {
         }
         match *letter {
             b'L' => {
-                let held = pieces_of(side, text)?.vector();
+                let held = listed_of(side, text)?;
                 Some(VectorWord { side, word, held })
             }
             b'S' => {
-                let held = Some(strided_of(side, text)?);
+                let held = HeldVector::Held(strided_of(side, text)?);
                 Some(VectorWord { side, word, held })
             }
             _ => None,
         }
     }
 
-    /// The vector, unless it has more than 16 pieces.
-    pub(crate) fn vector(self) -> Option<Vector>
+    /// Whether each address of the vector is plain, however many pieces it has.
+    pub(crate) fn is_plain(&self) -> bool
+        ensures { result ≡ is_plain_vector self.now }
+    {
+        self.held.is_plain()
+    }
+
+    pub(crate) fn held(self) -> HeldVector
         ensures { HoldsVector result self.entry }
     {
         self.held

@@ -4,13 +4,16 @@
 //! First -> Second -> Start -> Tasks (each task and its statements) -> Lines (each schedule line) -> Finished
 //! ```
 
-ghost use Rattle.std.specs.Prelude.{◌≡◌, Result, Ok};
+ghost use Rattle.std.specs.Prelude.{◌≡◌, false, Result, Ok};
 ghost use Rattle.lapi_base.specs.declared.input.LineError.{LineError};
 ghost use Rattle.lapi_base.specs.Input.Lines.{words_of};
 ghost use Rattle.lapi_base.specs.Input.Forms.{and_then};
 ghost use Rattle.lapi_base.specs.Input.Forms as forms;
-ghost use Rattle.lapi_base.specs.Input.Reading.{step, after, on_first_task, on_task_line, on_statement, on_line};
-ghost use Rattle.lapi_script.specs.Gives.{Gives};
+ghost use Rattle.lapi_base.specs.declared.script.Script.{Script};
+ghost use Rattle.lapi_base.specs.declared.statement.Statement.{Statement};
+ghost use Rattle.lapi_base.specs.Input.Built.{is_built_statement};
+ghost use Rattle.lapi_base.specs.Input.Reading.{step, after, keeps_pieces, on_first_task, on_task_line, on_statement, on_line};
+ghost use Rattle.lapi_script.specs.Gives.{Fails, Gives};
 ghost use Rattle.lapi_script.specs.TaskLines.{HoldsTaskLine};
 ghost use Rattle.lapi_script.specs.States.{state_of};
 
@@ -80,7 +83,20 @@ fn on_statement(
     Ok(State::Tasks { script, current })
 }
 
-#[tactic(auto, using(crate::proofs::TaskLineSteps::too_many_pieces_line))]
+/// What is wrong with a statement behind these of which a vector has more than 16 pieces.
+fn too_many_pieces(current: &Statements, is_built: bool) -> LineFault
+    ensures { (script : Script) (s : Statement) → keeps_pieces s ≡ false → is_built_statement s ≡ is_built
+        → Fails result (on_statement script current.now s) }
+{
+    if !is_built {
+        return limit(Which::Unbuilt);
+    }
+    if current.as_slice().len() >= MOST_STATEMENTS {
+        return limit(Which::Statements);
+    }
+    limit(Which::Pieces)
+}
+
 fn on_task_line(
     alloc: Global,
     mut script: Script,
@@ -113,7 +129,7 @@ fn on_task_line(
             })
         }
         TaskLine::Statement(statement) => on_statement(script, current, statement),
-        TaskLine::TooManyPieces => Err(limit(Which::Unbuilt)),
+        TaskLine::TooManyPieces { is_built } => Err(too_many_pieces(&current, is_built)),
     }
 }
 

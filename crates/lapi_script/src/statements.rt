@@ -31,8 +31,9 @@ use std::alloc::Global;
 #[derive(Debug, Drop)]
 pub(crate) enum ReadStatement {
     Held(Statement),
-    /// One of its vectors has more than 16 pieces.
-    TooManyPieces,
+    /// One of its vectors has more than 16 pieces. Nothing is kept of it but whether statements
+    /// of this form are performed yet.
+    TooManyPieces { is_built: bool },
 }
 
 /// The statement that begins with this word.

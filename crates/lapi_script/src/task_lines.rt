@@ -17,8 +17,9 @@ pub(crate) enum TaskLine {
     Task(u32),
     Schedule,
     Statement(Statement),
-    /// A statement of the right form, of which a vector has more than 16 pieces.
-    TooManyPieces,
+    /// A statement of the right form, of which a vector has more than 16 pieces, and whether
+    /// statements of its form are performed yet.
+    TooManyPieces { is_built: bool },
 }
 
 impl From<ReadStatement> for TaskLine {
@@ -29,7 +30,7 @@ impl From<ReadStatement> for TaskLine {
     fn from(statement: ReadStatement) -> TaskLine {
         match statement {
             ReadStatement::Held(statement) => TaskLine::Statement(statement),
-            ReadStatement::TooManyPieces => TaskLine::TooManyPieces,
+            ReadStatement::TooManyPieces { is_built } => TaskLine::TooManyPieces { is_built },
         }
     }
 }

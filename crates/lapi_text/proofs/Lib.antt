@@ -10,3 +10,4 @@ pub mod Outcome
 pub mod FaultKinds
 pub mod Whole
 pub mod Worked
+pub mod WorkedForms

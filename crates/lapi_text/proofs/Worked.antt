@@ -33,11 +33,11 @@ unfoldable pub reading : List ℕ → Result Input Fault
 unfolding decode_pairs number_of counter_of hex_of optional_hex_of plain_address_of table_of address_of piece_of listed_of strided_of vector_of value_of head_form sizes_form store_form put_form get_form putv_form getv_form one_operand_form cas_form rmw_form amsend_form wait_form set_form read_form address_init_form task_line_form task_form deliver_form cut_form inject_form worker_form line_form is_built_statement is_built_act keeps_pieces keeps_bytes keeps_injected names_known step after
 reading bytes = read bytes
 
-abbrev text_of : List (List ℕ) → List ℕ
+abbrev pub text_of : List (List ℕ) → List ℕ
 text_of lines = flat_map (λ line. line ++ 10 ∷ []) lines
 
 -- the smallest run: a store, and a put of it
-abbrev smallest : List (List ℕ)
+abbrev pub smallest : List (List ℕ)
 smallest =
     codes "lapi 1"
     ∷ codes "tasks 2 memory 64 counters 4 workers 1"
@@ -54,13 +54,13 @@ smallest =
     ∷ codes "done"
     ∷ []
 
-abbrev line : ℕ → Act → Line
+abbrev pub line : ℕ → Act → Line
 line lane act = record { lane = lane; act = act }
 
 abbrev put_to : ℕ → Statement
 put_to at = Put 1 (Plain at) 0 8 None None None
 
-abbrev smallest_with : Statement → Input
+abbrev pub smallest_with : Statement → Input
 smallest_with put = record {
   script = record {
     layout = 1;
@@ -82,7 +82,7 @@ unfolding digits encode_with
 smallest-written = refl
 
 -- the smallest run with another line of this number, or one more behind the last
-abbrev with_line : ℕ → List ℕ → Result Input Fault
+abbrev pub with_line : ℕ → List ℕ → Result Input Fault
 with_line l text = reading (text_of (take (l - 1) smallest ++ text ∷ drop l smallest))
 
 other_layout : with_line 1 (codes "lapi 3") ≡ Err (Syntax, 1)
@@ -234,7 +234,7 @@ unfolding reading
 greatest_lane = refl
 
 -- a task with n statements
-abbrev filled : ℕ → State
+abbrev pub filled : ℕ → State
 filled n = Tasks (sized 1 2 64 4 1) (replicate n (Read 0))
 
 last_statement : after (filled 511) (codes "getcntr 0") ≡ Ok (filled 512)
@@ -287,7 +287,7 @@ unfoldable says : List ℕ → Result TaskLine LineError
 unfolding reading
 says line = run task_line_form (words_of line)
 
-abbrev piece : Addr → ℕ → Piece
+abbrev pub piece : Addr → ℕ → Piece
 piece at len = record { at = at; len = len }
 
 upper_case : says (codes "store 0 aBcD") ≡ Ok (StatementLine (Store 0 (0xab ∷ 0xcd ∷ [])))

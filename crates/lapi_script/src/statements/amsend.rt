@@ -4,7 +4,7 @@ ghost use Rattle.std.specs.Prelude.{◌≡◌, ◌++◌, OnOk};
 ghost use Rattle.lapi_base.specs.Input.Forms.{run, amsend_form};
 ghost use Rattle.lapi_base.specs.Input.Rows.{statement_row, row_line};
 ghost use Rattle.lapi_script.specs.Gives.{Gives};
-ghost use Rattle.lapi_script.specs.Kinds.{IsAm};
+ghost use Rattle.lapi_base.specs.Record.Kinds.{IsAm};
 
 use crate::fault::LineFault;
 use crate::fields::{counter, end, number, optional_hex};

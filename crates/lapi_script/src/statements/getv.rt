@@ -4,17 +4,18 @@ ghost use Rattle.std.specs.Prelude.{◌≡◌, ◌++◌, OnOk};
 ghost use Rattle.lapi_base.specs.Input.Forms.{run, getv_form};
 ghost use Rattle.lapi_base.specs.Input.Rows.{statement_row, row_line};
 ghost use Rattle.lapi_script.specs.ReadLines.{HoldsStatement};
-ghost use Rattle.lapi_script.specs.Kinds.{IsGetv};
+ghost use Rattle.lapi_base.specs.Record.Kinds.{IsGetv};
 
 use crate::fault::LineFault;
 use crate::fields::{counter, end, number, plain_vector, target_vector};
+use crate::held_vector::HeldVector;
 use crate::statements::ReadStatement;
 use crate::words::Words;
 use crate::write::values;
 use lapi_base::{Memory, Statement};
 use std::alloc::Global;
 
-#[tactic(auto, unfolding(lapi_base::specs::Input::Forms::getv_form, lapi_base::specs::Input::Reading::keeps_pieces))]
+#[tactic(auto, unfolding(lapi_base::specs::Input::Forms::getv_form, lapi_base::specs::Input::Reading::keeps_pieces, lapi_base::specs::Input::Built::is_built_statement))]
 pub(crate) fn read(words: &mut Words) -> Result<ReadStatement, LineFault>
     ensures { HoldsStatement result (run getv_form words.old) }
 {
@@ -24,15 +25,16 @@ pub(crate) fn read(words: &mut Words) -> Result<ReadStatement, LineFault>
     let tgt = counter(words)?;
     let org = counter(words)?;
     end(words)?;
-    Ok(match (from.vector(), to.vector()) {
-        (Some(from), Some(to)) => ReadStatement::Held(Statement::Getv {
+    let is_built = from.is_plain() && to.is_plain();
+    Ok(match (from.held(), to.held()) {
+        (HeldVector::Held(from), HeldVector::Held(to)) => ReadStatement::Held(Statement::Getv {
             target,
             from,
             to,
             tgt,
             org,
         }),
-        _ => ReadStatement::TooManyPieces,
+        _ => ReadStatement::TooManyPieces { is_built },
     })
 }
 

@@ -4,7 +4,7 @@ ghost use Rattle.std.specs.Prelude.{◌≡◌, ◌++◌, OnOk};
 ghost use Rattle.lapi_base.specs.Input.Forms.{run, put_form};
 ghost use Rattle.lapi_base.specs.Input.Rows.{statement_row, row_line};
 ghost use Rattle.lapi_script.specs.Gives.{Gives};
-ghost use Rattle.lapi_script.specs.Kinds.{IsPut};
+ghost use Rattle.lapi_base.specs.Record.Kinds.{IsPut};
 
 use crate::fault::LineFault;
 use crate::fields::{address, counter, end, number};

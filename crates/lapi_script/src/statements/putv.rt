@@ -4,17 +4,18 @@ ghost use Rattle.std.specs.Prelude.{◌≡◌, ◌++◌, OnOk};
 ghost use Rattle.lapi_base.specs.Input.Forms.{run, putv_form};
 ghost use Rattle.lapi_base.specs.Input.Rows.{statement_row, row_line};
 ghost use Rattle.lapi_script.specs.ReadLines.{HoldsStatement};
-ghost use Rattle.lapi_script.specs.Kinds.{IsPutv};
+ghost use Rattle.lapi_base.specs.Record.Kinds.{IsPutv};
 
 use crate::fault::LineFault;
 use crate::fields::{counter, end, number, plain_vector, target_vector};
+use crate::held_vector::HeldVector;
 use crate::statements::ReadStatement;
 use crate::words::Words;
 use crate::write::values;
 use lapi_base::{Memory, Statement};
 use std::alloc::Global;
 
-#[tactic(auto, unfolding(lapi_base::specs::Input::Forms::putv_form, lapi_base::specs::Input::Reading::keeps_pieces))]
+#[tactic(auto, unfolding(lapi_base::specs::Input::Forms::putv_form, lapi_base::specs::Input::Reading::keeps_pieces, lapi_base::specs::Input::Built::is_built_statement))]
 pub(crate) fn read(words: &mut Words) -> Result<ReadStatement, LineFault>
     ensures { HoldsStatement result (run putv_form words.old) }
 {
@@ -25,8 +26,9 @@ pub(crate) fn read(words: &mut Words) -> Result<ReadStatement, LineFault>
     let org = counter(words)?;
     let cmpl = counter(words)?;
     end(words)?;
-    Ok(match (to.vector(), from.vector()) {
-        (Some(to), Some(from)) => ReadStatement::Held(Statement::Putv {
+    let is_built = to.is_plain() && from.is_plain();
+    Ok(match (to.held(), from.held()) {
+        (HeldVector::Held(to), HeldVector::Held(from)) => ReadStatement::Held(Statement::Putv {
             target,
             to,
             from,
@@ -34,7 +36,7 @@ pub(crate) fn read(words: &mut Words) -> Result<ReadStatement, LineFault>
             org,
             cmpl,
         }),
-        _ => ReadStatement::TooManyPieces,
+        _ => ReadStatement::TooManyPieces { is_built },
     })
 }
 

@@ -4,7 +4,7 @@ ghost use Rattle.std.specs.Prelude.{◌≡◌, ◌++◌, OnOk};
 ghost use Rattle.lapi_base.specs.Input.Forms.{run, rmw_form, one_operand_form, cas_form};
 ghost use Rattle.lapi_base.specs.Input.Rows.{statement_row, row_line};
 ghost use Rattle.lapi_script.specs.Gives.{Gives};
-ghost use Rattle.lapi_script.specs.Kinds.{IsRmw};
+ghost use Rattle.lapi_base.specs.Record.Kinds.{IsRmw};
 ghost use Rattle.lapi_script.specs.Operations.{second_text, operation_text};
 
 use crate::fault::{LineFault, syntax};
