@@ -106,4 +106,4 @@ module _ (script : Script) (perf : IsSupported script) where
 
   -- no message is active
   pub no-am : (a i : ℕ) → is_am (statement script a i) ≡ false
-  no-am a i = (no-back a i).1.0
+  no-am a i = (no-back a i).1

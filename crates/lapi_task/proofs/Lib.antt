@@ -6,7 +6,9 @@ pub mod ArrivingFits
 pub mod CopyLaws
 pub mod CopyLists
 pub mod Forms
+pub mod JobCounts
 pub mod Jobless
+pub mod JobsStay
 pub mod MessageCopies
 pub mod MessagePackets
 pub mod NewStands

@@ -49,6 +49,8 @@ use Rattle.lapi_task.specs.Outgoing.{packet_of, AreSpelled}
 use Rattle.lapi_task.specs.declared.state.State.{State}
 use Rattle.lapi_task.specs.StandsFor.{task_unit}
 use Rattle.lapi_task.proofs.CopyLaws.{unit-is}
+use Rattle.lapi_task.proofs.Jobless.{mild-leaves}
+use Rattle.lapi_task.proofs.JobsStay.{queue-followed}
 use Rattle.lapi_task.proofs.MessageCopies.{packet-is}
 use Rattle.lapi_task.proofs.ReceiveHolds.{Lands}
 use Rattle.lapi_base.specs.Packet.Layout.{layout_of, unit, unit_of}
@@ -304,7 +306,7 @@ module _ (script : Script) (rules : Rules) where
               statements = ap (λ (y : Task). y.statements) own.rest ∙ g.statements ∙ s.calls.statements;
               limits = ap (λ (y : Task). y.limits) own.rest ∙ g.limits ∙ s.calls.limits;
             };
-            holds = holds-arrived script rules t r a k p at.recorded entry c kind then (ap (λ (y : Run). y.journal) delivered) same task.state after.state s.holds lands;
+            holds = holds-arrived script rules t r a k p at.recorded entry c kind then (ap (λ (y : Run). y.journal) delivered) same (queue-followed script rules t (events_of arrives) r.journal (mild-leaves script rules s.calls.supported t (events_of arrives) (come-mild known whole p.name p.head bytes kind))) task.state after.state s.holds lands;
             sender_count = ap length ends ∙ ends-length script rules (unit_of script) t a known whole p.name p.head bytes task.senders.items ∙ s.sender_count;
             receiver_count = ap length x.1 ∙ length-set task.receivers.items a x.0 ∙ s.receiver_count;
             senders = λ b l. subst (λ xs. SenderAt script rules next_run t b (slice_get xs b)) (sym ends) (ends-come script rules r (handed_on r a t p q) a t task.senders.items (λ y. settled r a t p ps y) known_task s.senders known whole p.name p.head bytes c.from c.to c.kind atomic b l);

@@ -3,6 +3,7 @@ pub mod Apart
 pub mod Copies
 pub mod Counting
 pub mod HasEffect
+pub mod HasJobs
 pub mod Landed
 pub mod Supported
 pub mod Outgoing
