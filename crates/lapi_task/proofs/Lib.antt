@@ -3,11 +3,15 @@ pub mod AnswerSpelled
 pub mod Apart
 pub mod ArrivingAcks
 pub mod ArrivingFits
+pub mod BeginLaws
 pub mod CopyLaws
 pub mod CopyLists
+pub mod EffectLaws
+pub mod EndLaws
 pub mod Forms
 pub mod JobCounts
 pub mod Jobless
+pub mod JobNotes
 pub mod JobsStay
 pub mod MessageCopies
 pub mod MessagePackets
@@ -15,6 +19,7 @@ pub mod NewStands
 pub mod Packets
 pub mod PollCopies
 pub mod PollSends
+pub mod QueueLaws
 pub mod ReasonForms
 pub mod ReceiveCounts
 pub mod ReceiveEvents
@@ -29,3 +34,4 @@ pub mod StepMemories
 pub mod StillLaws
 pub mod TickLaws
 mod Unanswered
+pub mod WorkStays

@@ -2,6 +2,7 @@ pub mod Acknowledging
 pub mod Apart
 pub mod Copies
 pub mod Counting
+pub mod Effects
 pub mod HasEffect
 pub mod HasJobs
 pub mod Landed
@@ -10,3 +11,4 @@ pub mod Outgoing
 pub mod Sends
 pub mod StandsFor
 pub mod Steps
+pub mod Working

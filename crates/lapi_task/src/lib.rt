@@ -3,6 +3,7 @@
 
 mod copy;
 mod counting;
+mod effect;
 mod law;
 mod note;
 mod outcome;

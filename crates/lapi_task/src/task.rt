@@ -10,6 +10,7 @@ mod polling;
 mod receiving;
 mod stepping;
 mod ticking;
+mod working;
 
 /// One task. After a call has answered Memory it is used no more.
 #[derive(Drop)]
