@@ -24,6 +24,7 @@ use Rattle.lapi_parts.proofs.LocalQuestions.{by_points}
 use Rattle.lapi_parts.proofs.OtherTasks.{others-stay}
 use Rattle.lapi_parts.proofs.Records.{record-sound}
 use Rattle.lapi_parts.proofs.SameParts.{SamePart, same-part, bytes-same, told-statements, told-links, told-jobs, told-memory}
+use Rattle.lapi_task.proofs.JobsStay.{jobs-same}
 use Rattle.lapi_task.specs.declared.state.State.{State}
 use Rattle.lapi_task.specs.declared.task.Task.{Task}
 use Rattle.lapi_task.specs.Apart.{TasksStayApart, StandsByPart}
@@ -63,7 +64,7 @@ module _ (script : Script) (rules : Rules) (t : ℕ) where
       counter_count = h.counter_count;
       counters = λ c lt. h.counters c lt ∙ acts.counters c;
       uncopied = h.uncopied ∙ ap (below (length (statements script t))) uncopied-same;
-      jobless = λ w. let jobs = told-jobs script rules t r s ir is e in sym (jobs.running w) ∙ h.jobless w;
+      jobs = let jobs = told-jobs script rules t r s ir is e in jobs-same script rules t r.journal s.journal state.jobs state.jobs refl (sym jobs.waiting) (λ w. sym (jobs.running w)) h.jobs;
     }
 
     -- the packet of a number

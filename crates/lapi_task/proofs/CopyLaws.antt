@@ -18,7 +18,6 @@ use Rattle.lapi_base.specs.Record.Below.{below}
 use Rattle.lapi_base.specs.Record.Counters.{count, reads, tells, is_counter}
 use Rattle.lapi_base.specs.Laws.Entries.{carried}
 use Rattle.lapi_base.specs.Packet.Layout.{layout_of, unit, unit_of}
-use Rattle.lapi_base.specs.Record.Jobs.{runs}
 use Rattle.lapi_base.specs.Record.Names.{message, name_eq, happened, Issued, Copied}
 use Rattle.lapi_base.specs.Record.Operations.{numbers_below, statement, statements, is_data, has_back, target, message_length, fragment_count, address, spans, origin_pieces, org_counter}
 use Rattle.lapi_base.specs.Record.Operations as operations
@@ -55,6 +54,7 @@ use Rattle.lapi_task.specs.StandsFor.{is_uncopied, task_unit, ReceiverAt, HasCal
 use Rattle.lapi_task.proofs.CopyLists.{below-less, other-message}
 use Rattle.lapi_task.proofs.CopySendable.{no_round, no_entry, may-send}
 use Rattle.lapi_task.proofs.Forms.{statement-is}
+use Rattle.lapi_task.proofs.JobsStay.{jobs-stay}
 use Rattle.lapi_task.proofs.MessageCopies.{packet-is, count-is, copied-ends}
 use Rattle.lapi_task.proofs.ReceiveCounts.{announced-length, announced-at}
 use Rattle.lapi_task.proofs.StepMemories.{read-over, memory-none, memory-length}
@@ -213,7 +213,7 @@ module _ (script : Script) (rules : Rules) (t : ℕ) (task : Task) (r : Run) (i 
       is_data-of k = operations.is_data (statement script t k)
 
   holds-then : (after : State) → after ≡ record task.state { uncopied = after.uncopied; counters = after.counters } → after.uncopied.items ≡ rest → after.counters ≡ announced task.state.counters copy.counter → HoldsFor script rules t after L
-  unfolding next refusals reads runs
+  unfolding next refusals reads
   holds-then after same list counters =
       let g = h.stands.holds in record {
         number = ap (λ (x : State). x.number) same ∙ g.number;
@@ -225,7 +225,7 @@ module _ (script : Script) (rules : Rules) (t : ℕ) (task : Task) (r : Run) (i 
         counter_count = ap length counters ∙ announced-length task.state.counters copy.counter ∙ g.counter_count;
         counters = λ c l. ap (λ xs. slice_index xs c) counters ∙ counters-then task.state.counters g.counter_count g.counters c l;
         uncopied = list ∙ sym uncopied-then;
-        jobless = g.jobless;
+        jobs = jobs-stay script rules t (Copy go) r.journal task.state.jobs after.jobs tt (ap (λ (x : State). x.jobs) same) g.jobs;
       }
 
   pub copied-stands : (popped after : Task) → IsPopped task popped rest → IsCopied (task_unit popped) copy popped after → StandsFor script rules t after (record r { journal = L })
@@ -235,7 +235,7 @@ module _ (script : Script) (rules : Rules) (t : ℕ) (task : Task) (r : Run) (i 
       let list = ap (λ (x : Task). x.state.uncopied) g.rest in
       let state : after.state ≡ record task.state { uncopied = after.state.uncopied; counters = after.state.counters } =
       ap (λ (x : Task). x.state) g.rest
-      ∙ (λ k. record { number = (p.others k).state.number; next = (p.others k).state.next; memory = (p.others k).state.memory; counters = after.state.counters; reads = (p.others k).state.reads; refusals = (p.others k).state.refusals; uncopied = sym list k }) in
+      ∙ (λ k. record { number = (p.others k).state.number; next = (p.others k).state.next; memory = (p.others k).state.memory; counters = after.state.counters; reads = (p.others k).state.reads; refusals = (p.others k).state.refusals; uncopied = sym list k; jobs = (p.others k).state.jobs }) in
       let ends = ap (λ (x : Task). x.senders.items) p.others in
       let senders : after.senders.items ≡ set task.senders.items to g.sender = g.senders ∙ ap (λ (xs : List SendingEnd). set xs to g.sender) ends in
       let receivers : after.receivers.items ≡ task.receivers.items = ap (λ (x : Task). x.receivers.items) g.rest ∙ ap (λ (x : Task). x.receivers.items) p.others in

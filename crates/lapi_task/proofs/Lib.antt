@@ -3,13 +3,19 @@ pub mod AnswerSpelled
 pub mod Apart
 pub mod ArrivingAcks
 pub mod ArrivingFits
+pub mod BeginLaws
 pub mod CopyLaws
 pub mod CopyLists
 pub mod CopyParts
 pub mod CopySendable
+pub mod EffectLaws
+pub mod EndLaws
 pub mod Followers
 pub mod Forms
+pub mod JobCounts
 pub mod Jobless
+pub mod JobNotes
+pub mod JobsStay
 pub mod Landings
 pub mod MessageCopies
 pub mod MessagePackets
@@ -17,6 +23,7 @@ pub mod NewStands
 pub mod Packets
 pub mod PollCopies
 pub mod PollSends
+pub mod QueueLaws
 pub mod ReasonForms
 pub mod ReceiveCounts
 pub mod ReceiveEvents
@@ -32,3 +39,4 @@ pub mod StepMemories
 pub mod StillLaws
 pub mod TickLaws
 mod Unanswered
+pub mod WorkStays

@@ -1,5 +1,5 @@
 -- A task before its first statement.
-use Rattle.std.proofs.Common.{◌≡◌, ℕ, false, [], length, refl, sym, ap, ◌∙◌, subst, arith}
+use Rattle.std.proofs.Common.{◌≡◌, ℕ, ◌<◌, ◌^◌, false, [], length, None, refl, sym, ap, ◌∙◌, subst, arith}
 use Rattle.std.specs.Prelude.{slice_get, slice_index, nat_lt}
 use Rattle.std.specs.List.{AllByRecursion}
 use Rattle.std.proofs.lemmas.Bool.{and_right, le-ltb}
@@ -7,12 +7,13 @@ use Rattle.std.proofs.lemmas.List.{length-replicate, get_or-replicate}
 use Rattle.lapi_base.specs.declared.script.Script.{Script}
 use Rattle.lapi_base.specs.declared.rule.Rules.{Rules}
 use Rattle.lapi_base.specs.Record.Counters.{count, reads}
-use Rattle.lapi_base.specs.Record.Jobs.{runs}
+use Rattle.lapi_base.specs.Record.Jobs.{landed_jobs, queue, runs}
 use Rattle.lapi_base.specs.Packet.Layout.{sizes_of, window_of, unit_of}
 use Rattle.lapi_base.specs.Record.Names.{happened}
 use Rattle.lapi_base.specs.Record.Operations.{statements, statement, is_data}
 use Rattle.lapi_base.specs.Record.Wires.{start, numbered, has_number, has_ack}
 use Rattle.lapi_base.specs.Record.Refusals.{next, refusals}
+use Rattle.lapi_jobs.specs.Jobs.{Works, run_by}
 use Rattle.lapi_link.specs.Sender.{SendingEnd, IsNewSender}
 use Rattle.lapi_task.specs.declared.state.State.{State}
 use Rattle.lapi_task.specs.declared.task.Task.{Task}
@@ -37,7 +38,7 @@ module _ (script : Script) (rules : Rules) where
   nothing-uncopied t k = and_right (is_data (statement script t k)) false refl
 
   new-holds : (t : ℕ) (state : State) → IsNewState (sizes_of script) t state → HoldsFor script rules t state []
-  unfolding next happened reads refusals count runs
+  unfolding next happened reads refusals count runs queue landed_jobs
   new-holds t state h = record {
     number = h.number;
     next = h.next;
@@ -48,7 +49,12 @@ module _ (script : Script) (rules : Rules) where
     counter_count = ap length h.counters ∙ length-replicate script.counters 0;
     counters = λ c l. ap (λ xs. slice_index xs c) h.counters ∙ get_or-replicate script.counters c 0 0 l;
     uncopied = h.uncopied ∙ sym (below-none (length (statements script t)) (is_uncopied script [] t) (λ k _. nothing-uncopied t k));
-    jobless = λ w. refl;
+    jobs = record {
+      waiting = ap (λ (x : Works). x.waiting) h.jobs;
+      few = subst (λ (x : Works). length x.waiting < 2 ^ 32) (sym h.jobs) (omega arith);
+      workers = ap (λ (x : Works). length x.workers) h.jobs ∙ length-replicate script.workers None;
+      running = λ w l. ap (λ (x : Works). run_by x w) h.jobs ∙ get_or-replicate script.workers w None None l;
+    };
   }
 
   fresh-sends : (a b : ℕ) (s : SendingEnd) → IsNewSender (window_of script) s → SendsFor script rules s start a b

@@ -13,6 +13,7 @@ use Rattle.lapi_base.specs.declared.packet.DataPacket.{DataPacket}
 use Rattle.lapi_base.specs.Record.Arrived.{whole_by, is_whole, assembled, count_of}
 use Rattle.lapi_base.specs.Record.Counters.{count}
 use Rattle.lapi_base.specs.Record.Handlers.{has_completion, word_bytes}
+use Rattle.lapi_base.specs.Record.Jobs.{queue}
 use Rattle.lapi_base.specs.Record.HeadSays.{announces, lands, head_pieces}
 use Rattle.lapi_base.specs.Record.Operations.{statements, fragment_count}
 use Rattle.lapi_base.specs.Record.Wires.{Run}
@@ -32,6 +33,7 @@ use Rattle.lapi_task.specs.declared.state.State.{State}
 use Rattle.lapi_reassembly.specs.declared.message.Message.{Message}
 use Rattle.lapi_task.specs.Landed.{IsDirect, head_writes, memory_after, counters_after}
 use Rattle.lapi_task.specs.StandsFor.{HoldsFor, is_uncopied}
+use Rattle.lapi_task.proofs.JobsStay.{jobs-same}
 use Rattle.lapi_task.proofs.ReceiveCounts.{announced-length, announced-at}
 use Rattle.lapi_task.proofs.ReceiveEvents.{come, came_bytes, is_all, DidSame, uncopied-same}
 use Rattle.lapi_task.proofs.ReceiveKinds.{Comes, IsThere, there-is, direct-is}
@@ -105,11 +107,11 @@ module _ (script : Script) (rules : Rules) (t : ℕ) where
   unfolding performed perform
   delivers r a k = refl
 
-  pub holds-arrived : (r : Run) (a k : ℕ) (p : DataPacket) → IsRecord script rules r → slice_get (r.wire a t) k ≡ Some (Data p) → Comes script rules r a t p → (K : List Event) → (deliver script rules r a t k).journal ≡ K → DidSame script rules t r.journal K →
+  pub holds-arrived : (r : Run) (a k : ℕ) (p : DataPacket) → IsRecord script rules r → slice_get (r.wire a t) k ≡ Some (Data p) → Comes script rules r a t p → (K : List Event) → (deliver script rules r a t k).journal ≡ K → DidSame script rules t r.journal K → queue script rules K t ≡ queue script rules r.journal t →
       (before after : State) → HoldsFor script rules t before r.journal →
       Lands (come (completes script rules r a t p) p.name p.head (came_bytes script (r.handed a t) p)) before after →
       HoldsFor script rules t after K
-  holds-arrived r a k p is entry c K journal same before after h g =
+  holds-arrived r a k p is entry c K journal same waiting before after h g =
       let J = r.journal in
       let whole = completes script rules r a t p in
       let bytes = came_bytes script (r.handed a t) p in
@@ -132,5 +134,5 @@ module _ (script : Script) (rules : Rules) (t : ℕ) where
         counter_count = ap length g.counters ∙ counters-length whole p.name p.head bytes before.counters ∙ h.counter_count;
         counters = λ d l. ap (λ xs. slice_index xs d) g.counters ∙ counters-come whole completion p.name p.head bytes before.counters J K direct tells d (let n = h.counter_count in omega (arith, l, n)) (h.counters d l);
         uncopied = ap (λ (x : State). x.uncopied.items) g.rest ∙ h.uncopied ∙ below-same (length (statements script t)) (is_uncopied script J t) (is_uncopied script K t) (λ i _. uncopied-same script rules t J K same i);
-        jobless = λ w. same.running w ∙ h.jobless w;
+        jobs = jobs-same script rules t J K before.jobs after.jobs (ap (λ (x : State). x.jobs) g.rest) waiting same.running h.jobs;
       }

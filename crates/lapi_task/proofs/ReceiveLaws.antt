@@ -51,6 +51,8 @@ use Rattle.lapi_base.specs.Packet.Layout.{layout_of, unit, unit_of}
 use Rattle.lapi_parts.proofs.FirstLayout.{first-unit}
 use Rattle.lapi_task.specs.StandsFor.{SenderAt, ReceiverAt}
 use Rattle.lapi_task.proofs.ArrivingFits.{arriving-fits}
+use Rattle.lapi_task.proofs.Jobless.{mild-leaves}
+use Rattle.lapi_task.proofs.JobsStay.{queue-followed}
 use Rattle.lapi_task.proofs.ReceiveEvents.{come, come-is, come-events, came_bytes, come-mild, mild-all}
 use Rattle.lapi_task.proofs.ReceiveHolds.{came-length, holds-arrived}
 use Rattle.lapi_task.proofs.ReceiveKinds.{Comes, comes as what-comes, IsThere, there-is, direct-is}
@@ -297,7 +299,7 @@ module _ (script : Script) (rules : Rules) where
               statements = ap (λ (y : Task). y.statements) own.rest ∙ g.statements ∙ s.calls.statements;
               limits = ap (λ (y : Task). y.limits) own.rest ∙ g.limits ∙ s.calls.limits;
             };
-            holds = holds-arrived script rules t r a k p at.recorded entry c then (ap (λ (y : Run). y.journal) delivered) same task.state after.state s.holds lands;
+            holds = holds-arrived script rules t r a k p at.recorded entry c then (ap (λ (y : Run). y.journal) delivered) same (queue-followed script rules t (events_of arrives) r.journal (mild-leaves script rules s.calls.supported t (events_of arrives) (come-mild whole p.name p.head bytes))) task.state after.state s.holds lands;
             sender_count = ap length ends ∙ ends-length script rules (unit_of script) t a whole p.name p.head bytes task.state.memory task.senders.items ∙ s.sender_count;
             receiver_count = ap length x.1 ∙ length-set task.receivers.items a x.0 ∙ s.receiver_count;
             senders = λ b l. subst (λ xs. SenderAt script rules next_run t b (slice_get xs b)) (sym ends) (ends-come script rules r (handed_on r a t p q) a t task.senders.items (λ y. settled r a t p ps y) known_task s.senders whole p.name p.head bytes task.state.memory follower atomic b l);

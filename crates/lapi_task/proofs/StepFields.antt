@@ -13,7 +13,6 @@ use Rattle.lapi_base.specs.declared.message.Leg.TheVariants.{Go}
 use Rattle.lapi_base.specs.declared.refusal.Refusal.{Refusal}
 use Rattle.lapi_base.specs.Record.Below.{below}
 use Rattle.lapi_base.specs.Record.Counters.{count, reads, read_by, tells, issued_count, passed_count}
-use Rattle.lapi_base.specs.Record.Jobs.{runs}
 use Rattle.lapi_base.specs.Record.Names.{message, happened, key_of, key_eq, Issued, Copied}
 use Rattle.lapi_base.specs.Record.Operations.{statement, is_data}
 use Rattle.lapi_base.specs.Record.Operations as operations
@@ -25,6 +24,7 @@ use Rattle.lapi_base.proofs.TestLaws.{eqb-refl}
 use Rattle.lapi_task.specs.declared.state.State.{State}
 use Rattle.lapi_task.specs.StandsFor.{HoldsFor, is_uncopied}
 use Rattle.lapi_task.specs.Steps.{MayStep, stored, counters_set, with_read, with_uncopied, IsRefused, IsIssued, PassesWait}
+use Rattle.lapi_task.proofs.JobsStay.{jobs-stay}
 use Rattle.lapi_task.proofs.StepMemories.{memory-none, memory-written, memory-length}
 
 -- one number more is listed, behind all others
@@ -55,10 +55,6 @@ module _ (script : Script) (rules : Rules) where
     unfolding count tells
     count-refuse i c why = add-zero (count script rules J t c)
 
-    runs-refuse : (i w : ℕ) (why : Refusal) → runs (Refuse t i why ∷ J) t w ≡ runs J t w
-    unfolding runs
-    runs-refuse i w why = refl
-
     pub refused-holds : (before after : State) (old new : List Event) (why : Refusal) → HoldsFor script rules t before J → IsRefused why before after old new → HoldsFor script rules t after (Refuse t before.next why ∷ J)
     refused-holds before after old new why h g =
         let i = before.next in
@@ -76,7 +72,7 @@ module _ (script : Script) (rules : Rules) where
           counter_count = ap length g.counters ∙ h.counter_count;
           counters = λ c l. ap (λ xs. slice_index xs c) g.counters ∙ h.counters c l ∙ sym (count-refuse i c why);
           uncopied = g.uncopied ∙ h.uncopied ∙ below-same _ (is_uncopied script J t) (is_uncopied script (e ∷ J) t) (λ k _. uncopied-same e k refl refl);
-          jobless = λ w. runs-refuse i w why ∙ h.jobless w;
+          jobs = jobs-stay script rules t e J before.jobs after.jobs tt g.jobs h.jobs;
         }
 
     -- A counter that was set.
@@ -105,10 +101,6 @@ module _ (script : Script) (rules : Rules) where
     count-pass : (i d value c : ℕ) → statement script t i ≡ statements.Wait d value → count script rules (Pass t i ∷ J) t c ≡ cond (t == t && d == c) (count script rules J t c - value) (count script rules J t c)
     unfolding count
     count-pass i d value c e = ap (λ (s : Statement). passed_count script rules s t t c (count script rules J t c)) e
-
-    runs-pass : (i w : ℕ) → runs (Pass t i ∷ J) t w ≡ runs J t w
-    unfolding runs
-    runs-pass i w = refl
 
     -- the counter that is waited for is at its own place
     taken-at : (n : ℕ → ℕ) (d value c : ℕ) → cond (t == t && d == c) (n d - value) (n c) ≡ cond (t == t && d == c) (n c - value) (n c)
@@ -141,17 +133,13 @@ module _ (script : Script) (rules : Rules) where
               ∙ taken-at (count script rules J t) d value c
               ∙ sym (count-pass i d value c is);
           uncopied = g.uncopied ∙ h.uncopied ∙ below-same _ (is_uncopied script J t) (is_uncopied script (e ∷ J) t) (λ k _. uncopied-same e k refl refl);
-          jobless = λ w. runs-pass i w ∙ h.jobless w;
+          jobs = jobs-stay script rules t e J before.jobs after.jobs tt g.jobs h.jobs;
         }
 
     -- The record after an issue.
     after-issue : (i : ℕ) → (next (Issue t i ∷ J) t ≡ suc (next J t)) × (refusals (Issue t i ∷ J) t ≡ refusals J t)
     unfolding next refusals
     after-issue i = (cond-true (t == t) _ _ (eqb-refl t), refl)
-
-    runs-issue : (i w : ℕ) → runs (Issue t i ∷ J) t w ≡ runs J t w
-    unfolding runs
-    runs-issue i w = refl
 
     reads-issue : (i : ℕ) (s : Statement) → statement script t i ≡ s → reads script rules (Issue t i ∷ J) t ≡ reads script rules J t ++ read_by script rules J t i s
     unfolding reads
@@ -234,5 +222,5 @@ module _ (script : Script) (rules : Rules) where
             counter_count = ap length g.counters ∙ count-issued s ∙ h.counter_count;
             counters = λ c l. ap (λ xs. slice_index xs c) g.counters ∙ counters-issued s u c l ∙ sym (count-issue i c s e);
             uncopied = g.uncopied ∙ uncopied-issued s e within fresh;
-            jobless = λ w. runs-issue i w ∙ h.jobless w;
+            jobs = jobs-stay script rules t (Issue t i) J before.jobs after.jobs tt g.jobs h.jobs;
           }

@@ -101,7 +101,7 @@ module _ (script : Script) (rules : Rules) where
     ends = tt;
   }
 
-  stands-on : (t : ℕ) (r : Run) (reply : Reply) (task : Task) → StandsFor script rules t task r → StandsFor script rules t task (reply_with script rules r reply)
+  pub stands-on : (t : ℕ) (r : Run) (reply : Reply) (task : Task) → StandsFor script rules t task r → StandsFor script rules t task (reply_with script rules r reply)
   stands-on t r reply task h = record {
     calls = h.calls;
     holds = h.holds;
@@ -120,7 +120,7 @@ module _ (script : Script) (rules : Rules) where
         waiting = x.waiting;
       }
 
-  does-nothing : (t : ℕ) (r : Run) (reply : Reply) (task : Task) (o : Outcome) → StandsFor script rules t task r → HasEffect script rules t r (reply_with script rules r reply) task o o
+  pub does-nothing : (t : ℕ) (r : Run) (reply : Reply) (task : Task) (o : Outcome) → StandsFor script rules t task r → HasEffect script rules t r (reply_with script rules r reply) task o o
   unfolding followed
   does-nothing t r reply task o h = record {
     events = [];

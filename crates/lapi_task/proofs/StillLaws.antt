@@ -14,7 +14,6 @@ use Rattle.lapi_base.specs.declared.packet.Packet.{Packet}
 use Rattle.lapi_base.specs.declared.packet.Packet.TheVariants.{Data, Ack}
 use Rattle.lapi_base.specs.Record.Below.{below, every_below, least_missing}
 use Rattle.lapi_base.specs.Record.Final.{is_empty, is_idle, is_settled, is_told}
-use Rattle.lapi_base.specs.Record.Jobs.{runs}
 use Rattle.lapi_base.specs.Packet.Layout.{window_of}
 use Rattle.lapi_base.specs.Record.Names.{Issued, Entered, Copied, happened, message}
 use Rattle.lapi_base.specs.Record.Operations.{numbers_below, statement, is_data, has_join}
@@ -31,9 +30,11 @@ use Rattle.lapi_task.specs.declared.state.State.{State}
 use Rattle.lapi_task.specs.declared.task.Task.{Task}
 use Rattle.lapi_task.specs.HasEffect.{IsAt}
 use Rattle.lapi_task.specs.Supported.{IsSupported}
+use Rattle.lapi_jobs.specs.Jobs.{count_running}
+use Rattle.lapi_task.specs.HasJobs.{is_free}
 use Rattle.lapi_task.specs.Sends.{SendsFor}
 use Rattle.lapi_task.specs.StandsFor.{is_uncopied, SenderAt, HoldsFor}
-use Rattle.lapi_task.proofs.Jobless.{no-queue}
+use Rattle.lapi_task.proofs.JobCounts.{some, none-below, jobs-none}
 use Rattle.lapi_task.proofs.Forms.{no-join}
 use Rattle.lapi_base.specs.Record.Valid.{ValidScript}
 use Rattle.lapi_base.proofs.BelowLaws.{every_below-at, every_below-from}
@@ -56,25 +57,6 @@ all-over : {X : Type 0} (p : X → Bool) (f : ℕ → List X) (n : ℕ) → list
 unfolding numbers_below below every_below
 all-over p f zero = refl
 all-over p f (suc n) = ap (list_all p) (flat_map-push f (numbers_below n) n) ∙ list_all-append p (flat_map f (numbers_below n)) (f n) ∙ ap (λ b. b && list_all p (f n)) (all-over p f n)
-
-some : (n : ℕ) → (suc n == 0) ≡ false
-some n = ne_eqb (suc n) 0 (λ e. absurd (omega arith))
-
-pushed : (xs : List ℕ) (x : ℕ) → (length (xs ++ x ∷ []) == 0) ≡ false
-pushed [] x = refl
-pushed (y ∷ xs) x = some (length (xs ++ x ∷ []))
-
-and-true : (b : Bool) → (b && true) ≡ b
-and-true true = refl
-and-true false = refl
-
-none-below : (n : ℕ) (p : ℕ → Bool) → every_below n (λ i. not (p i)) ≡ (length (below n p) == 0)
-unfolding every_below below
-none-below zero p = refl
-none-below (suc n) p = elim (p n) as (λ b. (every_below n (λ i. not (p i)) && not b) ≡ (length (cond b (below n p ++ n ∷ []) (below n p)) == 0)) [
-  | true ↦ and_right (every_below n (λ i. not (p i))) false refl ∙ sym (pushed (below n p) n)
-  | false ↦ and-true (every_below n (λ i. not (p i))) ∙ none-below n p
-]
 
 blank-push : (f : ℕ → ℕ) (xs : List ℕ) (x : ℕ) → is_empty (map f (xs ++ x ∷ [])) ≡ false
 blank-push f [] x = refl
@@ -173,17 +155,17 @@ module _ (script : Script) (rules : Rules) (p : IsSupported script) where
       ap (λ x. list_all (λ m. happened (Copied m) J) (cond (is && issued) (message t i Go ∷ []) (cond (x && happened (Entered t i) J) (joins script t i) []))) (no-join script p t i)
       ∙ copied-cases is issued (λ m. happened (Copied m) J) (message t i Go)
 
-  pub idle-is : (t : ℕ) (state : State) (r : Run) → HoldsFor script rules t state r.journal → is_idle script rules r t ≡ (length state.uncopied.items == 0)
+  pub idle-is : (t : ℕ) (state : State) (r : Run) → HoldsFor script rules t state r.journal → is_idle script rules r t ≡ is_free state
   unfolding is_idle ready
   idle-is t state r h =
       let count = length (operations.statements script t) in
-      let free : every_below script.workers (λ w. not (is_some (runs r.journal t w))) ≡ true = every_below-from script.workers (λ w. not (is_some (runs r.journal t w))) (λ w l. ap (λ o. not (is_some o)) (h.jobless w)) in
-      ap (λ ms. (is_empty ms && every_below script.workers (λ w. not (is_some (runs r.journal t w)))) && list_all (λ m. happened (Copied m) r.journal) (ready script r.journal t)) (no-queue script rules p r.journal t)
-      ∙ ap (λ b. b && list_all (λ m. happened (Copied m) r.journal) (ready script r.journal t)) free
-      ∙ all-over (λ m. happened (Copied m) r.journal) (to_copy_of script r.journal t) count
+      let copied : list_all (λ m. happened (Copied m) r.journal) (ready script r.journal t) ≡ (length state.uncopied.items == 0) =
+      all-over (λ m. happened (Copied m) r.journal) (to_copy_of script r.journal t) count
       ∙ ap (every_below count) (by_points _ _ (copied-is r.journal t))
       ∙ none-below count (is_uncopied script r.journal t)
-      ∙ ap (λ (xs : List ℕ). length xs == 0) (sym h.uncopied)
+      ∙ ap (λ (xs : List ℕ). length xs == 0) (sym h.uncopied) in
+      ap (λ b. b && list_all (λ m. happened (Copied m) r.journal) (ready script r.journal t)) (jobs-none script rules t state.jobs r.journal h.jobs)
+      ∙ ap (λ b. (length state.jobs.waiting == 0 && count_running state.jobs == 0) && b) copied
 
   sender-there : (r : Run) (t b : ℕ) (o : Option SendingEnd) (s : SendingEnd) → SenderAt script rules r t b o → o ≡ Some s → SendsFor script rules s r t b
   sender-there r t b o s h e = subst (SenderAt script rules r t b) e h
@@ -197,7 +179,7 @@ module _ (script : Script) (rules : Rules) (p : IsSupported script) where
       settled-is script rules r t b s (sender-there r t b (slice_get ends b) s (stands.senders b known) there) p.valid at.recorded)
       ∙ ap (λ n. every_below n (is_settled script rules r t)) stands.sender_count
 
-  pub still-is : (t : ℕ) (task : Task) (r : Run) → IsAt script rules t task r → (length task.state.uncopied.items == 0 && list_all settled task.senders.items) ≡ (is_idle script rules r t && every_below script.tasks (is_settled script rules r t))
+  pub still-is : (t : ℕ) (task : Task) (r : Run) → IsAt script rules t task r → (is_free task.state && list_all settled task.senders.items) ≡ (is_idle script rules r t && every_below script.tasks (is_settled script rules r t))
   still-is t task r at =
       ap (λ x. x && list_all settled task.senders.items) (sym (idle-is t task.state r at.stands.holds))
       ∙ ap (λ x. is_idle script rules r t && x) (links-settled t task r at)

@@ -5,7 +5,9 @@ use Rattle.lapi_base.specs.declared.script.Script.{Script}
 use Rattle.lapi_base.specs.declared.message.MsgName.{MsgName}
 use Rattle.lapi_base.specs.declared.packet.Packet.{Packet}
 use Rattle.lapi_base.specs.Record.Arrived.{some_packet}
+use Rattle.lapi_base.specs.Record.Wires.{has_number}
 use Rattle.lapi_base.proofs.ListLaws.{at-place}
+use Rattle.lapi_window.specs.RecvWindow.{is_taken}
 use Rattle.lapi_reassembly.specs.Partial.{Gathered}
 use Rattle.lapi_reassembly.specs.Partials.{partial}
 use Rattle.lapi_link.specs.Receiver.{ReceivingEnd, is_partial, kept_answer, answer_of, IsUnanswered, unanswered, partial_of, ReceivesFor}
@@ -45,4 +47,12 @@ lent-partials script ps ends a end there read m =
     elim (slice_get ends a) as (λ o. slice_get ends a ≡ o → ReceiverAt script ps o → partial end.partials m ≡ partial_of script ps m) [
       | None ↦ λ _ h. absurd h
       | Some x ↦ λ e h. ap (λ (s : ReceivingEnd). partial s.partials m) (at-place ends a x end e read) ∙ partials-are script ps x h.0 h.1 m
+    ] refl there
+
+-- and the window tells what was taken
+pub lent-window : (script : Script) (ps : List Packet) (ends : List ReceivingEnd) (a : ℕ) (end : ReceivingEnd) → ReceiverAt script ps (slice_get ends a) → end ≡ get_or ends a end → (n : ℕ) → is_taken end.window n ≡ has_number ps n
+lent-window script ps ends a end there read n =
+    elim (slice_get ends a) as (λ o. slice_get ends a ≡ o → ReceiverAt script ps o → is_taken end.window n ≡ has_number ps n) [
+      | None ↦ λ _ h. absurd h
+      | Some x ↦ λ e h. ap (λ (s : ReceivingEnd). is_taken s.window n) (at-place ends a x end e read) ∙ (let receives = h.0 in receives.taken n)
     ] refl there

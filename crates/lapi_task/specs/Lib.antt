@@ -2,10 +2,13 @@ pub mod Acknowledging
 pub mod Apart
 pub mod Copies
 pub mod Counting
+pub mod Effects
 pub mod HasEffect
+pub mod HasJobs
 pub mod Landed
 pub mod Supported
 pub mod Outgoing
 pub mod Sends
 pub mod StandsFor
 pub mod Steps
+pub mod Working

@@ -10,7 +10,6 @@ use Rattle.lapi_base.specs.Record.Below.{below}
 use Rattle.lapi_base.specs.Record.Names.{message, happened, Issued, Copied}
 use Rattle.lapi_base.specs.Record.Operations.{statements, statement, is_data}
 use Rattle.lapi_base.specs.Record.Counters.{count, reads}
-use Rattle.lapi_base.specs.Record.Jobs.{runs}
 use Rattle.lapi_base.specs.Record.Wires.{Run}
 use Rattle.lapi_base.specs.Record.Refusals.{next, refusals}
 use Rattle.lapi_base.specs.Record.Values.{memory_bytes}
@@ -19,6 +18,7 @@ use Rattle.lapi_calls.specs.Limits.{limits_of}
 use Rattle.lapi_link.specs.Sender.{SendingEnd}
 use Rattle.lapi_base.specs.Packet.Layout.{layout_of, unit, sizes_of}
 use Rattle.lapi_base.specs.Record.Valid.{ValidRules}
+use Rattle.lapi_task.specs.HasJobs.{HasJobs}
 use Rattle.lapi_task.specs.Supported.{IsSupported}
 use Rattle.lapi_task.specs.declared.state.State.{State}
 use Rattle.lapi_task.specs.declared.task.Task.{Task}
@@ -45,6 +45,7 @@ pub record IsNewState (sizes : Sizes) (task : ℕ) (state : State) : Type 0 wher
   pub reads : state.reads.items ≡ []
   pub refusals : state.refusals.items ≡ []
   pub uncopied : state.uncopied.items ≡ []
+  pub jobs : state.jobs ≡ record { waiting = []; workers = replicate sizes.workers None }
 
 -- What a task holds and did is what the record says of task t;
 pub record HoldsFor (script : Script) (rules : Rules) (t : ℕ) (state : State) (J : List Event) : Type 0 where
@@ -57,7 +58,7 @@ pub record HoldsFor (script : Script) (rules : Rules) (t : ℕ) (state : State) 
   pub counter_count : length state.counters ≡ script.counters
   pub counters : (c : ℕ) → c < script.counters → slice_index state.counters c ≡ count script rules J t c
   pub uncopied : state.uncopied.items ≡ below (length (statements script t)) (is_uncopied script J t)
-  pub jobless : (w : ℕ) → runs J t w ≡ None
+  pub jobs : HasJobs script rules t state.jobs J
 
 -- the payload of each fragment but the last, by the task's sizes
 abbrev pub task_unit : Task → ℕ

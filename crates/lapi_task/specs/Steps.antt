@@ -47,6 +47,7 @@ pub record IsRefused (why : Refusal) (before after : State) (old new : List Even
   pub reads : after.reads.items ≡ before.reads.items
   pub refusals : after.refusals.items ≡ before.refusals.items ++ (before.next, why) ∷ []
   pub uncopied : after.uncopied.items ≡ before.uncopied.items
+  pub jobs : after.jobs ≡ before.jobs
 
 pub record IsIssued (s : Statement) (before after : State) (old new : List Event) : Type 0 where
   pub past : Advances (Issue before.number before.next) before after old new
@@ -55,6 +56,7 @@ pub record IsIssued (s : Statement) (before after : State) (old new : List Event
   pub reads : after.reads.items ≡ with_read s before.counters before.next before.reads.items
   pub refusals : after.refusals.items ≡ before.refusals.items
   pub uncopied : after.uncopied.items ≡ with_uncopied s before.next before.uncopied.items
+  pub jobs : after.jobs ≡ before.jobs
 
 pub record PassesWait (counter value : ℕ) (before after : State) (old new : List Event) : Type 0 where
   pub enough : value ≤ slice_index before.counters counter
@@ -64,6 +66,7 @@ pub record PassesWait (counter value : ℕ) (before after : State) (old new : Li
   pub reads : after.reads.items ≡ before.reads.items
   pub refusals : after.refusals.items ≡ before.refusals.items
   pub uncopied : after.uncopied.items ≡ before.uncopied.items
+  pub jobs : after.jobs ≡ before.jobs
 
 -- the counter has less than the value, and nothing was changed
 pub record IsBlocked (counter value : ℕ) (before after : State) (old new : List Event) : Type 0 where

@@ -3,6 +3,7 @@
 
 mod copy;
 mod counting;
+mod effect;
 mod landing;
 mod law;
 mod outcome;

@@ -2,9 +2,11 @@
 ghost use Rattle.std.specs.Prelude.{◌≡◌, ℕ, ◌+◌, ◌<◌, ◌≤◌, ◌^◌, ◌∷◌, [], ◌++◌, replicate, false, IsTrue, IfOk, OnOk, length};
 ghost use Rattle.lapi_task.specs.Steps.{MayStep, IsRefused, IsIssued, PassesWait, IsBlocked, Advances};
 ghost use Rattle.lapi_task.specs.StandsFor.{IsNewState};
+ghost use Rattle.lapi_task.specs.HasJobs.{is_free};
 
 use lapi_base::{Event, Events, Memory, Refusal, Sizes, Statement};
 use lapi_counters::Counters;
+use lapi_jobs::Jobs;
 use lapi_memory::TaskMemory;
 use std::alloc::Global;
 use std::collections::VecDeque;
@@ -21,6 +23,8 @@ pub struct State {
     pub refusals: Vec<(u32, Refusal)>,
     /// The statements whose data are to be copied by the next poll, rising.
     pub uncopied: VecDeque<u32>,
+    /// The jobs of its completion handlers.
+    pub jobs: Jobs,
 }
 
 impl State {
@@ -32,6 +36,7 @@ impl State {
     {
         let memory = TaskMemory::new(alloc, sizes.memory)?;
         let counters = Counters::new(alloc, sizes.counters)?;
+        let jobs = Jobs::new(alloc, sizes.workers)?;
         Ok(State {
             number,
             next: 0,
@@ -40,6 +45,7 @@ impl State {
             reads: Vec::new(alloc),
             refusals: Vec::new(alloc),
             uncopied: VecDeque::new(alloc),
+            jobs,
         })
     }
 
@@ -106,6 +112,13 @@ impl State {
             statement: self.next,
         };
         self.advance(event, events)
+    }
+
+    /// Whether no job waits or runs, and no data wait to be copied.
+    pub fn is_free(&self) -> bool
+        ensures { result ≡ is_free self.now }
+    {
+        self.jobs.queued() == 0 && self.jobs.running() == 0 && self.uncopied.is_empty()
     }
 
     fn advance(&mut self, event: Event, events: &mut Events) -> Result<(), Memory>

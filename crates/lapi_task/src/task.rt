@@ -11,6 +11,7 @@ mod receiving;
 mod replying;
 mod stepping;
 mod ticking;
+mod working;
 
 /// One task. After a call has answered Memory it is used no more.
 #[derive(Drop)]

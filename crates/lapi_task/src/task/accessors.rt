@@ -1,5 +1,5 @@
 //! What a task tells of itself, and the parts that it lends.
-ghost use Rattle.std.specs.Prelude.{◌≡◌, ℕ, ◌<◌, length, slice_index};
+ghost use Rattle.std.specs.Prelude.{◌≡◌, ℕ, ◌<◌, ◌^◌, length, slice_index};
 ghost use Rattle.lapi_base.specs.declared.script.Script.{Script};
 ghost use Rattle.lapi_base.specs.declared.message.MsgName.{MsgName};
 ghost use Rattle.lapi_base.specs.Record.Counters.{count, reads};
@@ -57,18 +57,18 @@ impl Task {
         self.state.refusals.as_slice()
     }
 
-    /// How many jobs wait for a worker. No form that is performed makes one.
+    /// How many jobs wait for a worker.
     pub fn queued(&self) -> u32
         ensures { ForEachRecord self.now (λ script rules t r. result ≡ length (queue script rules r.journal t)) }
     {
-        0
+        small(self.state.jobs.queued())
     }
 
     /// How many workers run a job.
     pub fn running(&self) -> u32
         ensures { ForEachRecord self.now (λ script rules t r. result ≡ length (busy script r.journal t)) }
     {
-        0
+        small(self.state.jobs.running())
     }
 
     /// The numbers of the link to task `b`.
@@ -103,4 +103,11 @@ impl Task {
     {
         &self.state.counters
     }
+}
+
+/// The number, which is below 2^32.
+fn small(n: usize) -> u32
+    ensures { n < 2 ^ 32 → result ≡ n }
+{
+    n.min(u32::MAX as usize) as u32
 }

@@ -30,6 +30,6 @@ impl Task {
         ensures { (script : Script) (rules : Rules) (t : ℕ) (r : Run) → IsAt script rules t self.now r
             → result ≡ (is_idle script rules r t && every_below script.tasks (is_settled script rules r t)) }
     {
-        self.state.uncopied.is_empty() && self.senders.iter().all(|sender| sender.is_settled())
+        self.state.is_free() && self.senders.iter().all(|sender| sender.is_settled())
     }
 }

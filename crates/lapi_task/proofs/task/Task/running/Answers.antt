@@ -1,6 +1,9 @@
-use Rattle.std.proofs.Common.{sym}
-use Rattle.lapi_task.proofs.Jobless.{nothing-runs}
+use Rattle.std.proofs.Common.{◌<◌, ◌^◌, subst, sym, ◌∙◌}
+use Rattle.lapi_task.proofs.JobCounts.{running-counted, running-few}
 use Rattle.lapi_task.proofs.task.Task.running.Goals as goal
 
 pub returns : goal.returns
-returns c = λ script rules t r h. sym (nothing-runs script rules h.calls.supported r.journal t h.holds.jobless)
+returns c = λ script rules t r h.
+    let jobs = c.args.self.now.state.jobs in
+    let few = running-few script rules t jobs r.journal h.holds.jobs h.calls.supported.valid in
+    c.small.ensures (subst (λ n. n < 2 ^ 32) (sym c.running.ensures) few) ∙ c.running.ensures ∙ running-counted script rules t jobs r.journal h.holds.jobs
