@@ -19,7 +19,7 @@ use Rattle.lapi_audit.specs.Counts.{value, with_value, less, announced, announce
 use Rattle.lapi_calls.specs.Places.{task_of, statement_of}
 use Rattle.lapi_calls.specs.Setting.{completes, target_by}
 use Rattle.lapi_laws.proofs.CellLaws.{place-sym, item-at, cell-at}
-use Rattle.lapi_calls.proofs.SettingLaws.{completes_by}
+use Rattle.lapi_audit.proofs.CompletionLaws.{completes_by}
 
 -- one more at the counter that is told
 at-counter : (tasks : List (List ℕ)) (a : ℕ) (o : Option ℕ) (t c : ℕ) → t < length tasks → c < length (get_or tasks t []) → value (announced tasks a o) t c ≡ value tasks t c + cond (is_counter o a t c) 1 0

@@ -6,6 +6,7 @@ pub mod TurnLaws
 pub mod WaitLaws
 pub mod JobLaws
 pub mod FirstLaws
+pub mod CompletionLaws
 pub mod CountLaws
 pub mod StartLaws
 pub mod KnownLaws

@@ -1,6 +1,7 @@
 -- The test by the state of an operation is the one over all that has to stand.
 use Rattle.std.proofs.Common.{◌≡◌, ℕ, Bool, true, false, ◌&&◌, ◌||◌, not, List, [], ◌∷◌, ◌++◌, refl, ap, ◌∙◌}
 use Rattle.std.specs.List.{list_all}
+use Rattle.std.proofs.Math.Bool.{and_assoc}
 use Rattle.lapi_base.specs.declared.script.Script.{Script}
 use Rattle.lapi_base.specs.declared.rule.Rules.{Rules}
 use Rattle.lapi_base.specs.declared.message.Leg.{Leg}
@@ -26,11 +27,7 @@ if-one f true d ds = refl
 if-one f false d ds = refl
 
 if-two : (f : EventKey → Bool) (b : Bool) (d e : EventKey) (ds : List EventKey) → ((not b || (f d && f e)) && list_all f ds) ≡ list_all f (only_if b (d ∷ e ∷ []) ++ ds)
-if-two f true d e ds = grouped (f d) (f e) (list_all f ds)
-  where
-    grouped : (x y z : Bool) → ((x && y) && z) ≡ (x && (y && z))
-    grouped true y z = refl
-    grouped false y z = refl
+if-two f true d e ds = and_assoc (f d) (f e) (list_all f ds)
 if-two f false d e ds = refl
 
 if-last : (f : EventKey → Bool) (b : Bool) (d : EventKey) → (not b || f d) ≡ list_all f (only_if b (d ∷ []))

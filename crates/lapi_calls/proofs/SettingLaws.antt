@@ -1,6 +1,7 @@
 -- What is there, by its statement.
 use Rattle.std.proofs.Common.{◌≡◌, ℕ, ◌<◌, ◌≤◌, ◌==◌, Bool, true, false, ◌&&◌, [], length, Some, None, refl, sym, ap, ◌∙◌, ⊎_elim, arith}
 use Rattle.std.specs.Prelude.{nat_lt, slice_get, is_some, unwrap_or}
+use Rattle.std.proofs.Math.Bool.{and_assoc}
 use Rattle.std.proofs.lemmas.Bool.{and_from, and_parts, cases_lt, lt-ltb, ltb-true, false_from_ne_true}
 use Rattle.std.proofs.lemmas.List.{get_or_past}
 use Rattle.std.proofs.lemmas.Option.{slice_get_within, get_or_from_slice_get, slice_get-get_or}
@@ -17,12 +18,8 @@ use Rattle.lapi_base.specs.Record.Operations.{statements, statement, has_leg, is
 use Rattle.lapi_base.specs.Packet.Layout.{may_answer}
 use Rattle.lapi_base.specs.Record.Handlers.{has_completion, completion, rule_named, user, user_by, completion_rule, is_answer, answers, handler_of, user_header}
 use Rattle.lapi_base.specs.Record.Atomic.{is_there, has_statement, has_job}
-use Rattle.lapi_calls.specs.Setting.{kept, completes, has_place, answers_by, has_leg_by, has_event, has_job_at}
+use Rattle.lapi_calls.specs.Setting.{kept, has_place, answers_by, has_leg_by, has_event, has_job_at}
 use Rattle.lapi_calls.specs.Places.{task_of, statement_of}
-
-pub grouped : (x y z : Bool) → ((x && y) && z) ≡ (x && (y && z))
-grouped true y z = refl
-grouped false y z = refl
 
 grouped-3 : (x y z u : Bool) → (((x && y) && z) && u) ≡ (x && ((y && z) && u))
 grouped-3 true y z u = refl
@@ -53,7 +50,7 @@ module _ (script : Script) (rules : Rules) where
 
   head : (m : MsgName) → is_there script rules (Head m) ≡ (has_statement script rules m.origin m.statement && has_event script rules (Head m) (statement script m.origin m.statement))
   head m =
-      grouped (has_statement script rules m.origin m.statement) (has_leg script (answers script rules m.origin m.statement) m.origin m.leg (statement script m.origin m.statement)) (leg_eq m.leg Go && is_am (statement script m.origin m.statement))
+      and_assoc (has_statement script rules m.origin m.statement) (has_leg script (answers script rules m.origin m.statement) m.origin m.leg (statement script m.origin m.statement)) (leg_eq m.leg Go && is_am (statement script m.origin m.statement))
       ∙ ap (λ x. has_statement script rules m.origin m.statement && (x && (leg_eq m.leg Go && is_am (statement script m.origin m.statement)))) (leg m)
 
   job : (m : MsgName) (t w : ℕ) → has_job script rules m t w ≡ (has_statement script rules m.origin m.statement && has_job_at script rules m t w (statement script m.origin m.statement))
@@ -91,7 +88,3 @@ module _ (script : Script) (rules : Rules) where
       let li = ltb-true i (length (statements script a)) (and_parts (nat_lt a script.tasks) (nat_lt i (length (statements script a))) yes).1 in
       let some = slice_get-get_or (statements script a) i Fence li in
       let q : ⊥ = cc in q)
-
-  pub completes_by : (a i : ℕ) → has_completion script rules a i ≡ completes rules (statement script a i)
-  unfolding has_completion completion
-  completes_by a i = refl

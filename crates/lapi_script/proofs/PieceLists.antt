@@ -10,7 +10,7 @@ use Rattle.lapi_base.specs.Input.Tokens.{piece_of, pieces_of}
 use Rattle.lapi_base.specs.declared.vector.Vector.{Vector}
 use Rattle.lapi_base.specs.Input.Built.{is_plain}
 use Rattle.lapi_script.specs.declared.held_vector.HeldVector.{HeldVector}
-use Rattle.lapi_script.specs.declared.held_vector.HeldVector.TheVariants.{Held, TooManyPieces}
+use Rattle.lapi_script.specs.declared.held_vector.HeldVector.TheVariants.{TooManyPieces}
 use Rattle.lapi_script.specs.Vectors.{HoldsVector, HoldsListed, vector_or}
 use Rattle.std.proofs.lemmas.Bool.{lt-leb}
 

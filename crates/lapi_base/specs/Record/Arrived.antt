@@ -1,10 +1,9 @@
 -- What the packets that were handed over on a link tell, without the journal: which fragments are there, the
 -- acknowledgement, the events of the next packet, and the bytes of a message. These are words of this project.
-use Rattle.std.specs.Prelude.{◌≡◌, ℕ, suc, ◌+◌, max, ◌==◌, Bool, true, false, cond, ◌&&◌, not, List, [], ◌∷◌, ◌++◌, slice_get, Some, Option, None, is_some}
+use Rattle.std.specs.Prelude.{◌≡◌, ℕ, suc, ◌+◌, max, ◌==◌, Bool, true, false, cond, ◌&&◌, not, List, [], ◌∷◌, ◌++◌, slice_get, Some, Option, None}
 use Rattle.std.specs.List.{list_any, flat_map}
 use Rattle.lapi_base.specs.declared.script.Script.{Script}
 use Rattle.lapi_base.specs.declared.rule.Rules.{Rules}
-use Rattle.lapi_base.specs.declared.message.Leg.TheVariants.{Go, Back, Note}
 use Rattle.lapi_base.specs.declared.message.MsgName.{MsgName}
 use Rattle.lapi_base.specs.declared.event.Event.{Event}
 use Rattle.lapi_base.specs.declared.event.Event.TheVariants.{Head, Land}
@@ -14,11 +13,10 @@ use Rattle.lapi_base.specs.declared.packet.DataPacket.{DataPacket}
 use Rattle.lapi_base.specs.Record.Fragments.{fragments_in}
 use Rattle.lapi_base.specs.Packet.Layout.{unit_of, window_of}
 use Rattle.lapi_base.specs.Record.Below.{every_below, least_missing, bits_of}
-use Rattle.lapi_base.specs.Record.Names.{name_eq, leg_eq, message}
-use Rattle.lapi_base.specs.Record.Operations.{numbers_below, statement, is_am, fragment_count}
+use Rattle.lapi_base.specs.Record.Names.{name_eq}
+use Rattle.lapi_base.specs.Record.Operations.{numbers_below, fragment_count}
 use Rattle.lapi_base.specs.Record.Handlers.{has_completion}
 use Rattle.lapi_base.specs.Record.Wires.{has_number}
-use Rattle.lapi_base.specs.Record.Acts.{after_land}
 use Rattle.lapi_base.specs.Record.HeadSays.{is_active, follows}
 
 -- Fragments.

@@ -1,5 +1,5 @@
 -- What a caller sees of a world, and the record that all its other parts are of.
-use Rattle.std.specs.Prelude.{◌≡◌, ℕ, Bool, List, [], slice_get, map, Option, option_map}
+use Rattle.std.specs.Prelude.{◌≡◌, ℕ, Bool, List, slice_get, map, Option, option_map}
 use Rattle.std.specs.List.{filter_map, AllByRecursion}
 use Rattle.lapi_base.specs.declared.script.Script.{Script}
 use Rattle.lapi_base.specs.declared.rule.Rules.{Rules}

@@ -1,7 +1,7 @@
 use Rattle.std.proofs.Common.{sym, subst}
 use Rattle.lapi_base.specs.Record.Valid.{ValidStatement}
 use Rattle.lapi_calls.specs.Setting.{rules_of}
-use Rattle.lapi_calls.proofs.ValidLaws.{statement-valid}
+use Rattle.lapi_base.proofs.ValidLaws.{statement-valid}
 use Rattle.lapi_calls.proofs.reason.why_refused.Goals as goal
 
 pub refusal_of-requires-clause-statement : goal.refusal_of-requires-clause-statement

@@ -1,16 +1,12 @@
 -- What a valid script has is valid.
-use Rattle.std.proofs.Common.{ℕ, zero, suc, ◌≤◌, List, [], ◌∷◌, length, get_or, arith}
+use Rattle.std.proofs.Common.{ℕ, ◌≤◌, List, [], length, arith}
 use Rattle.std.specs.List.{AllByRecursion}
 use Rattle.lapi_base.specs.declared.script.Script.{Script}
 use Rattle.lapi_base.specs.declared.statement.Statement.{Statement}
 use Rattle.lapi_base.specs.declared.statement.Statement.TheVariants.{Fence}
 use Rattle.lapi_base.specs.Record.Operations.{statement, statements}
 use Rattle.lapi_base.specs.Record.Valid.{ValidScript, ValidStatement}
-
-all-or : {X : Type 0} (P : X → Type 0) (xs : List X) (i : ℕ) (d : X) → AllByRecursion P xs → P d → P (get_or xs i d)
-all-or P [] i d h p = p
-all-or P (x ∷ xs) zero d h p = h.0
-all-or P (x ∷ xs) (suc i) d h p = all-or P xs i d h.1 p
+use Rattle.lapi_base.proofs.ListLaws.{all-or}
 
 module _ (script : Script) (valid : ValidScript script) where
   pub list-valid : (a : ℕ) → (length (statements script a) ≤ 512) × AllByRecursion ValidStatement (statements script a)
