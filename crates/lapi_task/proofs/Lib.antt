@@ -5,6 +5,7 @@ pub mod ArrivingAcks
 pub mod ArrivingFits
 pub mod CopyLaws
 pub mod CopyLists
+pub mod FollowerParts
 pub mod Followers
 pub mod Forms
 pub mod Jobless
@@ -22,7 +23,6 @@ pub mod ReceiveHolds
 pub mod ReceiveKinds
 pub mod ReceiveLaws
 pub mod ReceiveLinks
-pub mod Replies
 pub mod SenderLaws
 pub mod StepFields
 pub mod StepLaws

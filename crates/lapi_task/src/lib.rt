@@ -3,12 +3,12 @@
 
 mod copy;
 mod counting;
+mod follower;
 mod landing;
 mod law;
 mod outcome;
 mod packet;
 mod received;
-mod reply;
 mod spans;
 mod state;
 mod statement;

@@ -6,9 +6,9 @@ use lapi_link::{Receiver, Sender};
 mod accessors;
 mod answering;
 mod copying;
+mod following;
 mod polling;
 mod receiving;
-mod replying;
 mod stepping;
 mod ticking;
 
