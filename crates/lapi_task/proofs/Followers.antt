@@ -40,14 +40,14 @@ use Rattle.lapi_parts.proofs.Deliveries.{delivered}
 use Rattle.lapi_parts.proofs.FirstLayout.{first-unit, first-longest}
 use Rattle.lapi_parts.proofs.HeadAnswers.{backs-follow, backs-bring, notes-follow}
 use Rattle.lapi_parts.proofs.SpelledPackets.{message-spelled}
-use Rattle.lapi_task.specs.Landed.{Reply, note_of, back_of, reply, MayLeave, events_of}
+use Rattle.lapi_task.specs.Landed.{Follower, note_of, back_of, follower, MayLeave, events_of}
 use Rattle.lapi_task.specs.Outgoing.{outgoing, packet_of}
 use Rattle.lapi_task.specs.Supported.{IsSupported}
 use Rattle.lapi_task.proofs.Landings.{picked-is}
 use Rattle.lapi_task.proofs.MessageCopies.{packet-is}
 use Rattle.lapi_task.proofs.ReceiveEvents.{come, come-events, came_bytes}
 use Rattle.lapi_task.proofs.ReceiveKinds.{Comes, direct-is, there-is}
-use Rattle.lapi_task.proofs.Replies.{copies, follows-is}
+use Rattle.lapi_task.proofs.FollowerParts.{copies, follows-is}
 
 -- what the packets have in common with this one
 common : DataPacket → Packet → DataPacket
@@ -55,8 +55,8 @@ common o (Data p) = record p { seq = 0; fragment = 0; payload = [] }
 common o (Ack from to base bits) = o
 
 module _ (script : Script) (rules : Rules) where
-  -- The reply from task t to task a is the message of the record that is copied after these events.
-  pub record Follows (J : List Event) (t a : ℕ) (x : Reply) : Type 0 where
+  -- This goes from task t to task a, and is the message of the record that is copied after these events.
+  pub record Follows (J : List Event) (t a : ℕ) (x : Follower) : Type 0 where
     pub from : x.packet.from ≡ t
     pub to : x.packet.to ≡ a
     pub is : outgoing script x.packet.name ≡ x.packet
@@ -71,7 +71,7 @@ module _ (script : Script) (rules : Rules) where
   note-carries m J = let n = message m.origin m.statement Note in sym (cond-true (name_eq n n) [] (carried script rules J n) (name_eq-refl n))
 
   -- It may leave, once it is copied.
-  pub may-leave : IsSupported script → ValidRules rules → (before : List Event) (t a : ℕ) (x : Reply) → Follows before t a x → Atomic script rules (Copy x.packet.name ∷ before) → MayLeave (unit_of script) x
+  pub may-leave : IsSupported script → ValidRules rules → (before : List Event) (t a : ℕ) (x : Follower) → Follows before t a x → Atomic script rules (Copy x.packet.name ∷ before) → MayLeave (unit_of script) x
   unfolding fragment_count
   may-leave supported ok before t a x f atomic =
       let m = x.packet.name in
@@ -108,8 +108,8 @@ module _ (script : Script) (rules : Rules) where
       abbrev memory : List ℕ
       memory = memory_bytes script rules r.journal t
 
-      -- a reply is copied after the landing
-      pub copied-then : (o : Option Reply) → reply t a p.name p.head memory ≡ o → followed r.journal brought ≡ followed J (copies o)
+      -- the copy comes after the landing
+      pub copied-then : (o : Option Follower) → follower t a p.name p.head memory ≡ o → followed r.journal brought ≡ followed J (copies o)
       unfolding followed
       copied-then o e =
           ap (λ b. followed r.journal (events_of (come b p.name p.head (came_bytes script (r.handed a t) p)))) whole
@@ -120,7 +120,7 @@ module _ (script : Script) (rules : Rules) where
       back-follows head e =
           let m = message p.name.origin p.name.statement Back in
           let x = back_of t a p.name (asked_pieces p.head) memory head in
-          let given : reply t a p.name p.head memory ≡ Some x = ap (λ o. option_or (option_map (back_of t a p.name (asked_pieces p.head) memory) o) (option_map (note_of t a p.name) (note_head p.head))) e in
+          let given : follower t a p.name p.head memory ≡ Some x = ap (λ o. option_or (option_map (back_of t a p.name (asked_pieces p.head) memory) o) (option_map (note_of t a p.name) (note_head p.head))) e in
           let then : (performed script rules r (Deliver a t k)).journal ≡ Copy m ∷ J = journal-is ∙ copied-then (Some x) given in
           record {
             from = refl;
@@ -140,10 +140,10 @@ module _ (script : Script) (rules : Rules) where
         bytes = note-carries p.name J;
       }
 
-      reply-follows-by : (ob on : Option Head) → back_head p.head ≡ ob → note_head p.head ≡ on → (x : Reply) → option_or (option_map (back_of t a p.name (asked_pieces p.head) memory) ob) (option_map (note_of t a p.name) on) ≡ Some x → Follows J t a x
-      reply-follows-by (Some head) on b n x e = subst (Follows J t a) (some-same _ _ e) (back-follows head b)
-      reply-follows-by None (Some head) b n x e = subst (Follows J t a) (some-same _ _ e) (note-follows head n)
-      reply-follows-by None None b n x e = absurd (cc)
+      follower-by : (ob on : Option Head) → back_head p.head ≡ ob → note_head p.head ≡ on → (x : Follower) → option_or (option_map (back_of t a p.name (asked_pieces p.head) memory) ob) (option_map (note_of t a p.name) on) ≡ Some x → Follows J t a x
+      follower-by (Some head) on b n x e = subst (Follows J t a) (some-same _ _ e) (back-follows head b)
+      follower-by None (Some head) b n x e = subst (Follows J t a) (some-same _ _ e) (note-follows head n)
+      follower-by None None b n x e = absurd (cc)
 
-      pub reply-follows : (x : Reply) → reply t a p.name p.head memory ≡ Some x → Follows J t a x
-      reply-follows x e = reply-follows-by (back_head p.head) (note_head p.head) refl refl x e
+      pub follower-is : (x : Follower) → follower t a p.name p.head memory ≡ Some x → Follows J t a x
+      follower-is x e = follower-by (back_head p.head) (note_head p.head) refl refl x e

@@ -10,6 +10,7 @@ pub mod CopyParts
 pub mod CopySendable
 pub mod EffectLaws
 pub mod EndLaws
+pub mod FollowerParts
 pub mod Followers
 pub mod Forms
 pub mod JobCounts
@@ -31,7 +32,6 @@ pub mod ReceiveHolds
 pub mod ReceiveKinds
 pub mod ReceiveLaws
 pub mod ReceiveLinks
-pub mod Replies
 pub mod SenderLaws
 pub mod StepFields
 pub mod StepLaws

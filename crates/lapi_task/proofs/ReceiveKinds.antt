@@ -27,7 +27,7 @@ use Rattle.lapi_parts.proofs.Receivable.{packets-fit}
 use Rattle.lapi_task.specs.Landed.{IsDirect}
 use Rattle.lapi_task.specs.Supported.{IsSupported}
 use Rattle.lapi_task.proofs.Forms.{no-am, no-join}
-use Rattle.lapi_task.proofs.Replies.{one-total}
+use Rattle.lapi_task.proofs.FollowerParts.{one-total}
 
 -- The head of a message that takes effect by it alone, and the message's length where the head says nothing of it.
 abbrev pub IsKind : Head → (len : ℕ) → Type 0

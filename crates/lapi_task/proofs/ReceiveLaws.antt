@@ -42,7 +42,7 @@ use Rattle.lapi_task.specs.declared.outcome.Outcome.{Outcome}
 use Rattle.lapi_task.specs.declared.task.Task.{Task}
 use Rattle.lapi_task.specs.Acknowledging.{HasTaken, answer}
 use Rattle.lapi_task.specs.HasEffect.{IsAt, HasEffect, bytes_to}
-use Rattle.lapi_task.specs.Landed.{IsDirect, Reply, reply, MayLeave, ends_after, events_of, ArrivalMayLand, HasArrived, MayTake, HasCome, landed}
+use Rattle.lapi_task.specs.Landed.{IsDirect, Follower, follower, MayLeave, ends_after, events_of, ArrivalMayLand, HasArrived, MayTake, HasCome, landed}
 use Rattle.lapi_task.specs.declared.state.State.{State}
 use Rattle.lapi_task.specs.StandsFor.{task_unit}
 use Rattle.lapi_task.proofs.CopyLaws.{unit-is}
@@ -56,8 +56,8 @@ use Rattle.lapi_task.proofs.JobsStay.{queue-followed}
 use Rattle.lapi_task.proofs.ReceiveEvents.{come, come-is, come-events, came_bytes, come-mild, mild-all}
 use Rattle.lapi_task.proofs.ReceiveHolds.{came-length, holds-arrived}
 use Rattle.lapi_task.proofs.ReceiveKinds.{Comes, comes as what-comes, IsThere, there-is, direct-is}
-use Rattle.lapi_task.proofs.Followers.{Follows, may-leave, copied-then, reply-follows}
-use Rattle.lapi_task.proofs.Replies.{total-is}
+use Rattle.lapi_task.proofs.Followers.{Follows, may-leave, copied-then, follower-is}
+use Rattle.lapi_task.proofs.FollowerParts.{total-is}
 use Rattle.lapi_task.proofs.ReceiveLinks.{told, Settled, ends-come, ends-length}
 use Rattle.lapi_task.proofs.SenderLaws.{bytes-here, bytes-there}
 use Rattle.lapi_task.proofs.Unanswered.{still-unanswered}
@@ -161,7 +161,7 @@ module _ (script : Script) (rules : Rules) where
   pieces-there : (pieces : List Span) (memory : List ℕ) → length memory ≡ script.memory → SpansAreInMemory script pieces → AreWithin pieces (length memory)
   pieces-there pieces memory e h = subst (AreWithin pieces) (sym e) (All-from_recursion (λ (p : Span). p.at + p.len ≤ script.memory) pieces h)
 
-  suits-come : (unit t a : ℕ) (whole : Bool) (m : MsgName) (h : Head) (len : ℕ) (bytes memory counters : List ℕ) → IsDirect h → IsThere script rules h len → (whole ≡ true → length bytes ≡ len) → length memory ≡ script.memory → length counters ≡ script.counters → (whole ≡ true → (x : Reply) → reply t a m h memory ≡ Some x → MayLeave unit x) → ArrivalMayLand unit t a (come whole m h bytes) memory counters
+  suits-come : (unit t a : ℕ) (whole : Bool) (m : MsgName) (h : Head) (len : ℕ) (bytes memory counters : List ℕ) → IsDirect h → IsThere script rules h len → (whole ≡ true → length bytes ≡ len) → length memory ≡ script.memory → length counters ≡ script.counters → (whole ≡ true → (x : Follower) → follower t a m h memory ≡ Some x → MayLeave unit x) → ArrivalMayLand unit t a (come whole m h bytes) memory counters
   suits-come unit t a false m h len bytes memory counters direct there size places count leaves = tt
   suits-come unit t a true m h len bytes memory counters direct there size places count leaves =
       let own : IsThere script rules h (length bytes) = subst (IsThere script rules h) (sym (size refl)) there in
@@ -227,14 +227,14 @@ module _ (script : Script) (rules : Rules) where
     memory-there : task.state.memory ≡ memory_bytes script rules r.journal t
     memory-there = at.stands.holds.memory
 
-    follower : completes script rules r a t p ≡ true → (x : Reply) → reply t a p.name p.head task.state.memory ≡ Some x → Follows script rules (Land p.name ∷ r.journal) t a x
-    follower whole x e = reply-follows script rules r a t k p at.recorded entry packet-comes whole x (ap (reply t a p.name p.head) (sym memory-there) ∙ e)
+    follows-then : completes script rules r a t p ≡ true → (x : Follower) → follower t a p.name p.head task.state.memory ≡ Some x → Follows script rules (Land p.name ∷ r.journal) t a x
+    follows-then whole x e = follower-is script rules r a t k p at.recorded entry packet-comes whole x (ap (follower t a p.name p.head) (sym memory-there) ∙ e)
 
-    leaves : completes script rules r a t p ≡ true → (x : Reply) → reply t a p.name p.head task.state.memory ≡ Some x → MayLeave (unit_of script) x
+    leaves : completes script rules r a t p ≡ true → (x : Follower) → follower t a p.name p.head task.state.memory ≡ Some x → MayLeave (unit_of script) x
     unfolding followed
     leaves whole x e =
-        may-leave script rules at.stands.calls.supported at.stands.calls.rules_valid (Land p.name ∷ r.journal) t a x (follower whole x e)
-        (subst (Atomic script rules) (copied-then script rules r a t k p at.recorded entry packet-comes whole (Some x) (ap (reply t a p.name p.head) (sym memory-there) ∙ e)) atomic)
+        may-leave script rules at.stands.calls.supported at.stands.calls.rules_valid (Land p.name ∷ r.journal) t a x (follows-then whole x e)
+        (subst (Atomic script rules) (copied-then script rules r a t k p at.recorded entry packet-comes whole (Some x) (ap (follower t a p.name p.head) (sym memory-there) ∙ e)) atomic)
 
     pub suits-arrival : (mid : Task) (first_delivery : Arrival) → KeepsRest task mid → landed first_delivery ≡ arrives → ArrivalMayLand (task_unit mid) mid.state.number a (landed first_delivery) mid.state.memory mid.state.counters
     suits-arrival mid first_delivery g e =
@@ -302,7 +302,7 @@ module _ (script : Script) (rules : Rules) where
             holds = holds-arrived script rules t r a k p at.recorded entry c then (ap (λ (y : Run). y.journal) delivered) same (queue-followed script rules t (events_of arrives) r.journal (mild-leaves script rules s.calls.supported t (events_of arrives) (come-mild whole p.name p.head bytes))) task.state after.state s.holds lands;
             sender_count = ap length ends ∙ ends-length script rules (unit_of script) t a whole p.name p.head bytes task.state.memory task.senders.items ∙ s.sender_count;
             receiver_count = ap length x.1 ∙ length-set task.receivers.items a x.0 ∙ s.receiver_count;
-            senders = λ b l. subst (λ xs. SenderAt script rules next_run t b (slice_get xs b)) (sym ends) (ends-come script rules r (handed_on r a t p q) a t task.senders.items (λ y. settled r a t p ps y) known_task s.senders whole p.name p.head bytes task.state.memory follower atomic b l);
+            senders = λ b l. subst (λ xs. SenderAt script rules next_run t b (slice_get xs b)) (sym ends) (ends-come script rules r (handed_on r a t p q) a t task.senders.items (λ y. settled r a t p ps y) known_task s.senders whole p.name p.head bytes task.state.memory follows-then atomic b l);
             receivers = handed-ends r a t p q task.receivers.items after.receivers.items end-there.0 x.0 end-there.1 x.1 x.2 s.receivers;
           };
           journal = refl;

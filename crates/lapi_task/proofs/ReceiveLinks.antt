@@ -18,7 +18,7 @@ use Rattle.lapi_base.specs.Record.Acts.{followed}
 use Rattle.lapi_base.proofs.ListLaws.{some-same}
 use Rattle.lapi_laws.proofs.Backward.{Atomic-tail}
 use Rattle.lapi_link.specs.Sender.{SendingEnd}
-use Rattle.lapi_task.specs.Landed.{Reply, reply, with_reply_at, with_reply, ends_after, events_of}
+use Rattle.lapi_task.specs.Landed.{Follower, follower, with_follower_at, with_follower, ends_after, events_of}
 use Rattle.lapi_task.specs.Outgoing.{with_message}
 use Rattle.lapi_task.proofs.MessageCopies.{copied-ends}
 use Rattle.std.proofs.lemmas.Option.{slice_get_within}
@@ -27,7 +27,7 @@ use Rattle.lapi_task.specs.StandsFor.{SenderAt}
 use Rattle.lapi_task.proofs.Packets.{packet-same}
 use Rattle.lapi_task.proofs.ReceiveEvents.{come}
 use Rattle.lapi_task.proofs.Followers.{Follows}
-use Rattle.lapi_task.proofs.Replies.{copies, follows-is}
+use Rattle.lapi_task.proofs.FollowerParts.{copies, follows-is}
 
 module _ (script : Script) (rules : Rules) where
   -- A link has the same numbers, or one more.
@@ -89,12 +89,12 @@ module _ (script : Script) (rules : Rules) where
     unfolding Ends
     ends-same K g = λ b l. sender-stay r w K t b (slice_get ends b) (moves b) (g b) (all b l)
 
-    -- a reply more, which was copied after the landing
+    -- what follows, which was copied after the landing
     module _ (m : MsgName) where
       abbrev J : List Event
       J = Land m ∷ r.journal
 
-      ends-sent : (x : Reply) → Follows script rules J t a x → Atomic script rules (Copy x.packet.name ∷ J) → Ends (Copy x.packet.name ∷ J) (with_reply (unit_of script) (Some x) ends)
+      ends-sent : (x : Follower) → Follows script rules J t a x → Atomic script rules (Copy x.packet.name ∷ J) → Ends (Copy x.packet.name ∷ J) (with_follower (unit_of script) (Some x) ends)
       unfolding Ends
       ends-sent x f atomic = λ b l.
           let n = x.packet.name in
@@ -115,34 +115,34 @@ module _ (script : Script) (rules : Rules) where
           let same : Some s ≡ Some e = sym found.1 ∙ ap (slice_get ends) (sym to) ∙ at in
           (λ i. with_message (unit_of script) (sym f.is i) x.bytes (some-same s e same i)))
           one in
-          let made : with_reply (unit_of script) (Some x) ends ≡ slice_set ends a sent =
-          ap (λ y. with_reply_at (unit_of script) x (slice_get ends y) ends) f.to
-          ∙ ap (λ o. with_reply_at (unit_of script) x o ends) found.1
+          let made : with_follower (unit_of script) (Some x) ends ≡ slice_set ends a sent =
+          ap (λ y. with_follower_at (unit_of script) x (slice_get ends y) ends) f.to
+          ∙ ap (λ o. with_follower_at (unit_of script) x o ends) found.1
           ∙ ap (λ y. slice_set ends y sent) f.to in
           subst (λ (xs : List SendingEnd). SenderAt script rules (told w K) t b (slice_get xs b)) (sym made)
           (sender-stay (told r K) w K t b (slice_get (slice_set ends a sent) b) (record { sent = (moves b).sent; acked = (moves b).acked }) (stays-none K t b) (two b l))
 
-      ends-replied : (o : Option Reply) → ((x : Reply) → o ≡ Some x → Follows script rules J t a x) → Atomic script rules (followed J (copies o)) → Ends (followed J (copies o)) (with_reply (unit_of script) o ends)
+      ends-followed : (o : Option Follower) → ((x : Follower) → o ≡ Some x → Follows script rules J t a x) → Atomic script rules (followed J (copies o)) → Ends (followed J (copies o)) (with_follower (unit_of script) o ends)
       unfolding followed
-      ends-replied None f atomic = ends-same J (λ b. stays-land m r.journal t b atomic)
-      ends-replied (Some x) f atomic = ends-sent x (f x refl) atomic
+      ends-followed None f atomic = ends-same J (λ b. stays-land m r.journal t b atomic)
+      ends-followed (Some x) f atomic = ends-sent x (f x refl) atomic
 
-    pub ends-come : (whole : Bool) (m : MsgName) (h : Head) (bytes memory : List ℕ) → (whole ≡ true → (x : Reply) → reply t a m h memory ≡ Some x → Follows script rules (Land m ∷ r.journal) t a x) → let arrival = come whole m h bytes in let K = followed r.journal (events_of arrival) in Atomic script rules K → (b : ℕ) → b < script.tasks → SenderAt script rules (told w K) t b (slice_get (ends_after (unit_of script) t a arrival memory ends) b)
+    pub ends-come : (whole : Bool) (m : MsgName) (h : Head) (bytes memory : List ℕ) → (whole ≡ true → (x : Follower) → follower t a m h memory ≡ Some x → Follows script rules (Land m ∷ r.journal) t a x) → let arrival = come whole m h bytes in let K = followed r.journal (events_of arrival) in Atomic script rules K → (b : ℕ) → b < script.tasks → SenderAt script rules (told w K) t b (slice_get (ends_after (unit_of script) t a arrival memory ends) b)
     unfolding Ends followed
     ends-come false m h bytes memory f atomic = ends-same r.journal (λ b. stays-none r.journal t b)
     ends-come true m h bytes memory f atomic =
-        let o = reply t a m h memory in
+        let o = follower t a m h memory in
         let same : followed (Land m ∷ r.journal) (follows h false m) ≡ followed (Land m ∷ r.journal) (copies o) = ap (followed (Land m ∷ r.journal)) (follows-is t a m memory h) in
-        subst (λ K. Ends K (with_reply (unit_of script) o ends)) (sym same) (ends-replied m o (f refl) (subst (Atomic script rules) same atomic))
+        subst (λ K. Ends K (with_follower (unit_of script) o ends)) (sym same) (ends-followed m o (f refl) (subst (Atomic script rules) same atomic))
 
-  with-reply-length : (unit : ℕ) (x : Reply) (o : Option SendingEnd) (ends : List SendingEnd) → length (with_reply_at unit x o ends) ≡ length ends
-  with-reply-length unit x None ends = refl
-  with-reply-length unit x (Some s) ends = length-set ends x.packet.to (with_message unit x.packet x.bytes s)
+  with-follower-length : (unit : ℕ) (x : Follower) (o : Option SendingEnd) (ends : List SendingEnd) → length (with_follower_at unit x o ends) ≡ length ends
+  with-follower-length unit x None ends = refl
+  with-follower-length unit x (Some s) ends = length-set ends x.packet.to (with_message unit x.packet x.bytes s)
 
-  replied-length : (unit : ℕ) (o : Option Reply) (ends : List SendingEnd) → length (with_reply unit o ends) ≡ length ends
-  replied-length unit None ends = refl
-  replied-length unit (Some x) ends = with-reply-length unit x (slice_get ends x.packet.to) ends
+  followed-length : (unit : ℕ) (o : Option Follower) (ends : List SendingEnd) → length (with_follower unit o ends) ≡ length ends
+  followed-length unit None ends = refl
+  followed-length unit (Some x) ends = with-follower-length unit x (slice_get ends x.packet.to) ends
 
   pub ends-length : (unit t a : ℕ) (whole : Bool) (m : MsgName) (h : Head) (bytes memory : List ℕ) (ends : List SendingEnd) → length (ends_after unit t a (come whole m h bytes) memory ends) ≡ length ends
   ends-length unit t a false m h bytes memory ends = refl
-  ends-length unit t a true m h bytes memory ends = replied-length unit (reply t a m h memory) ends
+  ends-length unit t a true m h bytes memory ends = followed-length unit (follower t a m h memory) ends

@@ -41,7 +41,8 @@ IsDirect _ = Unit {0}
 
 -- What its landing writes: the word that it makes of the one that stood there, or its bytes, piece by piece;
 abbrev pub head_writes : Head → (bytes memory : List ℕ) → List Write
-head_writes (heads.RmwGo op at in1 in2 prev org) bytes memory = (at, word_bytes (rmw_word op (number_of (bytes_at memory at 4)) in1 in2)) ∷ []
+head_writes (heads.RmwGo op at in1 in2 prev org) bytes memory =
+    (at, word_bytes (rmw_word op (number_of (bytes_at memory at 4)) in1 in2)) ∷ []
 head_writes head bytes memory = scattered (head_pieces head (length bytes)) bytes
 
 -- and the memory after these writes, in order.
@@ -52,49 +53,63 @@ abbrev pub head_memory : Head → (bytes memory : List ℕ) → List ℕ
 head_memory head bytes memory = after_writes memory (head_writes head bytes memory)
 
 -- A message that follows a landing: what its packets have in common, and its bytes.
-pub record Reply : Type 0 where
+pub record Follower : Type 0 where
   pub packet : DataPacket
   pub bytes : List ℕ
 
 -- what the packets have in common, where task t sends this leg of message m to task a
-abbrev pub reply_packet : (t a : ℕ) → MsgName → Leg → Head → (length : ℕ) → DataPacket
-reply_packet t a m leg head len = record { from = t; to = a; seq = 0; name = message m.origin m.statement leg; head = head; length = len; fragment = 0; payload = [] }
+abbrev pub follower_packet : (t a : ℕ) → MsgName → Leg → Head → (length : ℕ) → DataPacket
+follower_packet t a m leg head len = record {
+  from = t;
+  to = a;
+  seq = 0;
+  name = message m.origin m.statement leg;
+  head = head;
+  length = len;
+  fragment = 0;
+  payload = [];
+}
 
 -- a notice, which has no bytes,
-abbrev pub note_of : (t a : ℕ) → MsgName → Head → Reply
-note_of t a m head = record { packet = reply_packet t a m Note head 0; bytes = [] }
+abbrev pub note_of : (t a : ℕ) → MsgName → Head → Follower
+note_of t a m head = record { packet = follower_packet t a m Note head 0; bytes = [] }
 
 -- and an answer with what stands at these pieces of a memory
-abbrev pub back_of : (t a : ℕ) → MsgName → (pieces : List Span) → (memory : List ℕ) → Head → Reply
-back_of t a m pieces memory head = record { packet = reply_packet t a m Back head (bytes_in pieces); bytes = flat_map (λ p. bytes_at memory p.at p.len) pieces }
+abbrev pub back_of : (t a : ℕ) → MsgName → (pieces : List Span) → (memory : List ℕ) → Head → Follower
+back_of t a m pieces memory head = record {
+  packet = follower_packet t a m Back head (bytes_in pieces);
+  bytes = flat_map (λ p. bytes_at memory p.at p.len) pieces;
+}
 
 -- the message that follows the landing at task t of what came from task a, if one does
-abbrev pub reply : (t a : ℕ) → MsgName → Head → (memory : List ℕ) → Option Reply
-reply t a m head memory = option_or (option_map (back_of t a m (asked_pieces head) memory) (back_head head)) (option_map (note_of t a m) (note_head head))
+abbrev pub follower : (t a : ℕ) → MsgName → Head → (memory : List ℕ) → Option Follower
+follower t a m head memory =
+    option_or (option_map (back_of t a m (asked_pieces head) memory) (back_head head))
+    (option_map (note_of t a m) (note_head head))
 
--- the sending ends with a reply more, at the end of its link
-abbrev pub with_reply_at : (unit : ℕ) → Reply → Option SendingEnd → List SendingEnd → List SendingEnd
-with_reply_at unit x None ends = ends
-with_reply_at unit x (Some s) ends = slice_set ends x.packet.to (with_message unit x.packet x.bytes s)
+-- the sending ends with its packets more at the end of its link
+abbrev pub with_follower_at : (unit : ℕ) → Follower → Option SendingEnd → List SendingEnd → List SendingEnd
+with_follower_at unit x None ends = ends
+with_follower_at unit x (Some s) ends = slice_set ends x.packet.to (with_message unit x.packet x.bytes s)
 
-abbrev pub with_reply : (unit : ℕ) → Option Reply → List SendingEnd → List SendingEnd
-with_reply unit None ends = ends
-with_reply unit (Some x) ends = with_reply_at unit x (slice_get ends x.packet.to) ends
+abbrev pub with_follower : (unit : ℕ) → Option Follower → List SendingEnd → List SendingEnd
+with_follower unit None ends = ends
+with_follower unit (Some x) ends = with_follower_at unit x (slice_get ends x.packet.to) ends
 
--- the reply has the length that its packets say, it is short, and they have spellings
-pub record MayLeave (unit : ℕ) (x : Reply) : Type 0 where
+-- its bytes are as many as its packets say, they are few, and the packets have spellings
+pub record MayLeave (unit : ℕ) (x : Follower) : Type 0 where
   pub size : length x.bytes ≡ x.packet.length
   pub short : x.packet.length ≤ 64 * unit
   pub spelled : AreSpelled unit x.packet x.bytes
 
--- The message may land: its places, the places that it asks for and its counter are there, and its reply may leave.
+-- The message may land: its places, the places that it asks for and its counter are there, and what follows may leave.
 pub record HeadMayLand (unit t a : ℕ) (m : MsgName) (head : Head) (bytes memory counters : List ℕ) : Type 0 where
   pub direct : IsDirect head
   pub pieces : AreWithin (head_pieces head (length bytes)) (length memory)
   pub total : total_of (head_pieces head (length bytes)) ≡ length bytes
   pub asked : AreWithin (asked_pieces head) (length memory)
   pub counter : (c : ℕ) → announces head false ≡ Some c → c < length counters
-  pub leaves : (x : Reply) → reply t a m head memory ≡ Some x → MayLeave unit x
+  pub leaves : (x : Follower) → follower t a m head memory ≡ Some x → MayLeave unit x
 
 -- the message that is whole with a packet, whatever was answered to its header
 abbrev pub landed : Arrival → Option Message
@@ -114,7 +129,7 @@ counters_after (Some m) counters = announced counters (announces m.head false)
 counters_after None counters = counters
 
 abbrev pub ends_after : (unit t a : ℕ) → Option Message → (memory : List ℕ) → (ends : List SendingEnd) → List SendingEnd
-ends_after unit t a (Some m) memory ends = with_reply unit (reply t a m.name m.head memory) ends
+ends_after unit t a (Some m) memory ends = with_follower unit (follower t a m.name m.head memory) ends
 ends_after unit t a None memory ends = ends
 
 abbrev pub events_of : Option Message → List Event

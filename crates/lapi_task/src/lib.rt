@@ -4,12 +4,12 @@
 mod copy;
 mod counting;
 mod effect;
+mod follower;
 mod landing;
 mod law;
 mod outcome;
 mod packet;
 mod received;
-mod reply;
 mod spans;
 mod state;
 mod statement;

@@ -122,7 +122,7 @@ impl Task {
             ..
         } = message;
         events.push(Event::Land(*name))?;
-        self.reply(alloc, from, *name, head, events)?;
+        self.follow(alloc, from, *name, head, events)?;
         write(&mut self.state.memory, head, bytes.as_slice())?;
         announce(&mut self.state.counters, announced_by(head))
     }

@@ -1,4 +1,4 @@
--- A reply of one piece, and of several.
+-- The messages that follow landings: their lengths, and their copies.
 use Rattle.std.proofs.Common.{◌≡◌, ℕ, ◌+◌, false, [], ◌∷◌, List, Option, None, Some, refl, sym, ap, ◌∙◌, arith}
 use Rattle.std.specs.List.{flat_map}
 use Rattle.std.proofs.lemmas.List.Folds.{fold-map}
@@ -15,7 +15,7 @@ use Rattle.lapi_base.specs.Laws.Receiving.{bytes_in}
 use Rattle.lapi_base.specs.Record.HeadSays.{follows}
 use Rattle.lapi_memory.specs.TaskMemory.{bytes_at}
 use Rattle.lapi_vector.specs.Pieces.{total_of}
-use Rattle.lapi_task.specs.Landed.{Reply, reply_packet, back_of, reply, MayLeave}
+use Rattle.lapi_task.specs.Landed.{Follower, follower_packet, back_of, follower, MayLeave}
 
 pub total-is : (spans : List Span) → total_of spans ≡ bytes_in spans
 total-is spans = fold-map ◌+◌ (λ (p : Span). p.len) 0 spans
@@ -24,19 +24,19 @@ pub one-total : (p : Span) → p.len ≡ bytes_in (p ∷ [])
 one-total p = let e : p.len ≡ p.len + 0 = omega arith in e ∙ sym (sum_by-cons (λ (s : Span). s.len) p [])
 
 -- what was made is the answer
-pub back-made : (t a : ℕ) (m : MsgName) (pieces : List Span) (memory : List ℕ) (head : Head) (len : ℕ) (packet : DataPacket) (bytes : List ℕ) → packet ≡ reply_packet t a m Back head len → len ≡ bytes_in pieces → bytes ≡ flat_map (λ p. bytes_at memory p.at p.len) pieces → record { packet = packet; bytes = bytes } ≡ back_of t a m pieces memory head
-back-made t a m pieces memory head len packet bytes made size same = λ i. record { packet = (made ∙ ap (reply_packet t a m Back head) size) i; bytes = same i }
+pub back-made : (t a : ℕ) (m : MsgName) (pieces : List Span) (memory : List ℕ) (head : Head) (len : ℕ) (packet : DataPacket) (bytes : List ℕ) → packet ≡ follower_packet t a m Back head len → len ≡ bytes_in pieces → bytes ≡ flat_map (λ p. bytes_at memory p.at p.len) pieces → record { packet = packet; bytes = bytes } ≡ back_of t a m pieces memory head
+back-made t a m pieces memory head len packet bytes made size same = λ i. record { packet = (made ∙ ap (follower_packet t a m Back head) size) i; bytes = same i }
 
--- each reply to this head may leave
-abbrev pub MayReply : (unit t a : ℕ) → MsgName → (memory : List ℕ) → Head → Type 0
-MayReply unit t a m memory head = (x : Reply) → reply t a m head memory ≡ Some x → MayLeave unit x
+-- what follows this head may leave
+abbrev pub MayFollow : (unit t a : ℕ) → MsgName → (memory : List ℕ) → Head → Type 0
+MayFollow unit t a m memory head = (x : Follower) → follower t a m head memory ≡ Some x → MayLeave unit x
 
--- the events of a reply
-abbrev pub copies : Option Reply → List Event
+-- the copy of what follows
+abbrev pub copies : Option Follower → List Event
 copies None = []
 copies (Some x) = Copy x.packet.name ∷ []
 
-pub follows-is : (t a : ℕ) (m : MsgName) (memory : List ℕ) (h : Head) → follows h false m ≡ copies (reply t a m h memory)
+pub follows-is : (t a : ℕ) (m : MsgName) (memory : List ℕ) (h : Head) → follows h false m ≡ copies (follower t a m h memory)
 unfolding follows
 follows-is t a m memory (heads.Put at tgt None) = refl
 follows-is t a m memory (heads.Put at tgt (Some c)) = refl

@@ -3,7 +3,7 @@ ghost use Rattle.std.specs.Prelude.{◌≡◌, ◌∷◌, [], ◌++◌, ◌<◌,
 ghost use Rattle.lapi_base.specs.declared.event.Event.TheVariants.{Copy};
 ghost use Rattle.lapi_base.specs.declared.layout.TheConstants.{PAYLOAD_ROOM};
 ghost use Rattle.lapi_reassembly.specs.Partial.{IsUnit};
-ghost use Rattle.lapi_task.specs.Landed.{MayLeave, reply_packet, with_reply};
+ghost use Rattle.lapi_task.specs.Landed.{MayLeave, follower_packet, with_follower};
 
 use crate::packet::append_message;
 use lapi_base::{DataPacket, Event, Events, Head, Leg, Memory, MsgName, Payload};
@@ -11,7 +11,7 @@ use lapi_link::Sender;
 use std::alloc::Global;
 
 /// What the packets have in common, where task `from` sends this leg of the message to task `to`.
-pub fn reply_packet(
+pub fn follower_packet(
     from: u32,
     to: u32,
     name: MsgName,
@@ -19,7 +19,7 @@ pub fn reply_packet(
     head: Head,
     length: u32,
 ) -> DataPacket
-    ensures { result ≡ reply_packet from to name leg head length }
+    ensures { result ≡ follower_packet from to name leg head length }
 {
     DataPacket {
         from,
@@ -46,7 +46,7 @@ pub fn send(
     requires unit { IsUnit unit × (unit ≤ PAYLOAD_ROOM) }
     requires allowed { MayLeave unit (record { packet = packet; bytes = bytes.now }) }
     ensures senders { OnOk result (senders.new.items
-        ≡ with_reply unit (Some (record { packet = packet; bytes = bytes.now })) senders.old.items) }
+        ≡ with_follower unit (Some (record { packet = packet; bytes = bytes.now })) senders.old.items) }
     ensures events { OnOk result (events.new ≡ events.old ++ Copy packet.name ∷ []) }
 {
     let name = packet.name;

@@ -1,14 +1,14 @@
 //! What follows a landing: a notice that the message is complete, or an answer with what stood at its target.
 ghost use Rattle.std.specs.Prelude.{◌≡◌, ℕ, ◌<◌, ◌≤◌, false, ◌∷◌, [], ◌++◌, length, OnOk, Some, option_map};
-ghost use Rattle.lapi_base.specs.declared.head.Head.TheVariants.{Note};
+ghost use Rattle.lapi_base.specs.declared.head.Head.TheVariants.{GetvBack, Note};
 ghost use Rattle.lapi_base.specs.declared.layout.TheConstants.{PAYLOAD_ROOM};
 ghost use Rattle.lapi_base.specs.Record.HeadSays.{noted, answered, follows, asked_pieces};
 ghost use Rattle.lapi_memory.specs.TaskMemory.{IsWithin};
 ghost use Rattle.lapi_vector.specs.Pieces.{AreWithin};
-ghost use Rattle.lapi_task.specs.Landed.{Reply, IsDirect, MayLeave, note_of, back_of, reply, with_reply};
+ghost use Rattle.lapi_task.specs.Landed.{Follower, IsDirect, MayLeave, note_of, back_of, follower, with_follower};
 ghost use Rattle.lapi_task.specs.StandsFor.{task_unit};
 
-use crate::reply::{reply_packet, send};
+use crate::follower::{follower_packet, send};
 use crate::spans::same_spans;
 use crate::task::Task;
 use lapi_base::{Events, Head, Leg, Memory, MsgName, NoteOp, Span, Spans};
@@ -19,7 +19,7 @@ impl Task {
     /// Sends what follows the landing of a message from task `from`. An answer has the bytes as they stand now, so this
     /// comes before the message writes.
     #[tactic(auto, unfolding(lapi_base::specs::Record::HeadSays::follows))]
-    pub(super) fn reply(
+    pub(super) fn follow(
         &mut self,
         alloc: Global,
         from: u32,
@@ -29,10 +29,11 @@ impl Task {
     ) -> Result<(), Memory>
         requires link { (from < length self.old.senders.items) × (task_unit self.old ≤ PAYLOAD_ROOM) }
         requires head { IsDirect head.now × AreWithin (asked_pieces head.now) (length self.old.state.memory) }
-        requires allowed { (x : Reply) → reply self.old.state.number from name head.now self.old.state.memory ≡ Some x
+        requires allowed { (x : Follower)
+            → follower self.old.state.number from name head.now self.old.state.memory ≡ Some x
             → MayLeave (task_unit self.old) x }
-        ensures senders { OnOk result (self.new.senders.items ≡ with_reply (task_unit self.old)
-            (reply self.old.state.number from name head.now self.old.state.memory) self.old.senders.items) }
+        ensures senders { OnOk result (self.new.senders.items ≡ with_follower (task_unit self.old)
+            (follower self.old.state.number from name head.now self.old.state.memory) self.old.senders.items) }
         ensures events { OnOk result (events.new ≡ events.old ++ follows head.now false name) }
         ensures rest { self.new ≡ record self.old { senders = self.new.senders } }
     {
@@ -64,13 +65,7 @@ impl Task {
                 source,
                 dest,
                 ..
-            } => {
-                let back = Head::GetvBack {
-                    org: *org,
-                    dest: same_spans(dest)?,
-                };
-                self.answer_vector(alloc, from, name, back, source, events)
-            }
+            } => self.answer_vector(alloc, from, name, source, *org, dest, events),
             Head::GetBack { .. }
             | Head::GetvBack { .. }
             | Head::RmwBack { .. }
@@ -94,7 +89,7 @@ impl Task {
         requires link { (from < length self.old.senders.items) × (task_unit self.old ≤ PAYLOAD_ROOM) }
         requires allowed { (c : ℕ) → cmpl ≡ Some c
             → MayLeave (task_unit self.old) (note_of self.old.state.number from name (Note op c)) }
-        ensures senders { OnOk result (self.new.senders.items ≡ with_reply (task_unit self.old)
+        ensures senders { OnOk result (self.new.senders.items ≡ with_follower (task_unit self.old)
             (option_map (λ c. note_of self.old.state.number from name (Note op c)) cmpl) self.old.senders.items) }
         ensures events { OnOk result (events.new ≡ events.old ++ noted name cmpl) }
         ensures rest { self.new ≡ record self.old { senders = self.new.senders } }
@@ -103,7 +98,7 @@ impl Task {
             return Ok(());
         };
         let head = Head::Note { op, cmpl };
-        let packet = reply_packet(self.state.number, from, name, Leg::Note, head, 0);
+        let packet = follower_packet(self.state.number, from, name, Leg::Note, head, 0);
         send(
             alloc,
             &mut self.senders,
@@ -128,14 +123,14 @@ impl Task {
         requires within { IsWithin self.old.state.memory span.at span.len }
         requires allowed { MayLeave (task_unit self.old)
             (back_of self.old.state.number from name (span ∷ []) self.old.state.memory head) }
-        ensures senders { OnOk result (self.new.senders.items ≡ with_reply (task_unit self.old)
+        ensures senders { OnOk result (self.new.senders.items ≡ with_follower (task_unit self.old)
             (Some (back_of self.old.state.number from name (span ∷ []) self.old.state.memory head))
             self.old.senders.items) }
         ensures events { OnOk result (events.new ≡ events.old ++ answered name) }
         ensures rest { self.new ≡ record self.old { senders = self.new.senders } }
     {
         let bytes = self.state.memory.read(&span);
-        let packet = reply_packet(self.state.number, from, name, Leg::Back, head, span.len);
+        let packet = follower_packet(self.state.number, from, name, Leg::Back, head, span.len);
         send(
             alloc,
             &mut self.senders,
@@ -152,25 +147,30 @@ impl Task {
         alloc: Global,
         from: u32,
         name: MsgName,
-        head: Head,
         pieces: &Spans,
+        org: Option<u32>,
+        dest: &Spans,
         events: &mut Events,
     ) -> Result<(), Memory>
         requires link { (from < length self.old.senders.items) × (task_unit self.old ≤ PAYLOAD_ROOM) }
         requires within { AreWithin pieces.now (length self.old.state.memory) }
         requires allowed { MayLeave (task_unit self.old)
-            (back_of self.old.state.number from name pieces.now self.old.state.memory head) }
-        ensures senders { OnOk result (self.new.senders.items ≡ with_reply (task_unit self.old)
-            (Some (back_of self.old.state.number from name pieces.now self.old.state.memory head))
+            (back_of self.old.state.number from name pieces.now self.old.state.memory (GetvBack org dest.now)) }
+        ensures senders { OnOk result (self.new.senders.items ≡ with_follower (task_unit self.old)
+            (Some (back_of self.old.state.number from name pieces.now self.old.state.memory (GetvBack org dest.now)))
             self.old.senders.items) }
         ensures events { OnOk result (events.new ≡ events.old ++ answered name) }
         ensures rest { self.new ≡ record self.old { senders = self.new.senders } }
     {
+        let head = Head::GetvBack {
+            org,
+            dest: same_spans(dest)?,
+        };
         let pieces = Pieces::list(same_spans(pieces)?);
         let bytes = pieces.gather(alloc, &self.state.memory)?;
         let bytes = bytes.as_slice();
         let length = bytes.len() as u32;
-        let packet = reply_packet(self.state.number, from, name, Leg::Back, head, length);
+        let packet = follower_packet(self.state.number, from, name, Leg::Back, head, length);
         send(
             alloc,
             &mut self.senders,
