@@ -1,5 +1,5 @@
-use Rattle.std.proofs.Common.{ℕ, ◌<◌, length, List, [], ◌∷◌, ◌++◌, refl, sym, ap, ◌∙◌, subst}
-use Rattle.lapi_base.proofs.Results.{on-ok, on-oks}
+use Rattle.std.proofs.Common.{◌<◌, length, [], ◌∷◌, ◌++◌, refl, sym, ap, ◌∙◌, subst}
+use Rattle.lapi_base.proofs.Results.{on-oks}
 use Rattle.lapi_base.specs.declared.event.Event.TheVariants.{End}
 use Rattle.lapi_base.specs.Record.HeadSays.{noted}
 use Rattle.lapi_jobs.specs.declared.pending.Pending.{Pending}
