@@ -24,12 +24,7 @@ use std::alloc::Global;
 
 impl Task {
     /// A worker begins the oldest job that waits.
-    pub fn begin(
-        &mut self,
-        alloc: Global,
-        worker: u32,
-        out: &mut Outcome,
-    ) -> Result<Begun, Memory>
+    pub fn begin(&mut self, alloc: Global, worker: u32, out: &mut Outcome) -> Result<Begun, Memory>
         requires record { IsAtSome self.old }
         requires worker { worker < self.old.sizes.workers }
         ensures effect { OnOk result (Performs (λ script rules r t. begin script rules r t worker)
@@ -76,7 +71,8 @@ impl Task {
             task: self.state.number,
             worker: finished.worker,
         })?;
-        take_effect(alloc, &mut self.state.memory, finished.effect, &finished.buffer)?;
+        let memory = &mut self.state.memory;
+        take_effect(alloc, memory, finished.effect, &finished.buffer)?;
         announce(&mut self.state.counters, job.target_counter)?;
         self.tell_origin(alloc, job.name, job.completion_counter, &mut out.events)
     }
