@@ -1,5 +1,5 @@
 -- What the draws of a batch give.
-use Rattle.std.proofs.Common.{◌≡◌, ℕ, ◌+◌, ◌-◌, ◌%◌, ◌<◌, ◌≤◌, Bool, true, false, cond, [], ◌∷◌, refl, ap, ◌∙◌, arith}
+use Rattle.std.proofs.Common.{◌≡◌, ℕ, ◌+◌, ◌-◌, ◌%◌, ◌<◌, ◌≤◌, [], ◌∷◌, refl, ap, ◌∙◌, arith}
 use Rattle.lapi_base.specs.Record.Below.{below}
 use Rattle.lapi_base.specs.Record.Operations.{numbers_below}
 use Rattle.lapi_gen.specs.declared.form.TheConstants.{TASKS, KINDS, LONGEST, LOSS}
@@ -7,7 +7,7 @@ use Rattle.lapi_gen.specs.declared.kind.Kind.{Kind}
 use Rattle.lapi_gen.specs.declared.kind.Kind.TheVariants.{Put, Get, Rmw, Am}
 use Rattle.lapi_gen.specs.declared.batch.Batch.{Batch}
 use Rattle.lapi_gen.specs.Draws.{pick, Stream}
-use Rattle.lapi_gen.specs.Batches.{kind_of, requests_of, answers_of, first_draw, drawn, batch_of, IsBatch, requests}
+use Rattle.lapi_gen.specs.Batches.{most_packets, kind_of, requests_of, answers_of, first_draw, drawn, batch_of, IsBatch, requests}
 
 -- the stream stands before draw i of batch b
 pub record Stands (number b i : ℕ) (s : Stream) : Type 0 where
@@ -37,13 +37,13 @@ some_requests Get len = omega arith
 some_requests Rmw len = omega arith
 some_requests Am len = omega arith
 
-pub few_requests : (kind : Kind) (len : ℕ) → len ≤ LONGEST → requests_of kind len ≤ 17
+pub few_requests : (kind : Kind) (len : ℕ) → len ≤ LONGEST → requests_of kind len ≤ most_packets
 few_requests Put len h = omega arith
 few_requests Get len h = omega arith
 few_requests Rmw len h = omega arith
 few_requests Am len h = omega arith
 
-pub few_answers : (kind : Kind) (len : ℕ) → len ≤ LONGEST → answers_of kind len ≤ 17
+pub few_answers : (kind : Kind) (len : ℕ) → len ≤ LONGEST → answers_of kind len ≤ most_packets
 few_answers Put len h = omega arith
 few_answers Get len h = omega arith
 few_answers Rmw len h = omega arith

@@ -1,5 +1,5 @@
 -- The generated schedule is valid.
-use Rattle.std.proofs.Common.{◌≡◌, ℕ, ◌+◌, ◌%◌, ◌<◌, ◌≤◌, Bool, true, false, cond, List, [], ◌∷◌, ◌++◌, length, refl, sym, subst, arith}
+use Rattle.std.proofs.Common.{◌≡◌, ℕ, ◌+◌, ◌%◌, ◌<◌, ◌≤◌, Bool, true, false, cond, List, [], ◌∷◌, length, refl, sym, subst, arith}
 use Rattle.std.specs.Prelude.{◌==◌}
 use Rattle.std.specs.List.{AllByRecursion, flat_map}
 use Rattle.lapi_base.specs.declared.script.Script.{Script}
@@ -9,7 +9,7 @@ use Rattle.lapi_base.specs.Packet.Spelling.{spells_packet}
 use Rattle.lapi_base.specs.Record.Operations.{numbers_below}
 use Rattle.lapi_base.specs.Record.Valid.{ValidLine, ValidSchedule}
 use Rattle.lapi_base.proofs.ListLaws.{all-append}
-use Rattle.lapi_gen.specs.declared.form.TheConstants.{TASKS, WORKERS, STORES, BATCHES}
+use Rattle.lapi_gen.specs.declared.form.TheConstants.{LAYOUT, TASKS, WORKERS, STORES, BATCHES}
 use Rattle.lapi_gen.specs.declared.kind.Kind.{Kind}
 use Rattle.lapi_gen.specs.declared.kind.Kind.TheVariants.{Put, Get, Rmw, Am}
 use Rattle.lapi_gen.specs.declared.batch.Batch.{Batch}
@@ -18,12 +18,12 @@ use Rattle.lapi_gen.specs.declared.part.Part.{Part}
 use Rattle.lapi_gen.specs.declared.part.Part.TheVariants.{Steps, Polls, Requests, Acknowledgements, Again, Jobs, Answers, Returns}
 use Rattle.lapi_gen.specs.Batches.{requests, kept, answers, batch_of, IsBatch}
 use Rattle.lapi_gen.specs.Scripts.{script_of}
-use Rattle.lapi_gen.specs.Schedules.{link_of, deliveries, deliver, step, jobs, link_lines, part_lines, batch_lines, store_lines, schedule_of}
+use Rattle.lapi_gen.specs.Schedules.{IsLink, link_of, deliveries, deliver, step, jobs, link_lines, part_lines, batch_lines, store_lines, schedule_of}
 use Rattle.lapi_gen.proofs.Numbered.{all_map, all_flat}
 use Rattle.lapi_gen.proofs.Drawn.{batch_bounds, few_requests, few_answers, some_requests}
-use Rattle.lapi_gen.proofs.ScheduleSizes.{IsLink, link_bounds, few_in_schedule}
+use Rattle.lapi_gen.proofs.ScheduleSizes.{link_bounds, few_in_schedule}
 
-module _ (script : Script) (spells : List ℕ → Bool) (layout : script.layout ≡ 1) (tasks : script.tasks ≡ TASKS) (workers : script.workers ≡ WORKERS) where
+module _ (script : Script) (spells : List ℕ → Bool) (layout : script.layout ≡ LAYOUT) (tasks : script.tasks ≡ TASKS) (workers : script.workers ≡ WORKERS) where
   if_valid : (b : Bool) (xs : List Line) → AllByRecursion (ValidLine script spells) xs → AllByRecursion (ValidLine script spells) (cond b xs [])
   if_valid true xs h = h
   if_valid false xs h = tt

@@ -17,6 +17,10 @@ kind_of n = cond (n == 0) Put (cond (n == 1) Get (cond (n == 2) Rmw Am))
 abbrev pub packets : (len : ℕ) → ℕ
 packets len = fragments_in FIRST_UNIT len
 
+-- what a request has at most, and an answer
+abbrev pub most_packets : ℕ
+most_packets = packets LONGEST
+
 -- how many packets a request of the kind has, and its answer
 abbrev pub requests_of : Kind → (len : ℕ) → ℕ
 requests_of Put len = packets len
@@ -30,9 +34,13 @@ answers_of Get len = packets len
 answers_of Rmw len = 1
 answers_of Am len = 1
 
--- The stores take a draw for each of their bytes, and then each batch four, and one for each task.
+-- the draw of the first turn in a batch, after its distance, kind, length and loss
+abbrev pub first_turn : ℕ
+first_turn = 4
+
+-- the first draw of batch b: the stores take one for each byte, and then each batch one for each task and those before
 abbrev pub first_draw : (b : ℕ) → ℕ
-first_draw b = TASKS * STORES * STORED + (4 + TASKS) * b
+first_draw b = TASKS * STORES * STORED + (first_turn + TASKS) * b
 
 module _ (number b : ℕ) where
   -- draw i of batch b
@@ -48,7 +56,7 @@ module _ (number b : ℕ) where
         kind = kind;
         len = len;
         lost = drawn 3 LOSS;
-        turns = map (λ a. drawn (4 + a) (requests_of kind len)) (numbers_below TASKS);
+        turns = map (λ a. drawn (first_turn + a) (requests_of kind len)) (numbers_below TASKS);
       }
 
 abbrev pub batches_of : (number : ℕ) → List Batch

@@ -1,19 +1,17 @@
 -- The generated schedule. This is the project's own.
-use Rattle.std.specs.Prelude.{ℕ, ◌+◌, ◌%◌, ◌==◌, cond, List, [], ◌∷◌, ◌++◌, map, slice_index}
+use Rattle.std.specs.Prelude.{ℕ, ◌+◌, ◌*◌, ◌%◌, ◌==◌, ◌<◌, ◌≤◌, cond, List, [], ◌∷◌, ◌++◌, map, slice_index}
 use Rattle.std.specs.List.{flat_map, sum_by}
 use Rattle.lapi_base.specs.declared.schedule.Act.TheVariants as Act
 use Rattle.lapi_base.specs.declared.schedule.Line.{Line}
-use Rattle.lapi_base.specs.declared.input.Input.{Input}
 use Rattle.lapi_base.specs.Record.Operations.{numbers_below}
-use Rattle.lapi_gen.specs.declared.form.TheConstants.{TASKS, STORES, BATCHES}
+use Rattle.lapi_gen.specs.declared.form.TheConstants.{TASKS, STORES, BATCHES, WORKER}
 use Rattle.lapi_gen.specs.declared.kind.Kind.{Kind}
 use Rattle.lapi_gen.specs.declared.kind.Kind.TheVariants.{Put, Get, Rmw, Am}
 use Rattle.lapi_gen.specs.declared.batch.Batch.{Batch}
 use Rattle.lapi_gen.specs.declared.link.Link.{Link}
 use Rattle.lapi_gen.specs.declared.part.Part.{Part}
 use Rattle.lapi_gen.specs.declared.part.Part.TheVariants.{Steps, Polls, Requests, Acknowledgements, Again, Jobs, Answers, Returns}
-use Rattle.lapi_gen.specs.Batches.{batch_of, target, requests, kept, answers}
-use Rattle.lapi_gen.specs.Scripts.{script_of}
+use Rattle.lapi_gen.specs.Batches.{most_packets, batch_of, target, requests, kept, answers}
 
 -- A line's lane is the first task that it names.
 abbrev pub step : (a : ℕ) → Line
@@ -29,10 +27,10 @@ abbrev pub deliver : (a b k : ℕ) → Line
 deliver a b k = record { lane = a; act = Act.Deliver a b k }
 
 abbrev pub begin : (t : ℕ) → Line
-begin t = record { lane = t; act = Act.Begin t 0 }
+begin t = record { lane = t; act = Act.Begin t WORKER }
 
 abbrev pub end : (t : ℕ) → Line
-end t = record { lane = t; act = Act.End t 0 }
+end t = record { lane = t; act = Act.End t WORKER }
 
 -- so many entries of wire (a, b), from one on
 abbrev pub deliveries : (a b first count : ℕ) → List Line
@@ -66,7 +64,18 @@ link_of number b a =
       turn = slice_index (batch_of number b).turns a;
     }
 
--- a worker takes the job of an active message
+-- the bounds of a link; no batch adds more than three times the packets of a longest message to a wire
+abbrev pub most_added : ℕ
+most_added = 3 * most_packets
+
+pub record IsLink (link : Link) : Type 0 where
+  pub from : link.from < TASKS
+  pub to : link.to < TASKS
+  pub there : link.there ≤ most_added * BATCHES
+  pub back : link.back ≤ most_added * BATCHES
+  pub turn : link.turn < most_packets
+
+-- a worker takes the job of an active message and ends it
 abbrev pub jobs : Kind → (t : ℕ) → List Line
 jobs Am t = begin t ∷ end t ∷ []
 jobs Put t = []
@@ -115,6 +124,3 @@ store_lines a = map (λ _. step a) (numbers_below STORES)
 
 unfoldable pub schedule_of : (number : ℕ) → List Line
 schedule_of number = flat_map store_lines (numbers_below TASKS) ++ flat_map (batch_lines number) (numbers_below BATCHES)
-
-abbrev pub generated_input : (number : ℕ) → Input
-generated_input number = record { script = script_of number; schedule = schedule_of number }

@@ -6,7 +6,7 @@ use Rattle.lapi_base.specs.declared.statement.RmwOp.TheVariants.{Add}
 use Rattle.lapi_base.specs.declared.statement.Statement.{Statement}
 use Rattle.lapi_base.specs.declared.script.Script.{Script}
 use Rattle.lapi_base.specs.Record.Operations.{numbers_below}
-use Rattle.lapi_gen.specs.declared.form.TheConstants.{TASKS, MEMORY, COUNTERS, WORKERS, STORES, STORED, BYTE, BATCHES, AREA, WORD, OLD_WORD, SUMS, HEADER_HANDLER, COMPLETION_HANDLER, TARGET_COUNTER, ORIGIN_COUNTER, COMPLETION_COUNTER}
+use Rattle.lapi_gen.specs.declared.form.TheConstants.{LAYOUT, TASKS, MEMORY, COUNTERS, WORKERS, STORES, STORED, BYTE, BATCHES, DATA, AREA, WORD, OLD_WORD, SUMS, HEADER_HANDLER, COMPLETION_HANDLER, TARGET_COUNTER, ORIGIN_COUNTER, COMPLETION_COUNTER}
 use Rattle.lapi_gen.specs.declared.kind.Kind.{Kind}
 use Rattle.lapi_gen.specs.declared.kind.Kind.TheVariants.{Put, Get, Rmw, Am}
 use Rattle.lapi_gen.specs.declared.batch.Batch.{Batch}
@@ -34,11 +34,11 @@ user_header a = to_be_bytes w32 (area a) ++ to_be_bytes w32 (SUMS + 4 * a) ++ to
 
 -- what task a calls in batch b, by the batch's kind and length and the target t
 abbrev pub call : Kind → (len t a b : ℕ) → Statement
-call Put len t a b = Statement.Put t (Plain (area a)) 0 len (Some TARGET_COUNTER) (Some ORIGIN_COUNTER) (Some COMPLETION_COUNTER)
-call Get len t a b = Statement.Get t (Plain 0) (area a) len (Some TARGET_COUNTER) (Some ORIGIN_COUNTER)
+call Put len t a b = Statement.Put t (Plain (area a)) DATA len (Some TARGET_COUNTER) (Some ORIGIN_COUNTER) (Some COMPLETION_COUNTER)
+call Get len t a b = Statement.Get t (Plain DATA) (area a) len (Some TARGET_COUNTER) (Some ORIGIN_COUNTER)
 call Rmw len t a b = Statement.Rmw t Add (Plain WORD) (b + 1) 0 OLD_WORD (Some ORIGIN_COUNTER)
 call Am len t a b =
-    Statement.Am t HEADER_HANDLER (user_header a) 0 len (Some TARGET_COUNTER) (Some ORIGIN_COUNTER) (Some COMPLETION_COUNTER)
+    Statement.Am t HEADER_HANDLER (user_header a) DATA len (Some TARGET_COUNTER) (Some ORIGIN_COUNTER) (Some COMPLETION_COUNTER)
 
 abbrev pub called : Batch → (a b : ℕ) → Statement
 called batch a b = call batch.kind batch.len (target batch a) a b
@@ -48,7 +48,7 @@ statements_of number a = map (store number a) (numbers_below STORES) ++ map (λ 
 
 unfoldable pub script_of : (number : ℕ) → Script
 script_of number = record {
-  layout = 1;
+  layout = LAYOUT;
   tasks = TASKS;
   memory = MEMORY;
   counters = COUNTERS;

@@ -1,5 +1,8 @@
 //! The numbers of the generated input's form.
 
+/// The layout of the script's packets.
+pub const LAYOUT: u32 = 1;
+
 /// The tasks of the script.
 pub const TASKS: usize = 5;
 
@@ -30,11 +33,13 @@ pub const KINDS: u32 = 4;
 /// The most bytes that a call moves.
 pub const LONGEST: u32 = 4_096;
 
-/// One batch in so many loses a packet on each link.
+/// On average one batch in so many loses a packet on each link.
 pub const LOSS: u32 = 2;
 
-/// The bytes of the memory that each task may write by its puts, gets and messages. The first of these parts has as
-/// many before it.
+/// Where the bytes lie that calls move, which were stored there.
+pub const DATA: u32 = 0;
+
+/// The bytes of each part of a memory to which one task's calls move bytes. The first part has as many before it.
 pub const AREA: u32 = 8_192;
 
 /// Where the word lies that read-modify-writes add to.
@@ -43,14 +48,17 @@ pub const WORD: u32 = 4_096;
 /// Where they write what that word was.
 pub const OLD_WORD: u32 = 4_104;
 
-/// Where the first of five words lies, one for each origin, that completion handlers write.
+/// Where the words lie that completion handlers write, one for each origin.
 pub const SUMS: u32 = 4_112;
 
-/// The header handler that takes place and completion handler from the user header.
+/// The header handler that takes all that it answers from the user header.
 pub const HEADER_HANDLER: u32 = 1;
 
 /// The completion handler that writes the sum of the bytes.
 pub const COMPLETION_HANDLER: u32 = 1;
+
+/// The worker that runs the completion handlers.
+pub const WORKER: u32 = 0;
 
 /// The counter of each call at the target.
 pub const TARGET_COUNTER: u32 = 0;

@@ -1,7 +1,7 @@
 ghost use Rattle.std.specs.Prelude.{◌≡◌, IfOk};
 ghost use Rattle.lapi_base.specs.Packet.Spelling.{spells_packet};
 ghost use Rattle.lapi_base.specs.Record.Valid.{ValidScript, ValidSchedule};
-ghost use Rattle.lapi_gen.specs.Schedules.{generated_input};
+ghost use Rattle.lapi_gen.specs.Inputs.{generated_input};
 
 use crate::draws::Draws;
 use crate::schedule::schedule;

@@ -1,8 +1,9 @@
-ghost use Rattle.std.specs.Prelude.{◌≡◌, ◌<◌, ◌≤◌, [], ◌∷◌, ◌++◌, OnOk};
-ghost use Rattle.lapi_gen.specs.Batches.{IsBatch};
-ghost use Rattle.lapi_gen.specs.Schedules.{step, poll, tick, deliver, begin, end, deliveries, deliveries_from_turn, again, returns, jobs, link_lines};
+ghost use Rattle.std.specs.Prelude.{◌≡◌, ◌+◌, ◌^◌, ◌<◌, ◌≤◌, [], ◌∷◌, ◌++◌, OnOk};
+ghost use Rattle.lapi_gen.specs.Batches.{IsBatch, most_packets};
+ghost use Rattle.lapi_gen.specs.Schedules.{IsLink, step, poll, tick, deliver, begin, end, deliveries, deliveries_from_turn, again, returns, jobs, link_lines};
 
 use crate::batch::Batch;
+use crate::form::WORKER;
 use crate::kind::Kind;
 use crate::link::Link;
 use crate::part::Part;
@@ -11,7 +12,7 @@ use lapi_base::{Act, Line, Memory, Schedule};
 /// Appends the lines of a part of a batch on a link.
 pub fn lines(schedule: &mut Schedule, batch: &Batch, link: &Link, part: Part) -> Result<(), Memory>
     requires batch { IsBatch batch.now }
-    requires few { (link.now.there ≤ 2000) × (link.now.back ≤ 2000) × (link.now.turn < 20) }
+    requires link { IsLink link.now }
     ensures { OnOk result (schedule.new ≡ schedule.old ++ link_lines batch.now link.now part) }
 {
     match part {
@@ -40,7 +41,8 @@ fn deliveries_from_turn(
     packets: u32,
     count: u32,
 ) -> Result<(), Memory>
-    requires { (link.now.there ≤ 2000) × (link.now.turn < 20) × (0 < packets) × (count ≤ 20) }
+    requires link { IsLink link.now }
+    requires packets { (0 < packets) × (packets ≤ most_packets) × (count ≤ packets) }
     ensures { OnOk result (schedule.new ≡ schedule.old ++ deliveries_from_turn link.now packets count) }
 {
     for j in 0..count {
@@ -52,7 +54,7 @@ fn deliveries_from_turn(
 
 /// Hands over so many entries of a wire, in order.
 fn deliveries(schedule: &mut Schedule, a: u32, b: u32, first: u32, count: u32) -> Result<(), Memory>
-    requires { (first ≤ 3000) × (count ≤ 20) }
+    requires { first + count < 2 ^ 32 }
     ensures { OnOk result (schedule.new ≡ schedule.old ++ deliveries a b first count) }
 {
     for j in 0..count {
@@ -64,7 +66,7 @@ fn deliveries(schedule: &mut Schedule, a: u32, b: u32, first: u32, count: u32) -
 /// What was lost is sent again, handed over and acknowledged.
 fn again(schedule: &mut Schedule, batch: &Batch, link: &Link) -> Result<(), Memory>
     requires batch { IsBatch batch.now }
-    requires few { (link.now.there ≤ 2000) × (link.now.back ≤ 2000) }
+    requires link { IsLink link.now }
     ensures { OnOk result (schedule.new ≡ schedule.old ++ again batch.now link.now) }
 {
     tick(schedule, link.from)?;
@@ -75,7 +77,7 @@ fn again(schedule: &mut Schedule, batch: &Batch, link: &Link) -> Result<(), Memo
 /// The answer is handed over, and what acknowledges it.
 fn returns(schedule: &mut Schedule, batch: &Batch, link: &Link) -> Result<(), Memory>
     requires batch { IsBatch batch.now }
-    requires few { (link.now.there ≤ 2000) × (link.now.back ≤ 2000) }
+    requires link { IsLink link.now }
     ensures { OnOk result (schedule.new ≡ schedule.old ++ returns batch.now link.now) }
 {
     let first = link.back + batch.requests();
@@ -124,13 +126,27 @@ fn deliver(schedule: &mut Schedule, a: u32, b: u32, k: u32) -> Result<(), Memory
 fn begin(schedule: &mut Schedule, task: u32) -> Result<(), Memory>
     ensures { OnOk result (schedule.new ≡ schedule.old ++ begin task ∷ []) }
 {
-    push(schedule, task, Act::Begin { task, worker: 0 })
+    push(
+        schedule,
+        task,
+        Act::Begin {
+            task,
+            worker: WORKER,
+        },
+    )
 }
 
 fn end(schedule: &mut Schedule, task: u32) -> Result<(), Memory>
     ensures { OnOk result (schedule.new ≡ schedule.old ++ end task ∷ []) }
 {
-    push(schedule, task, Act::End { task, worker: 0 })
+    push(
+        schedule,
+        task,
+        Act::End {
+            task,
+            worker: WORKER,
+        },
+    )
 }
 
 fn push(schedule: &mut Schedule, lane: u32, act: Act) -> Result<(), Memory>

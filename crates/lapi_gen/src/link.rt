@@ -1,7 +1,7 @@
-ghost use Rattle.std.specs.Prelude.{◌≡◌, ◌<◌, ◌≤◌};
+ghost use Rattle.std.specs.Prelude.{◌≡◌, ◌*◌, ◌<◌, ◌≤◌};
 ghost use Rattle.lapi_gen.specs.declared.form.TheConstants.{TASKS, BATCHES};
 ghost use Rattle.lapi_gen.specs.Batches.{IsBatch};
-ghost use Rattle.lapi_gen.specs.Schedules.{adds, entries, link_of};
+ghost use Rattle.lapi_gen.specs.Schedules.{adds, most_added, entries, link_of, IsLink};
 
 use crate::batch::Batch;
 use crate::draws::Draws;
@@ -23,7 +23,7 @@ pub struct Link {
 pub fn link_at(draws: &Draws, b: u32, a: u32) -> Link
     requires { (b < BATCHES) × (a < TASKS) }
     ensures link { result ≡ link_of draws.now b a }
-    ensures few { (result.there ≤ 2000) × (result.back ≤ 2000) × (result.turn < 20) }
+    ensures bounds { IsLink result }
 {
     let batch = draws.batch(b);
     let to = batch.target(a);
@@ -40,7 +40,7 @@ pub fn link_at(draws: &Draws, b: u32, a: u32) -> Link
 fn entries(draws: &Draws, b: u32, x: u32, y: u32) -> u32
     requires { (b < BATCHES) × (x < TASKS) × (y < TASKS) }
     ensures entries { result ≡ entries draws.now b x y }
-    ensures few { result ≤ 2000 }
+    ensures few { result ≤ most_added * b }
 {
     let mut total = 0;
     for c in 0..b {
@@ -53,7 +53,7 @@ fn entries(draws: &Draws, b: u32, x: u32, y: u32) -> u32
 fn adds(batch: &Batch, x: u32, y: u32) -> u32
     requires { (x < TASKS) × (y < TASKS) × IsBatch batch.now }
     ensures adds { result ≡ adds batch.now x y }
-    ensures few { result ≤ 40 }
+    ensures few { result ≤ most_added }
 {
     if y == batch.target(x) {
         batch.requests() + batch.lost + batch.answers()

@@ -6,8 +6,8 @@ ghost use Rattle.lapi_gen.specs.Scripts.{area, user_header, called, statements_o
 use crate::batch::Batch;
 use crate::draws::Draws;
 use crate::form::{
-    AREA, BATCHES, COMPLETION_COUNTER, COMPLETION_HANDLER, COUNTERS, HEADER_HANDLER, MEMORY,
-    OLD_WORD, ORIGIN_COUNTER, STORED, STORES, SUMS, TARGET_COUNTER, TASKS, WORD, WORKERS,
+    AREA, BATCHES, COMPLETION_COUNTER, COMPLETION_HANDLER, COUNTERS, DATA, HEADER_HANDLER, LAYOUT,
+    MEMORY, OLD_WORD, ORIGIN_COUNTER, STORED, STORES, SUMS, TARGET_COUNTER, TASKS, WORD, WORKERS,
 };
 use crate::kind::Kind;
 use lapi_base::{Addr, Bytes, Memory, RmwOp, Script, Statement, StatementLists, Statements};
@@ -21,7 +21,7 @@ pub fn script(alloc: Global, draws: &Draws) -> Result<Script, Memory>
         lists.push(statements(alloc, draws, a)?)?;
     }
     Ok(Script {
-        layout: 1,
+        layout: LAYOUT,
         tasks: TASKS as u32,
         memory: MEMORY,
         counters: COUNTERS,
@@ -60,7 +60,7 @@ fn called(alloc: Global, batch: &Batch, a: u32, b: u32) -> Result<Statement, Mem
         Kind::Put => Statement::Put {
             target,
             to: Addr::Plain(area(a)),
-            from: 0,
+            from: DATA,
             len: batch.len,
             tgt: Some(TARGET_COUNTER),
             org: Some(ORIGIN_COUNTER),
@@ -68,7 +68,7 @@ fn called(alloc: Global, batch: &Batch, a: u32, b: u32) -> Result<Statement, Mem
         },
         Kind::Get => Statement::Get {
             target,
-            from: Addr::Plain(0),
+            from: Addr::Plain(DATA),
             to: area(a),
             len: batch.len,
             tgt: Some(TARGET_COUNTER),
@@ -87,7 +87,7 @@ fn called(alloc: Global, batch: &Batch, a: u32, b: u32) -> Result<Statement, Mem
             target,
             handler: HEADER_HANDLER,
             header: user_header(alloc, a)?,
-            from: 0,
+            from: DATA,
             len: batch.len,
             tgt: Some(TARGET_COUNTER),
             org: Some(ORIGIN_COUNTER),
