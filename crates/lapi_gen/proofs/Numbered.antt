@@ -26,6 +26,19 @@ flat_next f front n =
     ∙ ap (λ xs. front ++ xs) (sym (flat_map-push f (numbers_below n) n))
     ∙ ap (λ ns. front ++ flat_map f ns) (sym (numbers_below-more n))
 
+-- the same without a front
+pub map_first : {A : Type 0} (f : ℕ → A) → [] ≡ map f (numbers_below 0)
+map_first f = map_none f []
+
+pub map_more : {A : Type 0} (f : ℕ → A) (n : ℕ) → map f (numbers_below n) ++ f n ∷ [] ≡ map f (numbers_below (n + 1))
+map_more f n = map_next f [] n
+
+pub flat_first : {A : Type 0} (f : ℕ → List A) → [] ≡ flat_map f (numbers_below 0)
+flat_first f = flat_none f []
+
+pub flat_more : {A : Type 0} (f : ℕ → List A) (n : ℕ) → flat_map f (numbers_below n) ++ f n ≡ flat_map f (numbers_below (n + 1))
+flat_more f n = flat_next f [] n
+
 pub sum_none : (f : ℕ → ℕ) → 0 ≡ sum_by f (numbers_below 0)
 sum_none f = sym (ap (sum_by f) numbers_below-none)
 
@@ -52,13 +65,13 @@ all_map P f (suc n) h =
     subst (AllByRecursion P) (sym (over-more f n))
     (all-append P (map f (numbers_below n)) (f n ∷ []) (all_map P f n (λ k lt. h k (let q : k < suc n = omega arith in q))) (h n (let q : n < suc n = omega arith in q), tt))
 
-flat_more : {A : Type 0} (f : ℕ → List A) (n : ℕ) → flat_map f (numbers_below (suc n)) ≡ flat_map f (numbers_below n) ++ f n
-flat_more f n = ap (λ k. flat_map f (numbers_below k)) (let e : suc n ≡ n + 1 = omega arith in e) ∙ sym (flat_next f [] n)
+flat_suc : {A : Type 0} (f : ℕ → List A) (n : ℕ) → flat_map f (numbers_below (suc n)) ≡ flat_map f (numbers_below n) ++ f n
+flat_suc f n = ap (λ k. flat_map f (numbers_below k)) (let e : suc n ≡ n + 1 = omega arith in e) ∙ sym (flat_more f n)
 
 pub all_flat : {A : Type 0} (P : A → Type 0) (f : ℕ → List A) (n : ℕ) → ((k : ℕ) → k < n → AllByRecursion P (f k)) → AllByRecursion P (flat_map f (numbers_below n))
 all_flat P f zero h = subst (λ ks. AllByRecursion P (flat_map f ks)) (sym numbers_below-none) tt
 all_flat P f (suc n) h =
-    subst (AllByRecursion P) (sym (flat_more f n))
+    subst (AllByRecursion P) (sym (flat_suc f n))
     (all-append P (flat_map f (numbers_below n)) (f n) (all_flat P f n (λ k lt. h k (let q : k < suc n = omega arith in q))) (h n (let q : n < suc n = omega arith in q)))
 
 pub length_flat : {A : Type 0} (f : ℕ → List A) (n m : ℕ) → ((k : ℕ) → k < n → length (f k) ≤ m) → length (flat_map f (numbers_below n)) ≤ n * m
@@ -66,7 +79,7 @@ length_flat f zero m h = subst (λ ks. length (flat_map f ks) ≤ 0 * m) (sym nu
 length_flat f (suc n) m h =
     let before = length_flat f n m (λ k lt. h k (let q : k < suc n = omega arith in q)) in
     let last = h n (let q : n < suc n = omega arith in q) in
-    let size = ap length (flat_more f n) ∙ length-append (flat_map f (numbers_below n)) (f n) in
+    let size = ap length (flat_suc f n) ∙ length-append (flat_map f (numbers_below n)) (f n) in
     omega (arith, before, last, size)
 
 pub sum_few : (f : ℕ → ℕ) (n m : ℕ) → ((k : ℕ) → f k ≤ m) → sum_by f (numbers_below n) ≤ m * n

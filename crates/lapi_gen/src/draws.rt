@@ -65,6 +65,7 @@ impl Draws {
 }
 
 /// The bytes of all stores.
+#[tactic(auto, using(crate::proofs::Numbered::map_first, crate::proofs::Numbered::map_more))]
 fn bytes(alloc: Global, random: &mut Random) -> Result<Vec<u8>, Memory>
     requires { random.old.drawn ≡ 0 }
     ensures bytes { IfOk result (λ bytes. bytes.items ≡ stored_bytes random.old.number) }
@@ -77,6 +78,7 @@ fn bytes(alloc: Global, random: &mut Random) -> Result<Vec<u8>, Memory>
     Ok(bytes)
 }
 
+#[tactic(auto, using(crate::proofs::Numbered::map_first, crate::proofs::Numbered::map_more))]
 fn batches(alloc: Global, random: &mut Random) -> Result<Vec<Batch>, Memory>
     requires { random.old.drawn ≡ first_draw 0 }
     ensures { IfOk result (λ batches. batches.items ≡ batches_of random.old.number) }

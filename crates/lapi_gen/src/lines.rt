@@ -35,6 +35,7 @@ pub fn lines(schedule: &mut Schedule, batch: &Batch, link: &Link, part: Part) ->
 }
 
 /// Hands over so many packets of a request that has more, from the link's turn on.
+#[tactic(auto, using(crate::proofs::Numbered::map_none, crate::proofs::Numbered::map_next))]
 fn deliveries_from_turn(
     schedule: &mut Schedule,
     link: &Link,
@@ -53,6 +54,7 @@ fn deliveries_from_turn(
 }
 
 /// Hands over so many entries of a wire, in order.
+#[tactic(auto, using(crate::proofs::Numbered::map_none, crate::proofs::Numbered::map_next))]
 fn deliveries(schedule: &mut Schedule, a: u32, b: u32, first: u32, count: u32) -> Result<(), Memory>
     requires { first + count < 2 ^ 32 }
     ensures { OnOk result (schedule.new ≡ schedule.old ++ deliveries a b first count) }

@@ -37,6 +37,7 @@ pub fn link_at(draws: &Draws, b: u32, a: u32) -> Link
 }
 
 /// How many entries wire (`x`, `y`) has before batch `b`.
+#[tactic(auto, unfolding(crate::specs::Schedules::entries), using(crate::proofs::Numbered::sum_none, crate::proofs::Numbered::sum_next))]
 fn entries(draws: &Draws, b: u32, x: u32, y: u32) -> u32
     requires { (b < BATCHES) × (x < TASKS) × (y < TASKS) }
     ensures entries { result ≡ entries draws.now b x y }

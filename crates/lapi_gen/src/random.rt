@@ -29,6 +29,7 @@ impl Model for Random {
 }
 
 impl Random {
+    #[tactic(auto, using(crate::proofs::Streams::first_state))]
     pub fn new(number: u32) -> Random
         ensures { result ≡ record { number = number; drawn = 0 } }
     {
@@ -40,6 +41,7 @@ impl Random {
     }
 
     /// The next draw, modulo `bound`.
+    #[tactic(auto, using(crate::proofs::Streams::next_state, crate::proofs::Streams::next_pick))]
     pub fn pick(&mut self, bound: u32) -> u32
         requires bound { 0 < bound }
         requires few { self.old.drawn + 1 < 2 ^ 32 }

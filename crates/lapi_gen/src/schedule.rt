@@ -10,6 +10,7 @@ use crate::part::Part;
 use lapi_base::{Memory, Schedule};
 use std::alloc::Global;
 
+#[tactic(auto, unfolding(crate::specs::Schedules::schedule_of), using(crate::proofs::Numbered::flat_first, crate::proofs::Numbered::flat_more, crate::proofs::Numbered::flat_none, crate::proofs::Numbered::flat_next))]
 pub fn schedule(alloc: Global, draws: &Draws) -> Result<Schedule, Memory>
     ensures { IfOk result (λ schedule. schedule ≡ schedule_of draws.now) }
 {

@@ -13,6 +13,7 @@ use crate::kind::Kind;
 use lapi_base::{Addr, Bytes, Memory, RmwOp, Script, Statement, StatementLists, Statements};
 use std::alloc::Global;
 
+#[tactic(auto, unfolding(crate::specs::Scripts::script_of), using(crate::proofs::Numbered::map_first, crate::proofs::Numbered::map_more))]
 pub fn script(alloc: Global, draws: &Draws) -> Result<Script, Memory>
     ensures { IfOk result (λ script. script ≡ script_of draws.now) }
 {
@@ -31,6 +32,7 @@ pub fn script(alloc: Global, draws: &Draws) -> Result<Script, Memory>
 }
 
 /// The statements of task `a`.
+#[tactic(auto, unfolding(crate::specs::Scripts::statements_of), using(crate::proofs::Numbered::map_first, crate::proofs::Numbered::map_more, crate::proofs::Numbered::map_none, crate::proofs::Numbered::map_next))]
 fn statements(alloc: Global, draws: &Draws, a: u32) -> Result<Statements, Memory>
     requires { a < TASKS }
     ensures { IfOk result (λ list. list ≡ statements_of draws.now a) }
