@@ -9,7 +9,7 @@ use Rattle.lapi_base.specs.Packet.Spelling.{spells_packet}
 use Rattle.lapi_base.specs.Record.Operations.{numbers_below}
 use Rattle.lapi_base.specs.Record.Valid.{ValidLine, ValidSchedule}
 use Rattle.lapi_base.proofs.ListLaws.{all-append}
-use Rattle.lapi_gen.specs.declared.form.TheConstants.{LAYOUT, TASKS, WORKERS, STORES, BATCHES}
+use Rattle.lapi_gen.specs.declared.form.TheConstants.{LAYOUT, TASKS, WORKERS, BATCHES}
 use Rattle.lapi_gen.specs.declared.kind.Kind.{Kind}
 use Rattle.lapi_gen.specs.declared.kind.Kind.TheVariants.{Put, Get, Rmw, Am}
 use Rattle.lapi_gen.specs.declared.batch.Batch.{Batch}
@@ -80,7 +80,9 @@ module _ (script : Script) (spells : List ℕ → Bool) (layout : script.layout 
   batch_valid number b lb = parts_valid number b (Steps ∷ Polls ∷ Requests ∷ Acknowledgements ∷ Again ∷ Jobs ∷ Answers ∷ Returns ∷ []) lb
 
   stores_valid : (a : ℕ) → a < TASKS → AllByRecursion (ValidLine script spells) (store_lines a)
-  stores_valid a la = all_map (ValidLine script spells) (λ _. step a) STORES (λ _ _. (omega (arith, la), omega (arith, la, tasks)))
+  stores_valid a la =
+      let one : ValidLine script spells (step a) = (omega (arith, la), omega (arith, la, tasks)) in
+      (one, (one, (one, (one, tt))))
 
   lines_valid : (number : ℕ) → AllByRecursion (ValidLine script spells) (schedule_of number)
   unfolding schedule_of

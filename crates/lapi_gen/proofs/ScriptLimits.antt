@@ -40,7 +40,7 @@ call_valid Am len t a b ll lt la lb = (omega arith, omega arith, (header_valid a
 list_valid : (number a : ℕ) → a < TASKS → (length (statements_of number a) ≤ 512) × AllByRecursion ValidStatement (statements_of number a)
 unfolding statements_of
 list_valid number a la =
-    let calls : ℕ → Statement = λ b. called (batch_of number b) a b in
+    let calls : ℕ → Statement = called number a in
     let target_below : (b : ℕ) → target (batch_of number b) a < TASKS = λ b. omega arith in (
       omega (arith, length-append (map (store number a) (numbers_below STORES)) (map calls (numbers_below BATCHES)), length-over (store number a) STORES, length-over calls BATCHES),
       all-append ValidStatement (map (store number a) (numbers_below STORES)) (map calls (numbers_below BATCHES))

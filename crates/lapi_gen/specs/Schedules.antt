@@ -1,5 +1,5 @@
 -- The generated schedule. This is the project's own.
-use Rattle.std.specs.Prelude.{ℕ, ◌+◌, ◌*◌, ◌%◌, ◌==◌, ◌<◌, ◌≤◌, cond, List, [], ◌∷◌, ◌++◌, map, slice_index}
+use Rattle.std.specs.Prelude.{ℕ, ◌+◌, ◌*◌, ◌%◌, ◌==◌, ◌<◌, ◌≤◌, cond, List, [], ◌∷◌, ◌++◌, map, replicate, slice_index}
 use Rattle.std.specs.List.{flat_map, sum_by}
 use Rattle.lapi_base.specs.declared.schedule.Act.TheVariants as Act
 use Rattle.lapi_base.specs.declared.schedule.Line.{Line}
@@ -118,9 +118,16 @@ part_lines number b part = flat_map (λ a. link_lines (batch_of number b) (link_
 unfoldable pub batch_lines : (number b : ℕ) → List Line
 batch_lines number b = flat_map (part_lines number b) parts
 
--- the steps of the stores of task a
+-- all batches
+abbrev pub batches_lines : (number : ℕ) → List Line
+batches_lines number = flat_map (batch_lines number) (numbers_below BATCHES)
+
+-- the steps of a task's stores, and of all stores
 abbrev pub store_lines : (a : ℕ) → List Line
-store_lines a = map (λ _. step a) (numbers_below STORES)
+store_lines a = replicate STORES (step a)
+
+abbrev pub stores_lines : List Line
+stores_lines = flat_map store_lines (numbers_below TASKS)
 
 unfoldable pub schedule_of : (number : ℕ) → List Line
-schedule_of number = flat_map store_lines (numbers_below TASKS) ++ flat_map (batch_lines number) (numbers_below BATCHES)
+schedule_of number = stores_lines ++ batches_lines number

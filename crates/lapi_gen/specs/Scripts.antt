@@ -9,7 +9,6 @@ use Rattle.lapi_base.specs.Record.Operations.{numbers_below}
 use Rattle.lapi_gen.specs.declared.form.TheConstants.{LAYOUT, TASKS, MEMORY, COUNTERS, WORKERS, STORES, STORED, BYTE, BATCHES, DATA, AREA, WORD, OLD_WORD, SUMS, HEADER_HANDLER, COMPLETION_HANDLER, TARGET_COUNTER, ORIGIN_COUNTER, COMPLETION_COUNTER}
 use Rattle.lapi_gen.specs.declared.kind.Kind.{Kind}
 use Rattle.lapi_gen.specs.declared.kind.Kind.TheVariants.{Put, Get, Rmw, Am}
-use Rattle.lapi_gen.specs.declared.batch.Batch.{Batch}
 use Rattle.lapi_gen.specs.Draws.{pick}
 use Rattle.lapi_gen.specs.Batches.{first_draw, batch_of, target}
 
@@ -40,11 +39,19 @@ call Rmw len t a b = Statement.Rmw t Add (Plain WORD) (b + 1) 0 OLD_WORD (Some O
 call Am len t a b =
     Statement.Am t HEADER_HANDLER (user_header a) DATA len (Some TARGET_COUNTER) (Some ORIGIN_COUNTER) (Some COMPLETION_COUNTER)
 
-abbrev pub called : Batch → (a b : ℕ) → Statement
-called batch a b = call batch.kind batch.len (target batch a) a b
+abbrev pub called : (number a b : ℕ) → Statement
+called number a b =
+    let drawn = batch_of number b in
+    call drawn.kind drawn.len (target drawn a) a b
+
+abbrev pub stores_of : (number a : ℕ) → List Statement
+stores_of number a = map (store number a) (numbers_below STORES)
+
+abbrev pub calls_of : (number a : ℕ) → List Statement
+calls_of number a = map (called number a) (numbers_below BATCHES)
 
 unfoldable pub statements_of : (number a : ℕ) → List Statement
-statements_of number a = map (store number a) (numbers_below STORES) ++ map (λ b. called (batch_of number b) a b) (numbers_below BATCHES)
+statements_of number a = stores_of number a ++ calls_of number a
 
 unfoldable pub script_of : (number : ℕ) → Script
 script_of number = record {

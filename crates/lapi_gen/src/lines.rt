@@ -18,7 +18,7 @@ pub fn lines(schedule: &mut Schedule, batch: &Batch, link: &Link, part: Part) ->
     match part {
         Part::Steps => step(schedule, link.from),
         Part::Polls => poll(schedule, link.from),
-        Part::Requests => { deliveries_from_turn(schedule, link, batch.requests(), batch.kept()) },
+        Part::Requests => { deliveries_from_turn(schedule, link, batch.requests(), batch.kept()) }
         Part::Acknowledgements => {
             deliveries(schedule, link.to, link.from, link.back, batch.kept())
         }

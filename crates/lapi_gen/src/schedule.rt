@@ -1,6 +1,6 @@
 ghost use Rattle.std.specs.Prelude.{◌≡◌, ◌<◌, ◌++◌, OnOk, IfOk};
 ghost use Rattle.lapi_gen.specs.declared.form.TheConstants.{BATCHES};
-ghost use Rattle.lapi_gen.specs.Schedules.{part_lines, batch_lines, store_lines, schedule_of};
+ghost use Rattle.lapi_gen.specs.Schedules.{part_lines, batch_lines, batches_lines, store_lines, stores_lines, schedule_of};
 
 use crate::draws::Draws;
 use crate::form::{BATCHES, STORES, TASKS};
@@ -10,18 +10,25 @@ use crate::part::Part;
 use lapi_base::{Memory, Schedule};
 use std::alloc::Global;
 
-#[tactic(auto, unfolding(crate::specs::Schedules::schedule_of), using(crate::proofs::Numbered::flat_first, crate::proofs::Numbered::flat_more, crate::proofs::Numbered::flat_none, crate::proofs::Numbered::flat_next))]
+#[tactic(auto, unfolding(crate::specs::Schedules::schedule_of))]
 pub fn schedule(alloc: Global, draws: &Draws) -> Result<Schedule, Memory>
     ensures { IfOk result (λ schedule. schedule ≡ schedule_of draws.now) }
 {
     let mut schedule = Schedule::new(alloc);
-    for a in 0..TASKS as u32 {
-        stores(&mut schedule, a)?;
-    }
-    for b in 0..BATCHES {
-        batch(&mut schedule, draws, b)?;
-    }
+    all_stores(&mut schedule)?;
+    all_batches(&mut schedule, draws)?;
     Ok(schedule)
+}
+
+/// Appends the steps of all stores.
+#[tactic(auto, using(crate::proofs::Numbered::flat_none, crate::proofs::Numbered::flat_next))]
+fn all_stores(schedule: &mut Schedule) -> Result<(), Memory>
+    ensures { OnOk result (schedule.new ≡ schedule.old ++ stores_lines) }
+{
+    for a in 0..TASKS as u32 {
+        stores(schedule, a)?;
+    }
+    Ok(())
 }
 
 /// Appends the steps of a task's stores.
@@ -30,6 +37,17 @@ fn stores(schedule: &mut Schedule, a: u32) -> Result<(), Memory>
 {
     for _i in 0..STORES {
         step(schedule, a)?;
+    }
+    Ok(())
+}
+
+/// Appends the lines of all batches.
+#[tactic(auto, using(crate::proofs::Numbered::flat_none, crate::proofs::Numbered::flat_next))]
+fn all_batches(schedule: &mut Schedule, draws: &Draws) -> Result<(), Memory>
+    ensures { OnOk result (schedule.new ≡ schedule.old ++ batches_lines draws.now) }
+{
+    for b in 0..BATCHES {
+        batch(schedule, draws, b)?;
     }
     Ok(())
 }

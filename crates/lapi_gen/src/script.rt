@@ -1,9 +1,7 @@
-ghost use Rattle.std.specs.Prelude.{◌≡◌, ◌<◌, IfOk};
+ghost use Rattle.std.specs.Prelude.{◌≡◌, ◌<◌, ◌++◌, IfOk, OnOk};
 ghost use Rattle.lapi_gen.specs.declared.form.TheConstants.{TASKS, BATCHES};
-ghost use Rattle.lapi_gen.specs.Batches.{IsBatch};
-ghost use Rattle.lapi_gen.specs.Scripts.{area, user_header, called, statements_of, script_of};
+ghost use Rattle.lapi_gen.specs.Scripts.{area, user_header, called, stores_of, calls_of, statements_of, script_of};
 
-use crate::batch::Batch;
 use crate::draws::Draws;
 use crate::form::{
     AREA, BATCHES, COMPLETION_COUNTER, COMPLETION_HANDLER, COUNTERS, DATA, HEADER_HANDLER, LAYOUT,
@@ -32,12 +30,23 @@ pub fn script(alloc: Global, draws: &Draws) -> Result<Script, Memory>
 }
 
 /// The statements of task `a`.
-#[tactic(auto, unfolding(crate::specs::Scripts::statements_of), using(crate::proofs::Numbered::map_first, crate::proofs::Numbered::map_more, crate::proofs::Numbered::map_none, crate::proofs::Numbered::map_next))]
+#[tactic(auto, unfolding(crate::specs::Scripts::statements_of))]
 fn statements(alloc: Global, draws: &Draws, a: u32) -> Result<Statements, Memory>
     requires { a < TASKS }
     ensures { IfOk result (λ list. list ≡ statements_of draws.now a) }
 {
     let mut list = Statements::new(alloc);
+    stores(alloc, &mut list, draws, a)?;
+    calls(alloc, &mut list, draws, a)?;
+    Ok(list)
+}
+
+/// Appends the stores of task `a`.
+#[tactic(auto, using(crate::proofs::Numbered::map_none, crate::proofs::Numbered::map_next))]
+fn stores(alloc: Global, list: &mut Statements, draws: &Draws, a: u32) -> Result<(), Memory>
+    requires { a < TASKS }
+    ensures { OnOk result (list.new ≡ list.old ++ stores_of draws.now a) }
+{
     for i in 0..STORES {
         let bytes = draws.stored(alloc, a, i)?;
         list.push(Statement::Store {
@@ -45,18 +54,28 @@ fn statements(alloc: Global, draws: &Draws, a: u32) -> Result<Statements, Memory
             bytes,
         })?;
     }
+    Ok(())
+}
+
+/// Appends its calls.
+#[tactic(auto, using(crate::proofs::Numbered::map_none, crate::proofs::Numbered::map_next))]
+fn calls(alloc: Global, list: &mut Statements, draws: &Draws, a: u32) -> Result<(), Memory>
+    requires { a < TASKS }
+    ensures { OnOk result (list.new ≡ list.old ++ calls_of draws.now a) }
+{
     for b in 0..BATCHES {
-        let statement = called(alloc, &draws.batch(b), a, b)?;
+        let statement = called(alloc, draws, a, b)?;
         list.push(statement)?;
     }
-    Ok(list)
+    Ok(())
 }
 
 /// What task `a` calls in batch `b`.
-fn called(alloc: Global, batch: &Batch, a: u32, b: u32) -> Result<Statement, Memory>
-    requires { (a < TASKS) × (b < BATCHES) × IsBatch batch.now }
-    ensures { IfOk result (λ statement. statement ≡ called batch.now a b) }
+fn called(alloc: Global, draws: &Draws, a: u32, b: u32) -> Result<Statement, Memory>
+    requires { (a < TASKS) × (b < BATCHES) }
+    ensures { IfOk result (λ statement. statement ≡ called draws.now a b) }
 {
+    let batch = draws.batch(b);
     let target = batch.target(a);
     Ok(match batch.kind {
         Kind::Put => Statement::Put {
