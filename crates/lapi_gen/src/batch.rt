@@ -17,7 +17,7 @@ pub struct Batch {
     pub len: u32,
     /// How many packets the switch loses on each link, 0 or 1.
     pub lost: u32,
-    /// For each task the packet of its request that is handed over first.
+    /// For each task the packet of its request with which the switch begins.
     pub turns: [u32; TASKS],
 }
 

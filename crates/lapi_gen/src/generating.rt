@@ -9,8 +9,8 @@ use crate::script::script;
 use lapi_base::{Input, Memory};
 use std::alloc::Global;
 
-/// Makes the input of a number: five tasks, each with four stores and 48 calls that were drawn, and the lines that bring
-/// each call's messages home.
+/// Makes the input of a number: five tasks, each with stores and then calls that are drawn from it, and lines that bring
+/// all their messages home, some of them late.
 pub fn generate(alloc: Global, number: u32) -> Result<Input, Memory>
     ensures input { IfOk result (λ input. input ≡ generated_input number) }
     ensures valid { IfOk result (λ x. ValidScript x.script × ValidSchedule x.script spells_packet x.schedule) }

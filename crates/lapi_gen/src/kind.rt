@@ -1,5 +1,5 @@
-ghost use Rattle.std.specs.Prelude.{◌≡◌, ◌≤◌};
-ghost use Rattle.lapi_gen.specs.declared.form.TheConstants.{LONGEST};
+ghost use Rattle.std.specs.Prelude.{◌≡◌, ◌<◌, ◌≤◌};
+ghost use Rattle.lapi_gen.specs.declared.form.TheConstants.{KINDS, LONGEST};
 ghost use Rattle.lapi_gen.specs.Batches.{kind_of, packets, requests_of, answers_of};
 
 use lapi_base::FIRST_UNIT;
@@ -16,14 +16,17 @@ pub enum Kind {
 }
 
 impl Kind {
+    /// The kind of a number.
     pub fn of(number: u32) -> Kind
+        requires { number < KINDS }
         ensures { result ≡ kind_of number }
     {
         match number {
             0 => Kind::Put,
             1 => Kind::Get,
             2 => Kind::Rmw,
-            _ => Kind::Am,
+            3 => Kind::Am,
+            _ => unreachable!(),
         }
     }
 

@@ -15,7 +15,7 @@ pub struct Link {
     pub there: u32,
     /// How many the wire back has.
     pub back: u32,
-    /// The packet of the request that is handed over first.
+    /// The packet of the request with which the switch begins.
     pub turn: u32,
 }
 

@@ -25,14 +25,25 @@ fn the_seventh_input_is_generated(rt: HostRuntime) -> Result<(), Fail> {
     }
     let statements = lists[0].as_slice();
     assert!(rt; statements.len() == 52);
-    assert!(rt; matches!(
+    assert!(rt;
+        matches!(
         &statements[0],
         Statement::Store { at: 0, bytes } if bytes.as_slice().starts_with(&[188, 127, 98, 34])
-    ));
-    assert!(rt; matches!(
-        &statements[4],
-        Statement::Get { target: 2, from: Addr::Plain(0), to: 8192, len: 3023, tgt: Some(0), org: Some(1) }
-    ));
+    )
+    );
+    assert!(rt;
+        matches!(
+            &statements[4],
+            Statement::Get {
+                target: 2,
+                from: Addr::Plain(0),
+                to: 8192,
+                len: 3023,
+                tgt: Some(0),
+                org: Some(1)
+            }
+        )
+    );
     let lines = input.schedule.as_slice();
     assert_eq!(rt; lines.len(), 4300);
     for (number, from, to, entry) in DELIVERED {
