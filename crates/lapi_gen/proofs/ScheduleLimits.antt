@@ -18,7 +18,7 @@ use Rattle.lapi_gen.specs.declared.part.Part.{Part}
 use Rattle.lapi_gen.specs.declared.part.Part.TheVariants.{Steps, Polls, Requests, Acknowledgements, Again, Jobs, Answers, Returns}
 use Rattle.lapi_gen.specs.Batches.{requests, kept, answers, batch_of, IsBatch}
 use Rattle.lapi_gen.specs.Scripts.{script_of}
-use Rattle.lapi_gen.specs.Schedules.{IsLink, link_of, deliveries, deliver, step, jobs, link_lines, part_lines, batch_lines, store_lines, schedule_of}
+use Rattle.lapi_gen.specs.Schedules.{IsLink, link_of, deliveries, deliver, step, jobs, link_lines, part_lines, batch_lines, store_steps, schedule_of}
 use Rattle.lapi_gen.proofs.Numbered.{all_map, all_flat}
 use Rattle.lapi_gen.proofs.Drawn.{batch_bounds, few_requests, few_answers, some_requests}
 use Rattle.lapi_gen.proofs.ScheduleSizes.{link_bounds, few_in_schedule}
@@ -79,7 +79,7 @@ module _ (script : Script) (spells : List ℕ → Bool) (layout : script.layout 
   unfolding batch_lines
   batch_valid number b lb = parts_valid number b (Steps ∷ Polls ∷ Requests ∷ Acknowledgements ∷ Again ∷ Jobs ∷ Answers ∷ Returns ∷ []) lb
 
-  stores_valid : (a : ℕ) → a < TASKS → AllByRecursion (ValidLine script spells) (store_lines a)
+  stores_valid : (a : ℕ) → a < TASKS → AllByRecursion (ValidLine script spells) (store_steps a)
   stores_valid a la =
       let one : ValidLine script spells (step a) = (omega (arith, la), omega (arith, la, tasks)) in
       (one, (one, (one, (one, tt))))
@@ -87,8 +87,8 @@ module _ (script : Script) (spells : List ℕ → Bool) (layout : script.layout 
   lines_valid : (number : ℕ) → AllByRecursion (ValidLine script spells) (schedule_of number)
   unfolding schedule_of
   lines_valid number =
-      all-append (ValidLine script spells) (flat_map store_lines (numbers_below TASKS)) (flat_map (batch_lines number) (numbers_below BATCHES))
-      (all_flat (ValidLine script spells) store_lines TASKS stores_valid)
+      all-append (ValidLine script spells) (flat_map store_steps (numbers_below TASKS)) (flat_map (batch_lines number) (numbers_below BATCHES))
+      (all_flat (ValidLine script spells) store_steps TASKS stores_valid)
       (all_flat (ValidLine script spells) (batch_lines number) BATCHES (λ b lb. batch_valid number b lb))
 
   valid_for : (number : ℕ) → ValidSchedule script spells (schedule_of number)

@@ -15,7 +15,7 @@ use Rattle.lapi_gen.specs.declared.link.Link.{Link}
 use Rattle.lapi_gen.specs.declared.part.Part.{Part}
 use Rattle.lapi_gen.specs.declared.part.Part.TheVariants.{Steps, Polls, Requests, Acknowledgements, Again, Jobs, Answers, Returns}
 use Rattle.lapi_gen.specs.Batches.{most_packets, requests, kept, answers, target, batch_of, IsBatch}
-use Rattle.lapi_gen.specs.Schedules.{most_added, IsLink, parts, adds_there, adds_back, adds, entries, link_of, deliveries, deliver, step, jobs, link_lines, part_lines, batch_lines, store_lines, schedule_of}
+use Rattle.lapi_gen.specs.Schedules.{most_added, IsLink, parts, adds_there, adds_back, adds, entries, link_of, deliveries, deliver, step, jobs, link_lines, part_lines, batch_lines, store_steps, schedule_of}
 use Rattle.lapi_gen.proofs.Numbered.{length_flat, sum_few}
 use Rattle.lapi_gen.proofs.Drawn.{batch_bounds, some_requests, few_requests, few_answers}
 
@@ -101,10 +101,10 @@ few_batch : (number b : ℕ) → length (batch_lines number b) ≤ 360
 unfolding size batch_lines
 few_batch number b = few_parts number b parts
 
-few_stores : (a : ℕ) → length (store_lines a) ≤ STORES
+few_stores : (a : ℕ) → length (store_steps a) ≤ STORES
 few_stores a = omega (arith, length-over (λ (_ : ℕ). step a) STORES)
 
 pub few_in_schedule : (number : ℕ) → length (schedule_of number) ≤ 20000
 unfolding schedule_of
 few_in_schedule number =
-    omega (arith, length_flat store_lines TASKS STORES (λ a _. few_stores a), length_flat (batch_lines number) BATCHES 360 (λ b _. few_batch number b), length-append (flat_map store_lines (numbers_below TASKS)) (flat_map (batch_lines number) (numbers_below BATCHES)))
+    omega (arith, length_flat store_steps TASKS STORES (λ a _. few_stores a), length_flat (batch_lines number) BATCHES 360 (λ b _. few_batch number b), length-append (flat_map store_steps (numbers_below TASKS)) (flat_map (batch_lines number) (numbers_below BATCHES)))

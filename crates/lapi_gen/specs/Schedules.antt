@@ -119,15 +119,15 @@ unfoldable pub batch_lines : (number b : ℕ) → List Line
 batch_lines number b = flat_map (part_lines number b) parts
 
 -- all batches
-abbrev pub batches_lines : (number : ℕ) → List Line
-batches_lines number = flat_map (batch_lines number) (numbers_below BATCHES)
+abbrev pub all_batch_lines : (number : ℕ) → List Line
+all_batch_lines number = flat_map (batch_lines number) (numbers_below BATCHES)
 
 -- the steps of a task's stores, and of all stores
-abbrev pub store_lines : (a : ℕ) → List Line
-store_lines a = replicate STORES (step a)
+abbrev pub store_steps : (a : ℕ) → List Line
+store_steps a = replicate STORES (step a)
 
-abbrev pub stores_lines : List Line
-stores_lines = flat_map store_lines (numbers_below TASKS)
+abbrev pub all_store_steps : List Line
+all_store_steps = flat_map store_steps (numbers_below TASKS)
 
 unfoldable pub schedule_of : (number : ℕ) → List Line
-schedule_of number = stores_lines ++ batches_lines number
+schedule_of number = all_store_steps ++ all_batch_lines number

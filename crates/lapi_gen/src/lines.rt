@@ -10,7 +10,7 @@ use crate::part::Part;
 use lapi_base::{Act, Line, Memory, Schedule};
 
 /// Appends the lines of a part of a batch on a link.
-pub fn lines(schedule: &mut Schedule, batch: &Batch, link: &Link, part: Part) -> Result<(), Memory>
+pub fn link_lines(schedule: &mut Schedule, batch: &Batch, link: &Link, part: Part) -> Result<(), Memory>
     requires batch { IsBatch batch.now }
     requires link { IsLink link.now }
     ensures { OnOk result (schedule.new ≡ schedule.old ++ link_lines batch.now link.now part) }
