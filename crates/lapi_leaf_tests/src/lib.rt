@@ -9,6 +9,8 @@ mod collect;
 #[cfg(test)]
 mod counters;
 #[cfg(test)]
+mod generated;
+#[cfg(test)]
 mod handlers;
 #[cfg(test)]
 mod jobs;
