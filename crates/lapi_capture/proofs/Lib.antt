@@ -1,0 +1,6 @@
+mod Again
+mod Counts
+mod FewFragments
+mod Kept
+mod Told
+mod WholeFrames

@@ -1,0 +1,56 @@
+-- What a reader tells of the bytes that it was fed.
+use Rattle.std.specs.Prelude.{◌≡◌, ◌≢◌, ℕ, ◌+◌, ◌*◌, ◌<◌, ◌≤◌, List, [], ◌∷◌, ◌++◌, length, take, Result, Ok, Err}
+use Rattle.lapi_capture.specs.declared.feed_fault.FeedFault.{FeedFault}
+use Rattle.lapi_capture.specs.declared.feed_fault.FeedFault.TheVariants.{Bad, Limit, Memory}
+use Rattle.lapi_capture.specs.declared.flaw.Flaw.TheVariants.{Early}
+use Rattle.lapi_capture.specs.declared.format.TheConstants.{END, MOST_FRAMES}
+use Rattle.lapi_capture.specs.declared.landing.Landing.{Landing}
+use Rattle.lapi_capture.specs.declared.stage.Stage.{Stage}
+use Rattle.lapi_capture.specs.declared.stage.Stage.TheVariants.{Opening, Frames, Over, Faulty}
+use Rattle.lapi_capture.specs.Captures.{through, parts_of, landings, AreFrames, IsOpen, HasFault, IsTooLong}
+use Rattle.lapi_capture.specs.Entries.{Entries, entries_of}
+use Rattle.lapi_capture.specs.Format.{magic}
+
+-- how many whole frames came and the place behind them, what is kept of their parts, their landings, and the bytes
+-- that came since
+pub record Reading : Type 0 where
+  pub stage : Stage
+  pub frames : ℕ
+  pub place : ℕ
+  pub entries : Entries
+  pub landings : List Landing
+  pub rest : List ℕ
+
+-- within the first bytes
+abbrev pub beginning : (rest : List ℕ) → Reading
+beginning rest = record { stage = Opening; frames = 0; place = 0; entries = []; landings = []; rest = rest }
+
+-- behind these frames
+abbrev pub reading_of : Stage → (frames : List (List ℕ)) (rest : List ℕ) → Reading
+reading_of stage frames rest =
+    record { stage = stage; frames = length frames; place = length (through frames); entries = entries_of (parts_of frames); landings = landings frames; rest = rest }
+
+-- A fault is told as it is fed, but for Early, which the end alone can tell. Without memory nothing is told.
+abbrev pub Tells : Stage → Reading → (bytes : List ℕ) → Type 0
+Tells Opening r bytes = (length bytes < 4) × (bytes ≡ take (length bytes) magic) × (r ≡ beginning bytes)
+Tells Frames r bytes =
+    (frames : List (List ℕ)) × (rest : List ℕ) × IsOpen frames rest × (bytes ≡ through frames ++ rest) × (r ≡ reading_of Frames frames rest)
+Tells Over r bytes = (frames : List (List ℕ)) × AreFrames frames × (bytes ≡ through frames ++ END ∷ []) × (r ≡ reading_of Over frames [])
+Tells (Faulty (Bad place flaw)) r bytes = (flaw ≢ Early) × HasFault flaw bytes place
+Tells (Faulty (Limit place)) r bytes = IsTooLong bytes place
+Tells (Faulty Memory) r bytes = ⊥
+
+-- The reader tells what these bytes are.
+abbrev pub IsReadingOf : Reading → (bytes : List ℕ) → Type 0
+IsReadingOf r bytes = Tells r.stage r bytes
+
+-- what stopped the reader
+abbrev pub fault_at : Stage → Result Unit FeedFault
+fault_at (Faulty fault) = Err fault
+fault_at _ = Ok tt
+
+-- what the end behind these bytes comes to
+abbrev pub ended : Stage → (bytes : List ℕ) → Result Unit FeedFault
+ended (Faulty fault) bytes = Err fault
+ended Over bytes = Ok tt
+ended _ bytes = Err (Bad (length bytes) Early)
