@@ -4,11 +4,11 @@ use Rattle.std.specs.List.{fold}
 use Rattle.std.proofs.lemmas.Bool.{ltb-true, leb-true, eqb-true}
 use Rattle.std.proofs.lemmas.List.{append-nil, length-append, get_or_append_left}
 use Rattle.std.proofs.lemmas.List.Sums.{fold-append}
-use Rattle.lapi_capture.specs.declared.format.TheConstants.{END, FRONT, LAST_TASK, LONGEST, MOST_FRAMES}
+use Rattle.lapi_capture.specs.declared.format.TheConstants.{MAGIC, END, FRONT, LAST_TASK, LONGEST, MOST_FRAMES}
 use Rattle.lapi_capture.specs.declared.stage.Stage.TheVariants.{Frames, Over}
 use Rattle.lapi_capture.specs.Captures.{through, parts_of, landings, IsBegun, IsFrame, IsPartial, AreFrames, IsOpen}
 use Rattle.lapi_capture.specs.Entries.{entries_of}
-use Rattle.lapi_capture.specs.Format.{magic, byte_at, size_of}
+use Rattle.lapi_capture.specs.Format.{byte_at, size_of}
 use Rattle.lapi_capture.specs.Reading.{Reading, beginning, reading_of}
 use Rattle.lapi_capture.specs.Steps as steps
 use Rattle.lapi_capture.specs.Steps.{byte}

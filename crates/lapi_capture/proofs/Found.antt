@@ -7,10 +7,10 @@ use Rattle.lapi_capture.specs.declared.feed_fault.FeedFault.{FeedFault}
 use Rattle.lapi_capture.specs.declared.feed_fault.FeedFault.TheVariants.{Bad, Limit}
 use Rattle.lapi_capture.specs.declared.flaw.Flaw.{Flaw}
 use Rattle.lapi_capture.specs.declared.flaw.Flaw.TheVariants.{Magic, Task, Size, Early, After, Clash}
-use Rattle.lapi_capture.specs.declared.format.TheConstants.{END, FRONT, LAST_TASK, LONGEST, MOST_FRAMES}
+use Rattle.lapi_capture.specs.declared.format.TheConstants.{MAGIC, END, FRONT, LAST_TASK, LONGEST, MOST_FRAMES}
 use Rattle.lapi_capture.specs.declared.stage.Stage.TheVariants.{Frames, Faulty}
 use Rattle.lapi_capture.specs.Captures.{through, IsPartial, AreFrames, HasFault, IsTooLong}
-use Rattle.lapi_capture.specs.Format.{magic, byte_at, from, to, size_of}
+use Rattle.lapi_capture.specs.Format.{byte_at, from, to, size_of}
 use Rattle.lapi_capture.specs.Reading.{Reading, beginning, reading_of}
 use Rattle.lapi_capture.specs.Steps as steps
 use Rattle.lapi_capture.specs.Steps.{byte}
@@ -139,7 +139,7 @@ size_found bytes place (frames, (are, lt), f, more, is, four, from, to, big, at)
         ∙ ap (λ n. Faulty (Bad n Size)) (sym at)
 
 -- another byte than a capture's
-pub magic_read : (n : ℕ) → n < 4 → read (take n magic) ≡ beginning (take n magic)
+pub magic_read : (n : ℕ) → n < 4 → read (take n MAGIC) ≡ beginning (take n MAGIC)
 unfolding read
 magic_read zero h = refl
 magic_read (suc zero) h = refl
@@ -147,17 +147,17 @@ magic_read (suc (suc zero)) h = refl
 magic_read (suc (suc (suc zero))) h = refl
 magic_read (suc (suc (suc (suc n)))) h = absurd (omega (arith, h))
 
-no_magic : (front : List ℕ) (b : ℕ) → b ≢ byte_at magic (length front) → (steps.opening (beginning front) b).stage ≡ Faulty (Bad (length front) Magic)
+no_magic : (front : List ℕ) (b : ℕ) → b ≢ byte_at MAGIC (length front) → (steps.opening (beginning front) b).stage ≡ Faulty (Bad (length front) Magic)
 no_magic front b other =
-    choose (λ r. r.stage ≡ Faulty (Bad (length front) Magic)) (not (b == byte_at magic (length front))) _ _
+    choose (λ r. r.stage ≡ Faulty (Bad (length front) Magic)) (not (b == byte_at MAGIC (length front))) _ _
     (λ e. refl)
-    (λ e. absurd (other (eqb-true b (byte_at magic (length front)) (not_not _ e))))
+    (λ e. absurd (other (eqb-true b (byte_at MAGIC (length front)) (not_not _ e))))
 
 magic_found : (bytes : List ℕ) (place : ℕ) → HasFault Magic bytes place → (read bytes).stage ≡ Faulty (Bad place Magic)
 magic_found bytes place (front, b, more, is, at, lt, first, other) =
     let begun : read front ≡ beginning front = ap read first ∙ magic_read place lt ∙ ap (λ f. beginning f) (sym first) in
     ap (λ r. r.stage) (ap read is ∙ read_more front (b ∷ more) ∙ ap (λ r. fold byte r (b ∷ more)) begun)
-    ∙ stays (Bad (length front) Magic) (byte (beginning front) b) more (no_magic front b (subst (λ n. b ≢ byte_at magic n) at other))
+    ∙ stays (Bad (length front) Magic) (byte (beginning front) b) more (no_magic front b (subst (λ n. b ≢ byte_at MAGIC n) at other))
     ∙ ap (λ n. Faulty (Bad n Magic)) (sym at)
 
 pub fault_found : (flaw : Flaw) (bytes : List ℕ) (place : ℕ) → flaw ≢ Early → HasFault flaw bytes place → (read bytes).stage ≡ Faulty (Bad place flaw)

@@ -7,12 +7,12 @@ use Rattle.lapi_capture.specs.declared.feed_fault.FeedFault.{FeedFault}
 use Rattle.lapi_capture.specs.declared.feed_fault.FeedFault.TheVariants.{Bad, Limit, Memory}
 use Rattle.lapi_capture.specs.declared.flaw.Flaw.{Flaw}
 use Rattle.lapi_capture.specs.declared.flaw.Flaw.TheVariants.{Magic, Task, Size, Early, After, Clash}
-use Rattle.lapi_capture.specs.declared.format.TheConstants.{END, FRONT, LAST_TASK, LONGEST, MOST_FRAMES}
+use Rattle.lapi_capture.specs.declared.format.TheConstants.{MAGIC, END, FRONT, LAST_TASK, LONGEST, MOST_FRAMES}
 use Rattle.lapi_capture.specs.declared.stage.Stage.{Stage}
 use Rattle.lapi_capture.specs.declared.stage.Stage.TheVariants.{Opening, Frames, Over, Faulty}
 use Rattle.lapi_capture.specs.Captures.{through, parts_of, landings, IsBegun, IsFrame, IsPartial, clashes, AreFrames, HasFault}
 use Rattle.lapi_capture.specs.Entries.{entries_of}
-use Rattle.lapi_capture.specs.Format.{magic, byte_at, from, to, size_of}
+use Rattle.lapi_capture.specs.Format.{byte_at, from, to, size_of}
 use Rattle.lapi_capture.specs.Reading.{Reading, beginning, reading_of, Tells, IsReadingOf}
 use Rattle.lapi_capture.specs.Steps as steps
 use Rattle.lapi_capture.proofs.WholeFrames.{choose, both_true, second_false, fits_read, clash_read, whole_of}
@@ -128,8 +128,8 @@ within_told frames are (x ∷ rest) can b bytes is =
     (λ e. absurd (omega (arith, eqb-true (length (x ∷ rest)) 0 e)))
     (λ e. more_told frames are (x ∷ rest) can b bytes is (omega arith))
 
-next_byte : (n : ℕ) → n < 4 → take n magic ++ byte_at magic n ∷ [] ≡ take (n + 1) magic
-next_byte n h = sym (take_more magic n 0 h)
+next_byte : (n : ℕ) → n < 4 → take n MAGIC ++ byte_at MAGIC n ∷ [] ≡ take (n + 1) MAGIC
+next_byte n h = sym (take_more MAGIC n 0 h)
 
 -- ---- the first bytes
 
@@ -141,18 +141,18 @@ pub not_not : (c : Bool) → not c ≡ false → c ≡ true
 not_not true e = refl
 not_not false e = sym e
 
-opening_told : (bytes : List ℕ) (b : ℕ) → length bytes < 4 → bytes ≡ take (length bytes) magic → IsReadingOf (steps.opening (beginning bytes) b) (bytes ++ b ∷ [])
+opening_told : (bytes : List ℕ) (b : ℕ) → length bytes < 4 → bytes ≡ take (length bytes) MAGIC → IsReadingOf (steps.opening (beginning bytes) b) (bytes ++ b ∷ [])
 unfolding AreFrames through parts_of landings entries_of
 opening_told bytes b lt is =
-    choose (λ r. IsReadingOf r (bytes ++ b ∷ [])) (not (b == byte_at magic (length bytes))) _ _
-    (λ e. (λ h. absurd (cc), (bytes, b, [], refl, refl, lt, is, eqb-false b (byte_at magic (length bytes)) (is_not _ e))))
-    (λ e. let same : b ≡ byte_at magic (length bytes) = eqb-true b (byte_at magic (length bytes)) (not_not _ e) in
-    let longer : bytes ++ b ∷ [] ≡ take (length bytes + 1) magic =
-    ap (λ bs. bs ++ b ∷ []) is ∙ ap (λ x. take (length bytes) magic ++ x ∷ []) same ∙ next_byte (length bytes) lt in
-    choose (λ r. IsReadingOf r (bytes ++ b ∷ [])) (nat_lt (length bytes) 3) _ _
-    (λ less. (omega (arith, length-append bytes (b ∷ []), ltb-true (length bytes) 3 less), longer ∙ ap (λ n. take n magic) (sym (length-append bytes (b ∷ []))), refl))
-    (λ less. let three : length bytes + 1 ≡ 4 = omega (arith, ltb-false (length bytes) 3 less, lt) in
-    ([], [], (omega arith, λ h. absurd (omega (arith, h))), longer ∙ ap (λ n. take n magic) three, refl)))
+    choose (λ r. IsReadingOf r (bytes ++ b ∷ [])) (not (b == byte_at MAGIC (length bytes))) _ _
+    (λ e. (λ h. absurd (cc), (bytes, b, [], refl, refl, lt, is, eqb-false b (byte_at MAGIC (length bytes)) (is_not _ e))))
+    (λ e. let same : b ≡ byte_at MAGIC (length bytes) = eqb-true b (byte_at MAGIC (length bytes)) (not_not _ e) in
+    let longer : bytes ++ b ∷ [] ≡ take (length bytes + 1) MAGIC =
+    ap (λ bs. bs ++ b ∷ []) is ∙ ap (λ x. take (length bytes) MAGIC ++ x ∷ []) same ∙ next_byte (length bytes) lt in
+    choose (λ r. IsReadingOf r (bytes ++ b ∷ [])) (nat_lt (length bytes + 1) 4) _ _
+    (λ less. (omega (arith, length-append bytes (b ∷ []), ltb-true (length bytes + 1) 4 less), longer ∙ ap (λ n. take n MAGIC) (sym (length-append bytes (b ∷ []))), refl))
+    (λ less. let three : length bytes + 1 ≡ 4 = omega (arith, ltb-false (length bytes + 1) 4 less, lt) in
+    ([], [], (omega arith, λ h. absurd (omega (arith, h))), longer ∙ ap (λ n. take n MAGIC) three, refl)))
 
 -- ---- behind a fault, and behind the end
 

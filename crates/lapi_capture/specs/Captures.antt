@@ -4,15 +4,15 @@ use Rattle.std.specs.Prelude.{◌≡◌, ◌≢◌, ◌⊎◌, ℕ, ◌+◌, ◌
 use Rattle.std.specs.List.{list_any}
 use Rattle.lapi_capture.specs.declared.flaw.Flaw.{Flaw}
 use Rattle.lapi_capture.specs.declared.flaw.Flaw.TheVariants.{Magic, Task, Size, Early, After, Clash}
-use Rattle.lapi_capture.specs.declared.format.TheConstants.{END, FRONT, LAST_TASK, LONGEST, MOST_FRAMES}
+use Rattle.lapi_capture.specs.declared.format.TheConstants.{MAGIC, END, FRONT, LAST_TASK, LONGEST, MOST_FRAMES}
 use Rattle.lapi_capture.specs.declared.landing.Landing.{Landing}
 use Rattle.lapi_capture.specs.declared.part.Part.{Part}
-use Rattle.lapi_capture.specs.Format.{magic, byte_at, from, to, size_of, part_of, is_addressed}
+use Rattle.lapi_capture.specs.Format.{byte_at, from, to, size_of, part_of, is_addressed}
 use Rattle.lapi_capture.specs.Parts.{disagrees, lands, landing}
 
 -- the bytes of a capture up to the end of these frames
 unfoldable pub through : List (List ℕ) → List ℕ
-through [] = magic
+through [] = MAGIC
 through (f ∷ before) = through before ++ f
 
 -- the parts of messages in frames, the newest first
@@ -71,8 +71,8 @@ MayFollow before = AreFrames before × (length before < MOST_FRAMES)
 -- The first fault of the bytes, if they end here.
 abbrev pub HasFault : Flaw → (bytes : List ℕ) (place : ℕ) → Type 0
 HasFault Magic bytes place =
-    (front : List ℕ) × (b : ℕ) × (more : List ℕ) × (bytes ≡ front ++ b ∷ more) × (place ≡ length front) × (place < 4) × (front ≡ take place magic)
-    × (b ≢ byte_at magic place)
+    (front : List ℕ) × (b : ℕ) × (more : List ℕ) × (bytes ≡ front ++ b ∷ more) × (place ≡ length front) × (place < length MAGIC) × (front ≡ take place MAGIC)
+    × (b ≢ byte_at MAGIC place)
 HasFault Task bytes place =
     (before : List (List ℕ)) × MayFollow before × (
     ((b : ℕ) × (more : List ℕ) × (bytes ≡ through before ++ b ∷ more) × (LAST_TASK < b) × (b ≢ END) × (place ≡ length (through before)))
@@ -83,7 +83,7 @@ HasFault Size bytes place =
     × (from f ≤ LAST_TASK) × (to f ≤ LAST_TASK) × (LONGEST < size_of f) × (place ≡ length (through before) + 2)
 HasFault Early bytes place =
     (place ≡ length bytes) × (
-    ((length bytes < 4) × (bytes ≡ take (length bytes) magic))
+    ((length bytes < length MAGIC) × (bytes ≡ take (length bytes) MAGIC))
     ⊎ ((frames : List (List ℕ)) × (rest : List ℕ) × IsOpen frames rest × (bytes ≡ through frames ++ rest)))
 HasFault After bytes place =
     (frames : List (List ℕ)) × AreFrames frames × (b : ℕ) × (more : List ℕ) × (bytes ≡ through frames ++ END ∷ b ∷ more) × (place ≡ length (through frames) + 1)

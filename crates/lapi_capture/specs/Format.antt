@@ -7,10 +7,6 @@ use Rattle.lapi_base.specs.Packet.Spelling.{decoded}
 use Rattle.lapi_capture.specs.declared.format.TheConstants.{FRONT}
 use Rattle.lapi_capture.specs.declared.part.Part.{Part}
 
--- the bytes that each capture begins with
-abbrev pub magic : List ℕ
-magic = 0x4c ∷ 0x4c ∷ 0x43 ∷ 0x01 ∷ []
-
 -- a byte, and 0 behind the last
 abbrev pub byte_at : List ℕ → ℕ → ℕ
 byte_at bytes i = slice_index_or bytes i 0

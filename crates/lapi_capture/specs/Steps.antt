@@ -3,12 +3,12 @@ use Rattle.std.specs.Prelude.{◌≡◌, ℕ, suc, ◌+◌, ◌*◌, ◌<◌, �
 use Rattle.lapi_capture.specs.declared.feed_fault.FeedFault.TheVariants as faults
 use Rattle.lapi_capture.specs.declared.flaw.Flaw.{Flaw}
 use Rattle.lapi_capture.specs.declared.flaw.Flaw.TheVariants as flaws
-use Rattle.lapi_capture.specs.declared.format.TheConstants.{END, FRONT, LAST_TASK, LONGEST, MOST_FRAMES}
+use Rattle.lapi_capture.specs.declared.format.TheConstants.{MAGIC, END, FRONT, LAST_TASK, LONGEST, MOST_FRAMES}
 use Rattle.lapi_capture.specs.declared.part.Part.{Part}
 use Rattle.lapi_capture.specs.declared.stage.Stage.{Stage}
 use Rattle.lapi_capture.specs.declared.stage.Stage.TheVariants.{Opening, Frames, Over, Faulty}
 use Rattle.lapi_capture.specs.Entries.{differs, with_part, completes}
-use Rattle.lapi_capture.specs.Format.{magic, byte_at, to, size_of, part_of, is_addressed}
+use Rattle.lapi_capture.specs.Format.{byte_at, to, size_of, part_of, is_addressed}
 use Rattle.lapi_capture.specs.Parts.{landing}
 use Rattle.lapi_capture.specs.Reading.{Reading}
 
@@ -21,9 +21,9 @@ more r b = record r { rest = r.rest ++ b ∷ [] }
 -- one of the first bytes
 abbrev pub opening : Reading → ℕ → Reading
 opening r b =
-    if not (b == byte_at magic (length r.rest)) then bad r (length r.rest) flaws.Magic
-    else if nat_lt (length r.rest) 3 then more r b
-    else record r { stage = Frames; place = 4; rest = [] }
+    if not (b == byte_at MAGIC (length r.rest)) then bad r (length r.rest) flaws.Magic
+    else if nat_lt (length r.rest + 1) (length MAGIC) then more r b
+    else record r { stage = Frames; place = length MAGIC; rest = [] }
 
 -- a byte behind a frame: the end, or the task that a further frame is from
 abbrev pub first : Reading → ℕ → Reading
@@ -73,10 +73,10 @@ byte_by (Faulty fault) r b = r
 abbrev pub byte : Reading → ℕ → Reading
 byte r b = byte_by r.stage r b
 
--- Numbers stay small.
+-- Numbers stay small: by the two bytes of its size a frame has 4 + 65,535 bytes at most.
 pub record IsSmall (at_stage : Stage) (count at : ℕ) (bytes : List ℕ) : Type 0 where
   pub frames : count ≤ MOST_FRAMES
   pub opening : at_stage ≡ Opening → count ≡ 0
   pub within : 0 < length bytes → count < MOST_FRAMES
   pub rest : length bytes ≤ 65539
-  pub place : at ≤ 4 + 65540 * count
+  pub place : at ≤ length MAGIC + 65540 * count

@@ -6,7 +6,10 @@
 //! ```
 
 ghost use Rattle.std.specs.Prelude.{◌≡◌, ◌≤◌, length};
-ghost use Rattle.lapi_capture.specs.Format.{magic, byte_at, size_of};
+ghost use Rattle.lapi_capture.specs.Format.{byte_at, size_of};
+
+/// The bytes that each capture begins with.
+pub(crate) const MAGIC: [u8; 4] = [0x4c, 0x4c, 0x43, 0x01];
 
 /// The byte behind the last frame.
 pub(crate) const END: u8 = 0xff;
@@ -22,21 +25,6 @@ pub(crate) const MOST_FRAMES: u32 = 20_000;
 
 /// The bytes of a frame before those that it hands over.
 pub(crate) const FRONT: usize = 4;
-
-/// The bytes that each capture begins with.
-pub(crate) const MAGIC_BYTES: usize = 4;
-
-/// Byte `index` of those that each capture begins with, and 0 behind them.
-pub(crate) fn magic(index: usize) -> u8
-    ensures { result ≡ byte_at magic index }
-{
-    match index {
-        0 | 1 => 0x4c,
-        2 => 0x43,
-        3 => 0x01,
-        _ => 0,
-    }
-}
 
 /// A byte, and 0 behind the last.
 pub(crate) fn byte_at(bytes: &[u8], index: usize) -> u8

@@ -11,7 +11,7 @@ use std::alloc::Global;
 use std::marker::Model;
 
 /// The messages of which a part came: one entry for each, found by its hash.
-#[derive(Drop)]
+#[derive(Debug, Drop)]
 pub(crate) struct Messages {
     seen: IndexMap<Incoming, Seen>,
 }

@@ -2,13 +2,13 @@ ghost use Rattle.std.specs.Prelude.{◌≡◌, ◌≢◌, ◌+◌, ◌<◌, ◌�
 ghost use Rattle.lapi_capture.specs.declared.feed_fault.FeedFault.{FeedFault as Fault};
 ghost use Rattle.lapi_capture.specs.declared.feed_fault.FeedFault.TheVariants.{Memory as no_memory};
 ghost use Rattle.lapi_capture.specs.declared.stage.Stage.TheVariants.{Opening, Frames, Faulty};
-ghost use Rattle.lapi_capture.specs.Reading.{IsReadingOf, ended, fault_at};
+ghost use Rattle.lapi_capture.specs.Reading.{IsReadingOf, GoesOn, ended, fault_at};
 ghost use Rattle.lapi_capture.specs.Steps.{bad, byte, counted, first, further, more, opening, told, whole};
 
 use crate::contents::contents;
 use crate::feed_fault::FeedFault;
 use crate::flaw::Flaw;
-use crate::format::{END, FRONT, LAST_TASK, LONGEST, MOST_FRAMES, magic, size_of};
+use crate::format::{END, FRONT, LAST_TASK, LONGEST, MAGIC, MOST_FRAMES, byte_at, size_of};
 use crate::landing::Landing;
 use crate::messages::Messages;
 use crate::part::Part;
@@ -18,7 +18,7 @@ use std::alloc::Global;
 use std::marker::Model;
 
 /// Finds the landings in a capture, which comes in any pieces. It keeps one entry for each message.
-#[derive(Drop)]
+#[derive(Debug, Drop)]
 pub struct Reader {
     stage: Stage,
     frames: u32,
@@ -59,7 +59,7 @@ impl Reader {
     /// Takes the next bytes.
     pub fn feed(&mut self, piece: &[u8]) -> Result<(), FeedFault>
         // However the bytes are cut, it then tells what all of them are.
-        ensures told { (bytes : List ℕ) → IsReadingOf self.old bytes → result ≢ Err no_memory → IsReadingOf self.new (bytes ++ piece.now) }
+        ensures told { result ≢ Err no_memory → GoesOn self.old piece.now self.new }
         // The fault that was found, at this call and at each later one.
         ensures fault { result ≡ fault_at self.new.stage }
         ensures stays { (fault : Fault) → self.old.stage ≡ Faulty fault → self.new ≡ self.old }
@@ -92,7 +92,7 @@ impl Reader {
 
     /// The end of the input.
     pub fn end(&self) -> Result<(), FeedFault>
-        ensures ended { (bytes : List ℕ) → IsReadingOf self.now bytes → result ≡ ended self.now.stage bytes }
+        ensures ended { (bytes : List ℕ) → IsReadingOf self.now bytes → result ≡ ended self.now bytes }
         // Also a want of memory.
         ensures fault { (fault : Fault) → self.now.stage ≡ Faulty fault → result ≡ Err fault }
     {
@@ -147,13 +147,13 @@ impl Reader {
         ensures { OnOk result (self.new ≡ opening self.old b) }
     {
         let count = self.rest.len();
-        if b != magic(count) {
+        if b != byte_at(&MAGIC, count) {
             self.bad(count as u64, Flaw::Magic);
-        } else if count < 3 {
+        } else if count + 1 < MAGIC.len() {
             self.rest.push(b)?;
         } else {
             self.stage = Stage::Frames;
-            self.place = 4;
+            self.place = MAGIC.len() as u64;
             self.rest.clear();
         }
         Ok(())

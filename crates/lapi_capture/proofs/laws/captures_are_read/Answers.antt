@@ -1,4 +1,4 @@
-use Rattle.lapi_capture.proofs.OneReading.{faults, limits, frames_told, capture_told}
+use Rattle.lapi_capture.proofs.OneReading.{faults, limits, frames_told, end_told}
 use Rattle.lapi_capture.proofs.laws.captures_are_read.Goals as goal
 
 pub returns : goal.returns
@@ -6,5 +6,5 @@ returns c = record {
   fault = faults;
   limit = limits;
   frames = frames_told;
-  capture = capture_told;
+  end = end_told;
 }
