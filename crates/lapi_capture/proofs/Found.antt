@@ -48,7 +48,7 @@ limit_found bytes place (frames, are, full, b, more, is, other, at) =
     ap (λ r. r.stage) (behind frames are bytes (b ∷ more) is) ∙ first_fault (Limit (length (through frames))) frames b more (past_last frames full b other) ∙ ap (λ n. Faulty (Limit n)) (sym at)
 
 clash_found : (bytes : List ℕ) (place : ℕ) → HasFault Clash bytes place → (read bytes).stage ≡ Faulty (Bad place Clash)
-clash_found bytes place (frames, (are, lt), f, more, is, frame, clash, at) =
+clash_found bytes place (frames, f, ((are, lt), more, is), frame, clash, at) =
     ap (λ r. r.stage) (behind frames are bytes (f ++ more) (is ∙ append_assoc (through frames) f more) ∙ fold-append byte (reading_of Frames frames []) f more)
     ∙ stays (Bad (length (through frames)) Clash) (fold byte (reading_of Frames frames []) f) more (ap (λ r. r.stage) (frame_read frames are lt f frame ∙ clash_read frames are f clash))
     ∙ ap (λ n. Faulty (Bad n Clash)) (sym at)
@@ -83,15 +83,28 @@ bad_second frames a b above =
     (λ e. refl)
     (λ e. absurd (omega (arith, above, ltb-false 7 b e)))
 
-task_found : (bytes : List ℕ) (place : ℕ) → HasFault Task bytes place → (read bytes).stage ≡ Faulty (Bad place Task)
-task_found bytes place (frames, (are, lt), inl (b, more, is, above, other, at)) =
+one_byte : (f : List ℕ) → length f ≡ 1 → (b : ℕ) × (f ≡ b ∷ [])
+one_byte [] e = absurd (omega (arith, e))
+one_byte (a ∷ []) e = (a, refl)
+one_byte (a ∷ b ∷ f) e = absurd (omega (arith, e))
+
+from_none : (frames : List (List ℕ)) → AreFrames frames → length frames < 20000 → (b : ℕ) (more bytes : List ℕ) (place : ℕ) → bytes ≡ through frames ++ b ∷ more → 7 < b → b ≢ 255
+    → place ≡ length (through frames) → (read bytes).stage ≡ Faulty (Bad place Task)
+from_none frames are lt b more bytes place is above other at =
     ap (λ r. r.stage) (behind frames are bytes (b ∷ more) is) ∙ first_fault (Bad (length (through frames)) Task) frames b more (above_seven frames lt b above other) ∙ ap (λ n. Faulty (Bad n Task)) (sym at)
-task_found bytes place (frames, (are, lt), inr (f, more, is, two, from, to, at)) = go f is (two_bytes f two) from to
+
+task_found : (bytes : List ℕ) (place : ℕ) → HasFault Task bytes place → (read bytes).stage ≡ Faulty (Bad place Task)
+task_found bytes place (frames, f, ((are, lt), more, is), inl ((one, above, other), at)) = go f is (one_byte f one) above other
+  where
+    go : (f : List ℕ) → bytes ≡ through frames ++ f ++ more → (b : ℕ) × (f ≡ b ∷ []) → 7 < byte_at f 0 → byte_at f 0 ≢ 255 → (read bytes).stage ≡ Faulty (Bad place Task)
+    go f is (b, e) above other =
+        from_none frames are lt b more bytes place (is ∙ ap (λ f. through frames ++ f ++ more) e ∙ append_assoc (through frames) (b ∷ []) more) (subst (λ f. 7 < byte_at f 0) e above) (subst (λ f. byte_at f 0 ≢ 255) e other) at
+task_found bytes place (frames, f, ((are, lt), more, is), inr ((two, one, above), at)) = go f is (two_bytes f two) one above
   where
     go : (f : List ℕ) → bytes ≡ through frames ++ f ++ more → (a : ℕ) × (b : ℕ) × (f ≡ a ∷ b ∷ []) → byte_at f 0 ≤ 7 → 7 < byte_at f 1 → (read bytes).stage ≡ Faulty (Bad place Task)
-    go f is (a, b, e) from to =
-        let small : a ≤ 7 = subst (λ f. byte_at f 0 ≤ 7) e from in
-        let above : 7 < b = subst (λ f. 7 < byte_at f 1) e to in
+    go f is (a, b, e) one other =
+        let small : a ≤ 7 = subst (λ f. byte_at f 0 ≤ 7) e one in
+        let above : 7 < b = subst (λ f. 7 < byte_at f 1) e other in
         ap (λ r. r.stage) (behind frames are bytes (a ∷ b ∷ more) (is ∙ ap (λ f. through frames ++ f ++ more) e ∙ append_assoc (through frames) (a ∷ b ∷ []) more) ∙ ap (λ r. fold byte r (b ∷ more)) (begins frames lt a small))
         ∙ stays (Bad (length (through frames) + 1) Task) (byte (reading_of Frames frames (a ∷ [])) b) more (bad_second frames a b above)
         ∙ ap (λ n. Faulty (Bad n Task)) (sym at)
@@ -130,12 +143,12 @@ size_by frames lt a b c d more from to big =
     ∙ stays (Bad (length (through frames) + 2) Size) (byte (reading_of Frames frames (a ∷ b ∷ c ∷ [])) d) more (bad_size frames (a ∷ b ∷ c ∷ d ∷ []) refl big)
 
 size_found : (bytes : List ℕ) (place : ℕ) → HasFault Size bytes place → (read bytes).stage ≡ Faulty (Bad place Size)
-size_found bytes place (frames, (are, lt), f, more, is, four, from, to, big, at) = go (four_bytes f four)
+size_found bytes place (frames, f, ((are, lt), more, is), (four, one, other, big), at) = go (four_bytes f four)
   where
     go : (a : ℕ) × (b : ℕ) × (c : ℕ) × (d : ℕ) × (f ≡ a ∷ b ∷ c ∷ d ∷ []) → (read bytes).stage ≡ Faulty (Bad place Size)
     go (a, b, c, d, e) =
         ap (λ r. r.stage) (behind frames are bytes (a ∷ b ∷ c ∷ d ∷ more) (is ∙ ap (λ f. through frames ++ f ++ more) e ∙ append_assoc (through frames) (a ∷ b ∷ c ∷ d ∷ []) more))
-        ∙ size_by frames lt a b c d more (subst (λ f. byte_at f 0 ≤ 7) e from) (subst (λ f. byte_at f 1 ≤ 7) e to) (subst (λ f. 1280 < size_of f) e big)
+        ∙ size_by frames lt a b c d more (subst (λ f. byte_at f 0 ≤ 7) e one) (subst (λ f. byte_at f 1 ≤ 7) e other) (subst (λ f. 1280 < size_of f) e big)
         ∙ ap (λ n. Faulty (Bad n Size)) (sym at)
 
 -- another byte than a capture's
@@ -147,6 +160,13 @@ magic_read (suc (suc zero)) h = refl
 magic_read (suc (suc (suc zero))) h = refl
 magic_read (suc (suc (suc (suc n)))) h = absurd (omega (arith, h))
 
+length_front : (n : ℕ) → n < 4 → length (take n MAGIC) ≡ n
+length_front zero h = refl
+length_front (suc zero) h = refl
+length_front (suc (suc zero)) h = refl
+length_front (suc (suc (suc zero))) h = refl
+length_front (suc (suc (suc (suc n)))) h = absurd (omega (arith, h))
+
 no_magic : (front : List ℕ) (b : ℕ) → b ≢ byte_at MAGIC (length front) → (steps.opening (beginning front) b).stage ≡ Faulty (Bad (length front) Magic)
 no_magic front b other =
     choose (λ r. r.stage ≡ Faulty (Bad (length front) Magic)) (not (b == byte_at MAGIC (length front))) _ _
@@ -154,11 +174,12 @@ no_magic front b other =
     (λ e. absurd (other (eqb-true b (byte_at MAGIC (length front)) (not_not _ e))))
 
 magic_found : (bytes : List ℕ) (place : ℕ) → HasFault Magic bytes place → (read bytes).stage ≡ Faulty (Bad place Magic)
-magic_found bytes place (front, b, more, is, at, lt, first, other) =
-    let begun : read front ≡ beginning front = ap read first ∙ magic_read place lt ∙ ap (λ f. beginning f) (sym first) in
-    ap (λ r. r.stage) (ap read is ∙ read_more front (b ∷ more) ∙ ap (λ r. fold byte r (b ∷ more)) begun)
-    ∙ stays (Bad (length front) Magic) (byte (beginning front) b) more (no_magic front b (subst (λ n. b ≢ byte_at MAGIC n) at other))
-    ∙ ap (λ n. Faulty (Bad n Magic)) (sym at)
+magic_found bytes place (b, more, is, lt, other) =
+    let first = take place MAGIC in
+    let long : length first ≡ place = length_front place lt in
+    ap (λ r. r.stage) (ap read is ∙ read_more first (b ∷ more) ∙ ap (λ r. fold byte r (b ∷ more)) (magic_read place lt))
+    ∙ stays (Bad (length first) Magic) (byte (beginning first) b) more (no_magic first b (subst (λ n. b ≢ byte_at MAGIC n) (sym long) other))
+    ∙ ap (λ n. Faulty (Bad n Magic)) long
 
 pub fault_found : (flaw : Flaw) (bytes : List ℕ) (place : ℕ) → flaw ≢ Early → HasFault flaw bytes place → (read bytes).stage ≡ Faulty (Bad place flaw)
 fault_found Magic bytes place other h = magic_found bytes place h

@@ -32,8 +32,8 @@ moved : (p q : ℕ) (f g : Flaw) (bytes : List ℕ) → ◌≡◌ {A = Result Un
 moved p q f g bytes e h = let same = fault_is p q f g e in subst (λ k. HasFault k bytes q) same.1 (subst (λ n. HasFault f bytes n) same.0 h)
 
 told_fault : (stage : Stage) (r : Reading) (bytes : List ℕ) (flaw : Flaw) (place : ℕ) → Tells stage r bytes → ended_by stage bytes ≡ Err (Bad place flaw) → HasFault flaw bytes place
-told_fault Opening r bytes flaw place (lt, is, same) e = moved (length bytes) place Early flaw bytes e (refl, inl (lt, is))
-told_fault Frames r bytes flaw place (frames, rest, open_there, is, same) e = moved (length bytes) place Early flaw bytes e (refl, inr (frames, rest, open_there, is))
+told_fault Opening r bytes flaw place (lt, is, same) e = moved (length bytes) place Early flaw bytes e (inl (lt, is), refl)
+told_fault Frames r bytes flaw place (frames, rest, open_there, is, same) e = moved (length bytes) place Early flaw bytes e (inr (frames, rest, open_there, is), refl)
 told_fault Over r bytes flaw place h e = absurd (cc)
 told_fault (Faulty (Bad p f)) r bytes flaw place (other, h) e = moved p place f flaw bytes e h
 told_fault (Faulty (Limit p)) r bytes flaw place h e = absurd (cc)
@@ -50,8 +50,8 @@ module _ (r : Reading) (bytes : List ℕ) (tells : IsReadingOf r bytes) where
   fault_told Magic place h = fed_fault Magic place (λ e. absurd (cc)) h
   fault_told Task place h = fed_fault Task place (λ e. absurd (cc)) h
   fault_told Size place h = fed_fault Size place (λ e. absurd (cc)) h
-  fault_told Early place (at, inl (lt, is)) = ended_at Opening (ap (λ r. r.stage) (ap read is ∙ magic_read (length bytes) lt)) ∙ ap (λ n. Err (Bad n Early)) (sym at)
-  fault_told Early place (at, inr (frames, rest, open_there, is)) = ended_at Frames (ap (λ r. r.stage) (ap read is ∙ open_read frames rest open_there)) ∙ ap (λ n. Err (Bad n Early)) (sym at)
+  fault_told Early place (inl (lt, is), at) = ended_at Opening (ap (λ r. r.stage) (ap read is ∙ magic_read (length bytes) lt)) ∙ ap (λ n. Err (Bad n Early)) (sym at)
+  fault_told Early place (inr (frames, rest, open_there, is), at) = ended_at Frames (ap (λ r. r.stage) (ap read is ∙ open_read frames rest open_there)) ∙ ap (λ n. Err (Bad n Early)) (sym at)
   fault_told After place h = fed_fault After place (λ e. absurd (cc)) h
   fault_told Clash place h = fed_fault Clash place (λ e. absurd (cc)) h
 

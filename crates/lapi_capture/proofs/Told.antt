@@ -33,7 +33,7 @@ first_told frames are b bytes is =
     (λ full. (frames, are, omega (arith, leb-true 20000 (length frames) full, few frames are), b, [], is, other, refl))
     (λ full. let lt : length frames < 20000 = leb-false 20000 (length frames) full in
     choose (λ r. IsReadingOf r bytes) (nat_lt LAST_TASK b) _ _
-    (λ above. (λ e. absurd (cc), (frames, (are, lt), inl (b, [], is, ltb-true 7 b above, other, refl))))
+    (λ above. (λ e. absurd (cc), (frames, b ∷ [], ((are, lt), [], is ∙ sym (append-nil (through frames ++ b ∷ []))), inl ((refl, ltb-true 7 b above, other), refl))))
     (λ above. (frames, b ∷ [], (are, λ _. (lt, record { begun = record { from = ltb-false 7 b above; to = λ h. absurd (omega (arith, h)); size = λ h. absurd (omega (arith, h)) }; partial = λ h. absurd (omega (arith, h)) })), is, refl))))
 
 at_or_above : (k n : ℕ) → k ≤ n → ((n == k) ≡ true) ⊎ (k + 1 ≤ n)
@@ -59,7 +59,7 @@ module _ (frames : List (List ℕ)) (are : AreFrames frames) (lt : length frames
   one_more_frame frame e = (f ∷ frames, [], ((lt, frame, e, are), λ h. absurd (omega (arith, h))), all_of_it, refl)
 
   whole_told : IsFrame f → (clash : Bool) → clashes frames f ≡ clash → IsReadingOf (whole_of frames are f) bytes
-  whole_told frame true e = subst (λ r. IsReadingOf r bytes) (sym (clash_read frames are f e)) (λ h. absurd (cc), (frames, (are, lt), f, [], all_of_it, frame, e, refl))
+  whole_told frame true e = subst (λ r. IsReadingOf r bytes) (sym (clash_read frames are f e)) (λ h. absurd (cc), (frames, f, ((are, lt), [], all_of_it), frame, e, refl))
   whole_told frame false e = subst (λ r. IsReadingOf r bytes) (sym (fits_read frames are f e)) (one_more_frame frame e)
 
   further_told : IsReadingOf (steps.further (reading_of Frames frames f)) bytes
@@ -67,13 +67,13 @@ module _ (frames : List (List ℕ)) (are : AreFrames frames) (lt : length frames
   further_told =
       choose (λ r. IsReadingOf r bytes) (length f == 2 && nat_lt LAST_TASK (to f)) _ _
       (λ e. let two : length f ≡ 2 = eqb-true _ _ (both_true _ _ e).0 in
-      (λ h. absurd (cc), (frames, (are, lt), inr (f, [], all_of_it, two, is_from, ltb-true _ _ (both_true _ _ e).1, refl))))
+      (λ h. absurd (cc), (frames, f, ((are, lt), [], all_of_it), inr ((two, is_from, ltb-true _ _ (both_true _ _ e).1), refl))))
       (λ e. let second : to f ≤ 7 = second_fits e in
       choose (λ r. IsReadingOf r bytes) (nat_lt (length f) FRONT) _ _
       (λ less. (frames, f, (are, λ _. (lt, record { begun = record { from = is_from; to = λ _. second; size = λ h. absurd (omega (arith, h, ltb-true (length f) 4 less)) }; partial = λ h. absurd (omega (arith, h, ltb-true (length f) 4 less)) })), is, refl))
       (λ less. choose (λ r. IsReadingOf r bytes) (length f == FRONT && nat_lt LONGEST (size_of f)) _ _
       (λ big. let four : length f ≡ 4 = eqb-true _ _ (both_true _ _ big).0 in
-      (λ h. absurd (cc), (frames, (are, lt), f, [], all_of_it, four, is_from, second, ltb-true _ _ (both_true _ _ big).1, refl)))
+      (λ h. absurd (cc), (frames, f, ((are, lt), [], all_of_it), (four, is_from, second, ltb-true _ _ (both_true _ _ big).1), refl)))
       (λ big. let fits : size_of f ≤ 1280 = size_fits big (ltb-false (length f) 4 less) in
       let begun : IsBegun f = record { from = is_from; to = λ _. second; size = λ _. fits } in
       choose (λ r. IsReadingOf r bytes) (nat_lt (length f) (FRONT + size_of f)) _ _
@@ -145,7 +145,7 @@ opening_told : (bytes : List ℕ) (b : ℕ) → length bytes < 4 → bytes ≡ t
 unfolding AreFrames through parts_of landings entries_of
 opening_told bytes b lt is =
     choose (λ r. IsReadingOf r (bytes ++ b ∷ [])) (not (b == byte_at MAGIC (length bytes))) _ _
-    (λ e. (λ h. absurd (cc), (bytes, b, [], refl, refl, lt, is, eqb-false b (byte_at MAGIC (length bytes)) (is_not _ e))))
+    (λ e. (λ h. absurd (cc), (b, [], ap (λ bs. bs ++ b ∷ []) is, lt, eqb-false b (byte_at MAGIC (length bytes)) (is_not _ e))))
     (λ e. let same : b ≡ byte_at MAGIC (length bytes) = eqb-true b (byte_at MAGIC (length bytes)) (not_not _ e) in
     let longer : bytes ++ b ∷ [] ≡ take (length bytes + 1) MAGIC =
     ap (λ bs. bs ++ b ∷ []) is ∙ ap (λ x. take (length bytes) MAGIC ++ x ∷ []) same ∙ next_byte (length bytes) lt in
@@ -160,11 +160,10 @@ longer : (bytes front more ys : List ℕ) → bytes ≡ front ++ more → bytes 
 longer bytes front more ys is = ap (λ bs. bs ++ ys) is ∙ append_assoc front more ys
 
 fault_stays : (flaw : Flaw) (bytes : List ℕ) (place : ℕ) (ys : List ℕ) → flaw ≢ Early → HasFault flaw bytes place → HasFault flaw (bytes ++ ys) place
-fault_stays Magic bytes place ys other (front, b, more, is, at, lt, first, differs) = (front, b, more ++ ys, longer bytes front (b ∷ more) ys is, at, lt, first, differs)
-fault_stays Task bytes place ys other (frames, may, inl (b, more, is, above, no_end, at)) = (frames, may, inl (b, more ++ ys, longer bytes (through frames) (b ∷ more) ys is, above, no_end, at))
-fault_stays Task bytes place ys other (frames, may, inr (f, more, is, two, one, to, at)) = (frames, may, inr (f, more ++ ys, longer bytes (through frames ++ f) more ys is, two, one, to, at))
-fault_stays Size bytes place ys other (frames, may, f, more, is, four, one, to, big, at) = (frames, may, f, more ++ ys, longer bytes (through frames ++ f) more ys is, four, one, to, big, at)
-fault_stays Clash bytes place ys other (frames, may, f, more, is, whole, clash, at) = (frames, may, f, more ++ ys, longer bytes (through frames ++ f) more ys is, whole, clash, at)
+fault_stays Magic bytes place ys other (b, more, is, lt, differs) = (b, more ++ ys, longer bytes (take place MAGIC) (b ∷ more) ys is, lt, differs)
+fault_stays Task bytes place ys other (before, f, (may, more, is), why) = (before, f, (may, more ++ ys, longer bytes (through before ++ f) more ys is), why)
+fault_stays Size bytes place ys other (before, f, (may, more, is), large, at) = (before, f, (may, more ++ ys, longer bytes (through before ++ f) more ys is), large, at)
+fault_stays Clash bytes place ys other (before, f, (may, more, is), frame, clash, at) = (before, f, (may, more ++ ys, longer bytes (through before ++ f) more ys is), frame, clash, at)
 fault_stays After bytes place ys other (frames, are, b, more, is, at) = (frames, are, b, more ++ ys, longer bytes (through frames) (255 ∷ b ∷ more) ys is, at)
 fault_stays Early bytes place ys other h = absurd (other refl)
 

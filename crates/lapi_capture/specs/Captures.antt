@@ -61,38 +61,53 @@ unfoldable pub AreFrames : List (List ℕ) → Type 0
 AreFrames [] = 0 ≤ 0
 AreFrames (f ∷ before) = (length before < MOST_FRAMES) × IsFrame f × (clashes before f ≡ false) × AreFrames before
 
--- A further frame may begin behind them, and what began of it is no whole frame.
+-- A further frame may follow them, and what is there of it is no whole one.
+abbrev pub MayFollow : List (List ℕ) → Type 0
+MayFollow before = AreFrames before × (length before < MOST_FRAMES)
+
 abbrev pub IsOpen : (frames : List (List ℕ)) (rest : List ℕ) → Type 0
 IsOpen frames rest = AreFrames frames × (0 < length rest → (length frames < MOST_FRAMES) × IsPartial rest)
 
-abbrev pub MayFollow : List (List ℕ) → Type 0
-MayFollow before = AreFrames before × (length before < MOST_FRAMES)
+-- where the next frame begins, and that it begins with these bytes
+abbrev pub start : List (List ℕ) → ℕ
+start before = length (through before)
+
+abbrev pub Begins : (bytes : List ℕ) (before : List (List ℕ)) (f : List ℕ) → Type 0
+Begins bytes before f = MayFollow before × (more : List ℕ) × (bytes ≡ through before ++ f ++ more)
+
+-- a frame's first byte, or its second, is a task above the last
+abbrev pub IsFromNone : List ℕ → Type 0
+IsFromNone f = (length f ≡ 1) × (LAST_TASK < from f) × (from f ≢ END)
+
+abbrev pub IsToNone : List ℕ → Type 0
+IsToNone f = (length f ≡ 2) × (from f ≤ LAST_TASK) × (LAST_TASK < to f)
+
+-- its first four bytes tell too large a size
+abbrev pub IsTooLarge : List ℕ → Type 0
+IsTooLarge f = (length f ≡ FRONT) × (from f ≤ LAST_TASK) × (to f ≤ LAST_TASK) × (LONGEST < size_of f)
+
+-- The bytes are the front of a capture.
+abbrev pub IsFront : List ℕ → Type 0
+IsFront bytes =
+    ((length bytes < length MAGIC) × (bytes ≡ take (length bytes) MAGIC))
+    ⊎ ((frames : List (List ℕ)) × (rest : List ℕ) × IsOpen frames rest × (bytes ≡ through frames ++ rest))
 
 -- The first fault of the bytes, if they end here.
 abbrev pub HasFault : Flaw → (bytes : List ℕ) (place : ℕ) → Type 0
 HasFault Magic bytes place =
-    (front : List ℕ) × (b : ℕ) × (more : List ℕ) × (bytes ≡ front ++ b ∷ more) × (place ≡ length front) × (place < length MAGIC) × (front ≡ take place MAGIC)
-    × (b ≢ byte_at MAGIC place)
+    (b : ℕ) × (more : List ℕ) × (bytes ≡ take place MAGIC ++ b ∷ more) × (place < length MAGIC) × (b ≢ byte_at MAGIC place)
 HasFault Task bytes place =
-    (before : List (List ℕ)) × MayFollow before × (
-    ((b : ℕ) × (more : List ℕ) × (bytes ≡ through before ++ b ∷ more) × (LAST_TASK < b) × (b ≢ END) × (place ≡ length (through before)))
-    ⊎ ((f : List ℕ) × (more : List ℕ) × (bytes ≡ through before ++ f ++ more) × (length f ≡ 2) × (from f ≤ LAST_TASK) × (LAST_TASK < to f)
-    × (place ≡ length (through before) + 1)))
-HasFault Size bytes place =
-    (before : List (List ℕ)) × MayFollow before × (f : List ℕ) × (more : List ℕ) × (bytes ≡ through before ++ f ++ more) × (length f ≡ FRONT)
-    × (from f ≤ LAST_TASK) × (to f ≤ LAST_TASK) × (LONGEST < size_of f) × (place ≡ length (through before) + 2)
-HasFault Early bytes place =
-    (place ≡ length bytes) × (
-    ((length bytes < length MAGIC) × (bytes ≡ take (length bytes) MAGIC))
-    ⊎ ((frames : List (List ℕ)) × (rest : List ℕ) × IsOpen frames rest × (bytes ≡ through frames ++ rest)))
+    (before : List (List ℕ)) × (f : List ℕ) × Begins bytes before f
+    × ((IsFromNone f × (place ≡ start before)) ⊎ (IsToNone f × (place ≡ start before + 1)))
+HasFault Size bytes place = (before : List (List ℕ)) × (f : List ℕ) × Begins bytes before f × IsTooLarge f × (place ≡ start before + 2)
+HasFault Early bytes place = IsFront bytes × (place ≡ length bytes)
 HasFault After bytes place =
-    (frames : List (List ℕ)) × AreFrames frames × (b : ℕ) × (more : List ℕ) × (bytes ≡ through frames ++ END ∷ b ∷ more) × (place ≡ length (through frames) + 1)
+    (frames : List (List ℕ)) × AreFrames frames × (b : ℕ) × (more : List ℕ) × (bytes ≡ through frames ++ END ∷ b ∷ more) × (place ≡ start frames + 1)
 HasFault Clash bytes place =
-    (before : List (List ℕ)) × MayFollow before × (f : List ℕ) × (more : List ℕ) × (bytes ≡ through before ++ f ++ more) × IsFrame f
-    × (clashes before f ≡ true) × (place ≡ length (through before))
+    (before : List (List ℕ)) × (f : List ℕ) × Begins bytes before f × IsFrame f × (clashes before f ≡ true) × (place ≡ start before)
 
 -- A frame begins behind as many as there may be.
 abbrev pub IsTooLong : (bytes : List ℕ) (place : ℕ) → Type 0
 IsTooLong bytes place =
     (frames : List (List ℕ)) × AreFrames frames × (length frames ≡ MOST_FRAMES) × (b : ℕ) × (more : List ℕ) × (bytes ≡ through frames ++ b ∷ more)
-    × (b ≢ END) × (place ≡ length (through frames))
+    × (b ≢ END) × (place ≡ start frames)

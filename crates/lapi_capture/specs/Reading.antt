@@ -8,7 +8,7 @@ use Rattle.lapi_capture.specs.declared.format.TheConstants.{MAGIC, END, MOST_FRA
 use Rattle.lapi_capture.specs.declared.landing.Landing.{Landing}
 use Rattle.lapi_capture.specs.declared.stage.Stage.{Stage}
 use Rattle.lapi_capture.specs.declared.stage.Stage.TheVariants.{Opening, Frames, Over, Faulty}
-use Rattle.lapi_capture.specs.Captures.{through, parts_of, landings, AreFrames, IsOpen, HasFault, IsTooLong}
+use Rattle.lapi_capture.specs.Captures.{start, through, parts_of, landings, AreFrames, IsOpen, HasFault, IsTooLong}
 use Rattle.lapi_capture.specs.Entries.{Entries, entries_of}
 
 -- how many whole frames came and the place behind them, what is kept of their parts, their landings, and the bytes
@@ -21,14 +21,17 @@ pub record Reading : Type 0 where
   pub landings : List Landing
   pub rest : List ℕ
 
+abbrev pub reading : Stage → (frames place : ℕ) → Entries → List Landing → (rest : List ℕ) → Reading
+reading stage frames place entries landings rest =
+    record { stage = stage; frames = frames; place = place; entries = entries; landings = landings; rest = rest }
+
 -- within the first bytes
 abbrev pub beginning : (rest : List ℕ) → Reading
-beginning rest = record { stage = Opening; frames = 0; place = 0; entries = []; landings = []; rest = rest }
+beginning rest = reading Opening 0 0 [] [] rest
 
 -- behind these frames
 abbrev pub reading_of : Stage → (frames : List (List ℕ)) (rest : List ℕ) → Reading
-reading_of stage frames rest =
-    record { stage = stage; frames = length frames; place = length (through frames); entries = entries_of (parts_of frames); landings = landings frames; rest = rest }
+reading_of stage frames rest = reading stage (length frames) (start frames) (entries_of (parts_of frames)) (landings frames) rest
 
 -- A fault is told as it is fed, but for Early, which the end alone can tell. Without memory nothing is told.
 abbrev pub Tells : Stage → Reading → (bytes : List ℕ) → Type 0

@@ -31,12 +31,12 @@ pub struct Reader {
 }
 
 impl Model for Reader {
-    ghost use Rattle.lapi_capture.specs.Reading.{Reading};
+    ghost use Rattle.lapi_capture.specs.Reading.{Reading, reading};
     ghost use Rattle.lapi_capture.specs.Steps.{IsSmall};
 
     ghost Value = { Reading };
 
-    ghost view = { λ r. record { stage = r.stage; frames = r.frames; place = r.place; entries = r.messages; landings = r.landings.items; rest = r.rest.items } };
+    ghost view = { λ r. reading r.stage r.frames r.place r.messages r.landings.items r.rest.items };
 
     ghost invariant = { λ r. IsSmall r.stage r.frames r.place r.rest.items };
 }
@@ -132,6 +132,7 @@ impl Reader {
                 self.bad(place, Flaw::After);
                 Ok(())
             }
+            // Behind a fault nothing counts.
             Stage::Faulty(_) => Ok(()),
         }
     }
