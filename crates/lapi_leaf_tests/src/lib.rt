@@ -5,6 +5,8 @@
 #[cfg(test)]
 mod calls;
 #[cfg(test)]
+mod capture;
+#[cfg(test)]
 mod collect;
 #[cfg(test)]
 mod counters;

@@ -1,0 +1,8 @@
+mod Again
+mod Counts
+mod Found
+mod FewFragments
+mod Kept
+mod OneReading
+mod Told
+mod WholeFrames

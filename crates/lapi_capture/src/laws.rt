@@ -1,0 +1,11 @@
+ghost use Rattle.std.specs.Prelude.{ℕ, List};
+ghost use Rattle.lapi_capture.specs.Reading.{Reading, IsReadingOf, FaultsAreExact, LimitIsExact, FramesAreTold, EndIsTold};
+
+/// What a reader tells of bytes: each fault exactly where they have it, and else their frames and the landings in them.
+pub fn captures_are_read()
+    ensures fault { (r : Reading) (bytes : List ℕ) → IsReadingOf r bytes → FaultsAreExact r bytes }
+    ensures limit { (r : Reading) (bytes : List ℕ) → IsReadingOf r bytes → LimitIsExact r bytes }
+    // Behind whole frames, or within a further one.
+    ensures frames { (r : Reading) (bytes : List ℕ) → IsReadingOf r bytes → FramesAreTold r bytes }
+    ensures end { (r : Reading) (bytes : List ℕ) → IsReadingOf r bytes → EndIsTold r bytes }
+{}

@@ -1,0 +1,8 @@
+/// What is kept of a message of which a part came.
+#[derive(Clone, Copy, Debug)]
+pub(crate) struct Seen {
+    pub(crate) version: u8,
+    pub(crate) length: u32,
+    /// Bit j tells whether fragment j came.
+    pub(crate) fragments: u64,
+}
