@@ -223,7 +223,7 @@ module _ (script : Script) (rules : Rules) where
         begun : begin script rules r t w ≡ stepped script rules r (Begin first.m t w)
         begun = begins (first.m ∷ first.ms) (free-is free) first.queued
 
-        pub job-is : (bytes : List ℕ) (number : ℕ) → number ≡ before.state.number → bytes ≡ bytes_held before.state.memory job.buffer → (runs J t w ≡ None) × IsFirstJob script rules t r w (record { name = job.name; task = number; worker = w; completion = job.completion; user = job.user; buffer = bytes })
+        pub job-is : (bytes : List ℕ) (number : ℕ) → number ≡ before.state.number → bytes ≡ bytes_held before.state.memory job.buffer → (runs J t w ≡ None) × IsFirstJob script rules t w r (record { name = job.name; task = number; worker = w; completion = job.completion; user = job.user; buffer = bytes })
         unfolding followed
         job-is bytes number own found =
             let some = completed t first.m waiting.0 in

@@ -17,10 +17,10 @@ use Rattle.lapi_task.specs.declared.outcome.Outcome.{Outcome}
 use Rattle.lapi_task.specs.declared.task.Task.{Task}
 use Rattle.lapi_task.specs.HasEffect.{IsAt, HasEffect}
 
-module _ (script : Script) (rules : Rules) (t : ℕ) (r : Run) where
+module _ (script : Script) (rules : Rules) (t : ℕ) where
   -- The job that worker w of task t begins is that of the first message in the queue, with the completion handler, the
   -- user value and the buffer that the record has then. It may be given to its completion handler.
-  pub record IsFirstJob (w : ℕ) (job : Job) : Type 0 where
+  pub record IsFirstJob (w : ℕ) (r : Run) (job : Job) : Type 0 where
     pub rest : List MsgName
     pub first : queue script rules r.journal t ≡ job.name ∷ rest
     pub place : (job.task ≡ t) × (job.worker ≡ w)
@@ -31,13 +31,13 @@ module _ (script : Script) (rules : Rules) (t : ℕ) (r : Run) where
     pub short : length job.buffer ≤ LONGEST_ACTIVE
 
   -- A worker that runs a job is busy; one that runs none begins the first job, or is idle where none waits.
-  abbrev pub IsBegun : (worker : ℕ) → Begun → Type 0
-  IsBegun w Busy = is_some (runs r.journal t w) ≡ true
-  IsBegun w Idle = (runs r.journal t w ≡ None) × (queue script rules r.journal t ≡ [])
-  IsBegun w (IsJob job) = (runs r.journal t w ≡ None) × IsFirstJob w job
+  abbrev pub IsBegun : (worker : ℕ) → Run → Begun → Type 0
+  IsBegun w r Busy = is_some (runs r.journal t w) ≡ true
+  IsBegun w r Idle = (runs r.journal t w ≡ None) × (queue script rules r.journal t ≡ [])
+  IsBegun w r (IsJob job) = (runs r.journal t w ≡ None) × IsFirstJob w r job
 
   -- The job that a worker runs, after its completion handler has answered.
-  pub record IsFinished (f : Finished) : Type 0 where
+  pub record IsFinished (r : Run) (f : Finished) : Type 0 where
     pub running : runs r.journal t f.worker ≡ Some f.name
     pub place : f.task ≡ t
     pub buffer : f.buffer ≡ (values script rules r.journal).held f.name

@@ -61,14 +61,14 @@ impl Task {
     pub fn queued(&self) -> u32
         ensures { ForEachRecord self.now (λ script rules t r. result ≡ length (queue script rules r.journal t)) }
     {
-        small(self.state.jobs.queued())
+        to_u32(self.state.jobs.queued())
     }
 
     /// How many workers run a job.
     pub fn running(&self) -> u32
         ensures { ForEachRecord self.now (λ script rules t r. result ≡ length (busy script r.journal t)) }
     {
-        small(self.state.jobs.running())
+        to_u32(self.state.jobs.running())
     }
 
     /// The numbers of the link to task `b`.
@@ -105,8 +105,8 @@ impl Task {
     }
 }
 
-/// The number, which is below 2^32.
-fn small(n: usize) -> u32
+/// The number in 32 bits, where it has no more.
+fn to_u32(n: usize) -> u32
     ensures { n < 2 ^ 32 → result ≡ n }
 {
     n.min(u32::MAX as usize) as u32

@@ -30,7 +30,7 @@ impl Task {
         ensures effect { OnOk result (Performs (λ script rules r t. begin script rules r t worker)
             self.old self.new out.old out.new) }
         ensures begun { IfOk result (λ begun. (script : Script) (rules : Rules) (t : ℕ) (r : Run)
-            → IsAt script rules t self.old r → IsBegun script rules t r worker begun) }
+            → IsAt script rules t self.old r → IsBegun script rules t worker r begun) }
     {
         let job = match self.state.jobs.begin(worker) {
             Began::Job(job) => job,

@@ -5,4 +5,4 @@ use Rattle.lapi_task.proofs.task.Task.queued.Goals as goal
 pub returns : goal.returns
 returns c = λ script rules t r h.
     let jobs = h.holds.jobs in
-    c.small.ensures (subst (λ n. n < 2 ^ 32) (sym c.queued.ensures) jobs.few) ∙ c.queued.ensures ∙ waiting-counted script rules t c.args.self.now.state.jobs r.journal jobs
+    c.to_u32.ensures (subst (λ n. n < 2 ^ 32) (sym c.queued.ensures) jobs.few) ∙ c.queued.ensures ∙ waiting-counted script rules t c.args.self.now.state.jobs r.journal jobs
