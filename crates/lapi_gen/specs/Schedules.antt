@@ -44,7 +44,8 @@ adds_there batch = requests batch + batch.lost + answers batch
 abbrev pub adds_back : Batch → ℕ
 adds_back batch = requests batch + answers batch
 
--- how many entries a batch adds to wire (x, y)
+-- how many entries a batch adds to wire (x, y), which is the wire of a link, a wire back, or none of them; never both,
+-- since twice the distance is no multiple of the number of tasks
 abbrev pub adds : Batch → (x y : ℕ) → ℕ
 adds batch x y = cond (y == target batch x) (adds_there batch) (cond (x == target batch y) (adds_back batch) 0)
 
@@ -64,10 +65,11 @@ link_of number b a =
       turn = slice_index (batch_of number b).turns a;
     }
 
--- the bounds of a link; no batch adds more than three times the packets of a longest message to a wire
+-- what a batch adds to a wire at most: a request, what is sent again, and an answer
 abbrev pub most_added : ℕ
 most_added = 3 * most_packets
 
+-- the bounds of a link
 pub record IsLink (link : Link) : Type 0 where
   pub from : link.from < TASKS
   pub to : link.to < TASKS

@@ -10,7 +10,12 @@ use crate::part::Part;
 use lapi_base::{Act, Line, Memory, Schedule};
 
 /// Appends the lines of a part of a batch on a link.
-pub fn link_lines(schedule: &mut Schedule, batch: &Batch, link: &Link, part: Part) -> Result<(), Memory>
+pub fn link_lines(
+    schedule: &mut Schedule,
+    batch: &Batch,
+    link: &Link,
+    part: Part,
+) -> Result<(), Memory>
     requires batch { IsBatch batch.now }
     requires link { IsLink link.now }
     ensures { OnOk result (schedule.new ≡ schedule.old ++ link_lines batch.now link.now part) }
@@ -18,7 +23,7 @@ pub fn link_lines(schedule: &mut Schedule, batch: &Batch, link: &Link, part: Par
     match part {
         Part::Steps => step(schedule, link.from),
         Part::Polls => poll(schedule, link.from),
-        Part::Requests => { deliveries_from_turn(schedule, link, batch.requests(), batch.kept()) }
+        Part::Requests => deliveries_from_turn(schedule, link, batch.requests(), batch.kept()),
         Part::Acknowledgements => {
             deliveries(schedule, link.to, link.from, link.back, batch.kept())
         }
