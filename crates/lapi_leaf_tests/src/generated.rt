@@ -2,7 +2,7 @@ use lapi_base::{Act, Addr, Line, Statement};
 use lapi_gen::generate;
 use std::test::Fail;
 
-/// The first bytes that task 0 stores in the seventh input, worked out by hand.
+/// The first bytes that task 0 stores in the seventh input, worked out by a plain program.
 const STORED: [u8; 4] = [188, 127, 98, 34];
 
 /// The number of a line of that input, and the tasks and the entry that it delivers, as a plain program has them: a
