@@ -1,4 +1,4 @@
-ghost use Rattle.std.specs.Prelude.{◌≡◌, ◌≢◌, ◌+◌, ◌<◌, ◌≤◌, List, ℕ, ◌++◌, [], length, Err, IfSome, OnOk};
+ghost use Rattle.std.specs.Prelude.{◌≡◌, ◌≢◌, ◌<◌, ◌≤◌, List, ℕ, [], length, Err, IfSome, OnOk};
 ghost use Rattle.lapi_capture.specs.declared.feed_fault.FeedFault.{FeedFault as Fault};
 ghost use Rattle.lapi_capture.specs.declared.feed_fault.FeedFault.TheVariants.{Memory as no_memory};
 ghost use Rattle.lapi_capture.specs.declared.stage.Stage.TheVariants.{Opening, Frames, Faulty};
