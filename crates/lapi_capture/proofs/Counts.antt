@@ -1,9 +1,9 @@
 -- How many fragments there are, and whether all of them came.
-use Rattle.std.proofs.Common.{◌≡◌, ℕ, ◌<◌, ◌≤◌, ◌^◌, ◌==◌, Bool, true, false, max, cond, sym, ◌∙◌, ⊎_elim, arith}
+use Rattle.std.proofs.Common.{◌≡◌, ℕ, ◌<◌, ◌≤◌, max, sym, ◌∙◌, ⊎_elim, arith}
 use Rattle.std.specs.Int.{div_ceil}
 use Rattle.std.proofs.Math.Dec.{leb}
 use Rattle.std.proofs.lemmas.Bool.{cases_lt, le-leb, lt-leb}
-use Rattle.lapi_base.specs.Packet.Layout.{Layout, First, Second, layout_of, unit}
+use Rattle.lapi_base.specs.Packet.Layout.{Layout, First, Second, unit}
 use Rattle.lapi_base.specs.Record.Below.{every_below, has_bit}
 use Rattle.lapi_base.specs.Record.Fragments.{fragments_in}
 use Rattle.lapi_base.proofs.BelowLaws.{every-not, every_below-from}

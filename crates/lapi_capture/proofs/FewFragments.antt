@@ -1,5 +1,5 @@
 -- A packet's message has few fragments.
-use Rattle.std.proofs.Common.{◌≡◌, ℕ, suc, ◌<◌, ◌≤◌, ◌==◌, ◌||◌, nat_lt, nat_le, Bool, true, false, cond, List, [], ◌∷◌, length, Result, Ok, Err, refl, sym, ap, ◌∙◌, subst, arith}
+use Rattle.std.proofs.Common.{◌≡◌, ℕ, ◌<◌, ◌≤◌, ◌==◌, ◌||◌, nat_le, Bool, true, false, cond, List, [], ◌∷◌, length, Result, Ok, Err, refl, ap, subst, arith}
 use Rattle.std.specs.Prelude.{IsTrue}
 use Rattle.std.proofs.lemmas.Bool.{ltb-true, leb-true, eqb-true}
 use Rattle.lapi_base.specs.declared.message.Leg.{Leg}
@@ -7,7 +7,6 @@ use Rattle.lapi_base.specs.declared.message.Leg.TheVariants.{Go, Back, Note, Ech
 use Rattle.lapi_base.specs.declared.packet.DataPacket.{DataPacket}
 use Rattle.lapi_base.specs.declared.packet.Packet.{Packet}
 use Rattle.lapi_base.specs.declared.packet.Packet.TheVariants.{Data, Ack}
-use Rattle.lapi_base.specs.declared.reply.Bad.{Bad}
 use Rattle.lapi_base.specs.declared.reply.Reason.{Reason}
 use Rattle.lapi_base.specs.Packet.Format.{Format, Done, Field, ◌>>=◌, and_then, bytes_form, number_at, reading, whole}
 use Rattle.lapi_base.specs.Packet.Layout.{Layout, First, Second, unit, longest}

@@ -1,8 +1,7 @@
 -- What the entries of messages keep of the parts that came: all that clashes and landings ask for.
-use Rattle.std.proofs.Common.{◌≡◌, ◌≢◌, ℕ, zero, suc, ◌+◌, ◌*◌, ◌^◌, ◌%◌, ◌<◌, ◌≤◌, ◌==◌, Bool, true, false, not, ◌&&◌, ◌||◌, cond, bit_or, List, [], ◌∷◌, length, Option, Some, None, refl, sym, ap, ◌∙◌, subst, arith}
+use Rattle.std.proofs.Common.{◌≡◌, ℕ, ◌<◌, ◌≤◌, ◌==◌, Bool, true, false, not, ◌&&◌, ◌||◌, cond, List, [], ◌∷◌, Option, Some, None, refl, sym, ap, ◌∙◌}
 use Rattle.std.specs.Int.{w64}
 use Rattle.std.specs.List.{list_any}
-use Rattle.std.specs.Map.{lookup}
 use Rattle.std.proofs.lemmas.Bool.{false≢true, and_parts, eqb-true}
 use Rattle.indexmap.specs.IndexMap.{insert_entry}
 use Rattle.lapi_base.specs.Record.Below.{every_below, has_bit}
@@ -11,8 +10,8 @@ use Rattle.lapi_base.proofs.BitLaws.{has_bit-zero, has_bit-set}
 use Rattle.lapi_capture.specs.declared.incoming.Incoming.{Incoming}
 use Rattle.lapi_capture.specs.declared.part.Part.{Part}
 use Rattle.lapi_capture.specs.declared.seen.Seen.{Seen}
-use Rattle.lapi_capture.specs.Entries.{Entries, entry, bits, bits_by, with_bit, differs, differs_from, seen_with, with_part, completes, entries_of}
-use Rattle.lapi_capture.specs.Parts.{is_same, disagrees, is_fragment, has, count, lands}
+use Rattle.lapi_capture.specs.Entries.{Entries, entry, bits, bits_by, with_bit, differs, differs_from, seen_with, completes, entries_of}
+use Rattle.lapi_capture.specs.Parts.{is_same, disagrees, has, count, lands}
 use Rattle.lapi_capture.specs.SameMessages.{same_refl, same_true, same_laws}
 
 -- ---- the entry of a message

@@ -1,13 +1,12 @@
 -- Bytes have one reading: a fault is told exactly where they have it, and frames as they stand in them.
-use Rattle.std.proofs.Common.{◌≡◌, ◌≢◌, ◌⊎◌, ◌↔◌, ℕ, List, [], ◌∷◌, ◌++◌, length, take, Result, Ok, Err, refl, sym, ap, ◌∙◌, subst, inl, inr}
+use Rattle.std.proofs.Common.{◌≡◌, ◌≢◌, ℕ, List, [], length, Result, Err, refl, sym, ap, ◌∙◌, subst, inl, inr}
 use Rattle.lapi_capture.specs.declared.feed_fault.FeedFault.{FeedFault}
 use Rattle.lapi_capture.specs.declared.feed_fault.FeedFault.TheVariants.{Bad, Limit, Memory}
 use Rattle.lapi_capture.specs.declared.flaw.Flaw.{Flaw}
 use Rattle.lapi_capture.specs.declared.flaw.Flaw.TheVariants.{Magic, Task, Size, Early, After, Clash}
-use Rattle.lapi_capture.specs.declared.format.TheConstants.{END}
 use Rattle.lapi_capture.specs.declared.stage.Stage.{Stage}
 use Rattle.lapi_capture.specs.declared.stage.Stage.TheVariants.{Opening, Frames, Over, Faulty}
-use Rattle.lapi_capture.specs.Captures.{through, AreFrames, IsOpen, HasFault, IsTooLong}
+use Rattle.lapi_capture.specs.Captures.{HasFault, IsTooLong}
 use Rattle.lapi_capture.specs.Reading.{Reading, reading_of, Tells, IsReadingOf, ended, ended_by, FaultsAreExact, LimitIsExact, FramesAreTold, EndIsTold}
 use Rattle.lapi_capture.proofs.Again.{read, open_read, capture_read}
 use Rattle.lapi_capture.proofs.Found.{magic_read, fault_found, limit_found}

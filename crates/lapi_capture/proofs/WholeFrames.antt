@@ -1,7 +1,6 @@
 -- What becomes of a frame, whole or not, behind other frames.
 use Rattle.std.proofs.Common.{◌≡◌, ℕ, suc, ◌+◌, ◌<◌, ◌≤◌, Bool, true, false, not, ◌&&◌, ◌||◌, cond, nat_lt, ◌==◌, List, [], ◌∷◌, ◌++◌, length, Option, Some, None, refl, sym, ap, ◌∙◌, arith}
-use Rattle.std.specs.List.{list_any}
-use Rattle.std.proofs.lemmas.Bool.{ltb-true, ltb-false, eqb-true, or_left}
+use Rattle.std.proofs.lemmas.Bool.{ltb-true, ltb-false, eqb-true}
 use Rattle.std.proofs.lemmas.List.{append-nil, length-append}
 use Rattle.lapi_base.specs.Packet.Spelling.{decoded}
 use Rattle.lapi_base.specs.declared.packet.Packet.TheVariants.{Data, Ack}
@@ -9,14 +8,13 @@ use Rattle.lapi_base.specs.declared.packet.Packet.{Packet}
 use Rattle.lapi_base.specs.declared.reply.Bad.{Bad}
 use Rattle.std.specs.Prelude.{Result, Ok, Err}
 use Rattle.lapi_capture.specs.declared.flaw.Flaw.TheVariants.{Clash}
-use Rattle.lapi_capture.specs.declared.format.TheConstants.{FRONT, LAST_TASK, LONGEST, MOST_FRAMES}
-use Rattle.lapi_capture.specs.declared.landing.Landing.{Landing}
+use Rattle.lapi_capture.specs.declared.format.TheConstants.{FRONT, LAST_TASK, LONGEST}
 use Rattle.lapi_capture.specs.declared.part.Part.{Part}
 use Rattle.lapi_capture.specs.declared.stage.Stage.TheVariants.{Frames}
 use Rattle.lapi_capture.specs.Captures.{through, with_part, parts_of, landing_in, landings, IsFrame, IsPartial, disagrees_with, clashes, AreFrames}
-use Rattle.lapi_capture.specs.Entries.{Entries, differs, completes, entries_of}
+use Rattle.lapi_capture.specs.Entries.{differs, entries_of}
 use Rattle.lapi_capture.specs.Format.{byte_at, to, size_of, handed, part_by, part_of, is_addressed}
-use Rattle.lapi_capture.specs.Parts.{disagrees, lands, landing}
+use Rattle.lapi_capture.specs.Parts.{landing}
 use Rattle.lapi_capture.specs.Reading.{Reading, reading_of}
 use Rattle.lapi_capture.specs.Steps as steps
 use Rattle.lapi_capture.proofs.FewFragments.{few_fragments}

@@ -1,5 +1,5 @@
 -- The format of captures: frames as bytes, and what a frame tells.
-use Rattle.std.specs.Prelude.{ℕ, ◌+◌, ◌*◌, Bool, true, ◌&&◌, ◌==◌, List, [], ◌∷◌, drop, slice_index_or, Option, Some, None, Result, Ok, Err}
+use Rattle.std.specs.Prelude.{ℕ, ◌+◌, ◌*◌, Bool, true, ◌&&◌, ◌==◌, List, drop, slice_index_or, Option, Some, None, Result, Ok, Err}
 use Rattle.lapi_base.specs.declared.packet.Packet.{Packet}
 use Rattle.lapi_base.specs.declared.packet.Packet.TheVariants.{Data, Ack}
 use Rattle.lapi_base.specs.declared.reply.Bad.{Bad}
@@ -28,16 +28,16 @@ handed frame = drop FRONT frame
 abbrev pub part_by : (version : ℕ) → Result Packet Bad → Option Part
 part_by version (Ok (Data p)) =
     Some (record { message = record { name = p.name; to = p.to }; version = version; length = p.length; fragment = p.fragment })
-part_by version (Ok (Ack from to base bits)) = None
+part_by version (Ok (Ack sender receiver base bits)) = None
 part_by version (Err bad) = None
 
 unfoldable pub part_of : List ℕ → Option Part
 part_of frame = part_by (byte_at (handed frame) 1) (decoded (handed frame))
 
 -- It spells no packet of other tasks than the frame's.
-abbrev pub is_addressed_by : (from to : ℕ) → Result Packet Bad → Bool
+abbrev pub is_addressed_by : (a b : ℕ) → Result Packet Bad → Bool
 is_addressed_by a b (Ok (Data p)) = p.from == a && p.to == b
-is_addressed_by a b (Ok (Ack from to base bits)) = from == a && to == b
+is_addressed_by a b (Ok (Ack sender receiver base bits)) = sender == a && receiver == b
 is_addressed_by a b (Err bad) = true
 
 unfoldable pub is_addressed : List ℕ → Bool

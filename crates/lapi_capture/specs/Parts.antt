@@ -1,5 +1,5 @@
 -- Fragments of messages, as data packets tell of them: which disagree, which messages are whole, and which land.
-use Rattle.std.specs.Prelude.{ℕ, Bool, not, ◌&&◌, ◌==◌, cond, List, [], ◌∷◌}
+use Rattle.std.specs.Prelude.{ℕ, Bool, not, ◌&&◌, ◌==◌, List, ◌∷◌}
 use Rattle.std.specs.List.{list_any}
 use Rattle.lapi_base.specs.Packet.Layout.{layout_of, unit}
 use Rattle.lapi_base.specs.Record.Below.{every_below}

@@ -1,5 +1,6 @@
--- When two messages are one.
-use Rattle.std.proofs.Common.{◌≡◌, ℕ, Bool, true, false, ◌&&◌, ◌==◌, List, ◌++◌, refl, sym, ap, ◌∙◌}
+-- When two messages are one, and that their hashes are then alike. It stands here for the laws of the key's `impl`s, which
+-- cite no proofs.
+use Rattle.std.proofs.Common.{◌≡◌, true, ◌==◌, ◌++◌, sym, ap, ◌∙◌}
 use Rattle.std.specs.Bool.{IsTrue}
 use Rattle.std.specs.Cmp.{IsEquivalence}
 use Rattle.std.specs.Hash as fed

@@ -3,7 +3,7 @@ use Rattle.std.specs.Prelude.{◌≡◌, ℕ, suc, ◌+◌, ◌*◌, ◌<◌, �
 use Rattle.lapi_capture.specs.declared.feed_fault.FeedFault.TheVariants as faults
 use Rattle.lapi_capture.specs.declared.flaw.Flaw.{Flaw}
 use Rattle.lapi_capture.specs.declared.flaw.Flaw.TheVariants as flaws
-use Rattle.lapi_capture.specs.declared.format.TheConstants.{MAGIC, END, FRONT, LAST_TASK, LONGEST, MOST_FRAMES}
+use Rattle.lapi_capture.specs.declared.format.TheConstants.{MAGIC, END, FRONT, LAST_TASK, LONGEST, MOST_FRAMES, MOST_TOLD}
 use Rattle.lapi_capture.specs.declared.part.Part.{Part}
 use Rattle.lapi_capture.specs.declared.stage.Stage.{Stage}
 use Rattle.lapi_capture.specs.declared.stage.Stage.TheVariants.{Opening, Frames, Over, Faulty}
@@ -73,10 +73,10 @@ byte_by (Faulty fault) r b = r
 abbrev pub byte : Reading → ℕ → Reading
 byte r b = byte_by r.stage r b
 
--- Numbers stay small: by the two bytes of its size a frame has 4 + 65,535 bytes at most.
+-- Numbers stay small: a frame of which bytes are missing has fewer than its first four can tell.
 pub record IsSmall (at_stage : Stage) (count at : ℕ) (bytes : List ℕ) : Type 0 where
   pub frames : count ≤ MOST_FRAMES
   pub opening : at_stage ≡ Opening → count ≡ 0
   pub within : 0 < length bytes → count < MOST_FRAMES
-  pub rest : length bytes ≤ 65539
-  pub place : at ≤ length MAGIC + 65540 * count
+  pub rest : length bytes < MOST_TOLD
+  pub place : at ≤ length MAGIC + MOST_TOLD * count

@@ -4,7 +4,7 @@ ghost use Rattle.lapi_capture.specs.Format.{byte_at, part_of, part_by, is_addres
 
 use crate::format::{FRONT, byte_at};
 use crate::incoming::Incoming;
-use crate::part::Part;
+use crate::part::{MOST_FRAGMENTS, Part};
 use lapi_base::Packet;
 use lapi_packet::decode;
 
@@ -14,7 +14,7 @@ pub(crate) fn contents(frame: &[u8]) -> (bool, Option<Part>)
     requires { FRONT ≤ length frame.now }
     ensures addressed { result.0 ≡ is_addressed frame.now }
     ensures part { result.1 ≡ part_of frame.now }
-    ensures few { IfSome result.1 (λ part. part.fragment < 64) }
+    ensures few { IfSome result.1 (λ part. part.fragment < MOST_FRAGMENTS) }
 {
     let from = byte_at(frame, 0) as u32;
     let to = byte_at(frame, 1) as u32;
@@ -26,7 +26,7 @@ pub(crate) fn contents(frame: &[u8]) -> (bool, Option<Part>)
 fn contents_of(from: u32, to: u32, bytes: &[u8]) -> (bool, Option<Part>)
     ensures addressed { result.0 ≡ is_addressed_by from to (decoded bytes.now) }
     ensures part { result.1 ≡ part_by (byte_at bytes.now 1) (decoded bytes.now) }
-    ensures few { IfSome result.1 (λ part. part.fragment < 64) }
+    ensures few { IfSome result.1 (λ part. part.fragment < MOST_FRAGMENTS) }
 {
     match decode(bytes) {
         Err(_) => (true, None),

@@ -5,7 +5,7 @@
 //! frame     from | to | size, two bytes, the high one first | as many bytes as size says
 //! ```
 
-ghost use Rattle.std.specs.Prelude.{◌≡◌, ◌≤◌, length};
+ghost use Rattle.std.specs.Prelude.{◌≡◌, ◌≤◌, ◌+◌, length};
 ghost use Rattle.lapi_capture.specs.Format.{byte_at, size_of};
 
 /// The bytes that each capture begins with.
@@ -26,6 +26,9 @@ pub(crate) const MOST_FRAMES: u32 = 20_000;
 /// The bytes of a frame before those that it hands over.
 pub(crate) const FRONT: usize = 4;
 
+/// The most bytes of a frame that its first four can tell.
+pub(crate) const MOST_TOLD: usize = 65_539;
+
 /// A byte, and 0 behind the last.
 pub(crate) fn byte_at(bytes: &[u8], index: usize) -> u8
     ensures { result ≡ byte_at bytes.now index }
@@ -37,7 +40,7 @@ pub(crate) fn byte_at(bytes: &[u8], index: usize) -> u8
 pub(crate) fn size_of(frame: &[u8]) -> usize
     requires { FRONT ≤ length frame.now }
     ensures size { result ≡ size_of frame.now }
-    ensures small { result ≤ 65535 }
+    ensures small { FRONT + result ≤ MOST_TOLD }
 {
     256 * frame[2] as usize + frame[3] as usize
 }

@@ -1,5 +1,6 @@
 ghost use Rattle.std.specs.Prelude.{ℕ, List};
-ghost use Rattle.lapi_capture.specs.Reading.{Reading, IsReadingOf, FaultsAreExact, LimitIsExact, FramesAreTold, EndIsTold};
+ghost use Rattle.lapi_capture.specs.Reading.{Reading, IsReadingOf};
+ghost use Rattle.lapi_capture.specs.Reading.{FaultsAreExact, LimitIsExact, FramesAreTold, EndIsTold};
 
 /// What a reader tells of bytes: each fault exactly where they have it, and else their frames and the landings in them.
 pub fn captures_are_read()

@@ -3,7 +3,7 @@ ghost use Rattle.lapi_base.specs.Record.Below.{has_bit, every_below};
 ghost use Rattle.lapi_capture.specs.Entries.{bits, with_part, differs, completes};
 
 use crate::incoming::Incoming;
-use crate::part::Part;
+use crate::part::{MOST_FRAGMENTS, Part};
 use crate::seen::Seen;
 use indexmap::IndexMap;
 use lapi_base::Memory;
@@ -46,7 +46,7 @@ impl Messages {
 
     /// A part comes; whether it is the last missing one of its message.
     pub(crate) fn take(&mut self, part: Part) -> Result<bool, Memory>
-        requires { part.fragment < 64 }
+        requires { part.fragment < MOST_FRAGMENTS }
         ensures entries { OnOk result (self.new ≡ with_part self.old part) }
         ensures completes { IfOk result (λ done. done ≡ completes self.old part) }
     {

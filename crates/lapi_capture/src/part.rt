@@ -5,6 +5,9 @@ ghost use Rattle.lapi_capture.specs.Parts.{count};
 use crate::incoming::Incoming;
 use lapi_base::Sizes;
 
+/// The most fragments of a message, in each layout.
+pub(crate) const MOST_FRAGMENTS: u32 = 64;
+
 /// A fragment of a message, as a data packet tells of it.
 #[derive(Clone, Copy, Debug)]
 pub(crate) struct Part {

@@ -1,4 +1,4 @@
-ghost use Rattle.std.specs.Prelude.{◌≡◌, ◌≢◌, ◌+◌, ◌<◌, ◌≤◌, List, ℕ, ◌++◌, [], length, Err, IfSome, OnOk};
+ghost use Rattle.std.specs.Prelude.{◌≡◌, ◌≢◌, ◌<◌, ◌≤◌, List, ℕ, [], length, Err, IfSome, OnOk};
 ghost use Rattle.lapi_capture.specs.declared.feed_fault.FeedFault.{FeedFault as Fault};
 ghost use Rattle.lapi_capture.specs.declared.feed_fault.FeedFault.TheVariants.{Memory as no_memory};
 ghost use Rattle.lapi_capture.specs.declared.stage.Stage.TheVariants.{Opening, Frames, Faulty};
@@ -8,10 +8,12 @@ ghost use Rattle.lapi_capture.specs.Steps.{bad, byte, counted, first, further, m
 use crate::contents::contents;
 use crate::feed_fault::FeedFault;
 use crate::flaw::Flaw;
-use crate::format::{END, FRONT, LAST_TASK, LONGEST, MAGIC, MOST_FRAMES, byte_at, size_of};
+use crate::format::{
+    END, FRONT, LAST_TASK, LONGEST, MAGIC, MOST_FRAMES, MOST_TOLD, byte_at, size_of,
+};
 use crate::landing::Landing;
 use crate::messages::Messages;
-use crate::part::Part;
+use crate::part::{MOST_FRAGMENTS, Part};
 use crate::stage::Stage;
 use lapi_base::Memory;
 use std::alloc::Global;
@@ -208,10 +210,10 @@ impl Reader {
 
     fn whole(&mut self, length: usize, addressed: bool, part: Option<Part>) -> Result<(), Memory>
         requires frames { self.old.frames < MOST_FRAMES }
-        requires length { length ≤ 65540 }
+        requires length { length ≤ MOST_TOLD }
         requires stage { self.old.stage ≡ Frames }
         requires rest { self.old.rest ≡ [] }
-        requires part { IfSome part (λ part. part.fragment < 64) }
+        requires part { IfSome part (λ part. part.fragment < MOST_FRAGMENTS) }
         ensures { OnOk result (self.new ≡ whole self.old length addressed part) }
     {
         if !addressed {
@@ -231,10 +233,10 @@ impl Reader {
     #[tactic(auto, unfolding(crate::specs::Steps::told))]
     fn told(&mut self, length: usize, part: Part) -> Result<(), Memory>
         requires frames { self.old.frames < MOST_FRAMES }
-        requires length { length ≤ 65540 }
+        requires length { length ≤ MOST_TOLD }
         requires stage { self.old.stage ≡ Frames }
         requires rest { self.old.rest ≡ [] }
-        requires part { part.fragment < 64 }
+        requires part { part.fragment < MOST_FRAGMENTS }
         ensures { OnOk result (self.new ≡ told self.old length part) }
     {
         if self.messages.differs(part) {
@@ -255,7 +257,7 @@ impl Reader {
 
     fn counted(&mut self, length: usize)
         requires frames { self.old.frames < MOST_FRAMES }
-        requires length { length ≤ 65540 }
+        requires length { length ≤ MOST_TOLD }
         requires stage { self.old.stage ≡ Frames }
         requires rest { self.old.rest ≡ [] }
         ensures { self.new ≡ counted self.old length }

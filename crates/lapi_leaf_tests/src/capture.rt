@@ -71,11 +71,7 @@ fn faults_have_their_places_and_stay(rt: HostRuntime) -> Result<(), Fail> {
         ("4c4c430100010501", 6, Flaw::Size),
         ("4c4c4301ff00", 5, Flaw::After),
         // An acknowledgement of tasks 1 and 0 in a frame of tasks 0 and 1.
-        (
-            "4c4c43010001000d4c010201000000000100000000",
-            4,
-            Flaw::Clash,
-        ),
+        ("4c4c43010001000d4c010201000000000100000000", 4, Flaw::Clash),
     ];
     for (digits, place, flaw) in rows {
         let bytes = hex::decode(rt.alloc(), digits)?;
@@ -86,7 +82,8 @@ fn faults_have_their_places_and_stay(rt: HostRuntime) -> Result<(), Fail> {
         assert_eq!(rt; reader.end(), Err(fault), "{digits}");
     }
     let mut reader = Reader::new(rt.alloc());
-    reader.feed(capture(rt.alloc())?.as_slice()).is_ok();
+    let whole = capture(rt.alloc())?;
+    assert_eq!(rt; reader.feed(whole.as_slice()), Ok(()));
     let after = FeedFault::Bad {
         place: 60,
         flaw: Flaw::After,

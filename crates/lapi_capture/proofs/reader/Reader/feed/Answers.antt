@@ -1,4 +1,4 @@
-use Rattle.std.proofs.Common.{◌≡◌, ap, sym, subst, ◌++◌, ◌∙◌, rules, arith}
+use Rattle.std.proofs.Common.{ap, sym, subst, ◌++◌, ◌∙◌, arith}
 use Rattle.std.specs.List.{fold}
 use Rattle.std.proofs.lemmas.List.{take_all}
 use Rattle.lapi_capture.specs.Reading.{IsReadingOf}
