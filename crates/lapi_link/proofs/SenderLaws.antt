@@ -1,17 +1,18 @@
 -- Laws of what the sending end of a link stands for.
-use Rattle.std.proofs.Common.{◌≡◌, ℕ, ◌+◌, ◌-◌, ◌<◌, ◌≤◌, nat_lt, true, false, not, ◌&&◌, List, [], ◌∷◌, ◌++◌, take, drop, Option, Some, None, slice_get, refl, sym, ap, ◌∙◌, ⊎_elim, arith, append_assoc}
+use Rattle.std.proofs.Common.{◌≡◌, ℕ, suc, ◌+◌, ◌-◌, ◌<◌, ◌≤◌, nat_lt, Bool, true, false, cond, not, ◌&&◌, List, [], ◌∷◌, ◌++◌, take, drop, Option, Some, None, slice_get, refl, sym, ap, ◌∙◌, ⊎_elim, arith, append_assoc, append-nil}
 use Rattle.std.specs.Prelude.{slice_index_or}
 use Rattle.std.specs.List.{AllByRecursion, filter_map, cons_option}
-use Rattle.std.proofs.lemmas.Bool.{cases_lt, both_ways, and_parts, or_left, not-true, cond-true, cond-false, false_from_ne_true, lt-ltb, le-ltb}
+use Rattle.std.proofs.lemmas.Bool.{cases_lt, both_ways, and_parts, or_left, and_left, and_right, not-true, cond-true, cond-false, false_from_ne_true, lt-ltb, le-ltb}
 use Rattle.std.proofs.Math.Seq.{take-add}
 use Rattle.std.proofs.lemmas.List.{drop-drop, map-append, take_more, get_or-drop}
 use Rattle.std.proofs.lemmas.List.Elements.{filter_map-append}
 use Rattle.std.proofs.lemmas.Option.{slice_get_within, get_or_from_slice_get}
 use Rattle.lapi_base.specs.declared.wire.WireEntry.{WireEntry}
-use Rattle.lapi_base.proofs.BelowLaws.{below-all}
+use Rattle.lapi_base.specs.Record.Below.{below}
+use Rattle.lapi_base.proofs.BelowLaws.{below-all, below-none, below-cut}
 use Rattle.lapi_base.proofs.ListLaws.{all-weaker}
 use Rattle.lapi_window.specs.NumberSet.{Members, flag_at, is_in, is_covered}
-use Rattle.lapi_window.specs.SendWindow.{Sending, is_sent, is_acked, bytes_of, unacked}
+use Rattle.lapi_window.specs.SendWindow.{Sending, sent_count, is_sent, is_acked, is_unacked, bytes_of, unacked, packet_of}
 use Rattle.lapi_link.specs.Sender.{SendingEnd, sent, entries_to, tag_of, covered_tag, newly_acked}
 
 -- `send`
@@ -29,26 +30,42 @@ entries_one_more entries to i waiting entry e =
     ∙ ap (λ (xs : List WireEntry). entries ++ xs) (sym (map-append (λ (bytes : List ℕ). record { to = to; bytes = bytes }) (take i waiting) (take 1 (drop i waiting))))
     ∙ ap (λ (xs : List (List ℕ)). entries ++ entries_to to xs) (sym (take-add i 1 waiting))
 
--- `resend`
-abbrev pub kept_among : Sending → List ℕ → List (List ℕ)
-kept_among s numbers = filter_map (bytes_of s) numbers
+-- What f gives of the unacknowledged numbers below one, as a loop over the numbers from the base on goes.
+abbrev pub gives_below : {Y : Type 0} → (ℕ → Option Y) → Sending → ℕ → List Y
+gives_below f w n = filter_map f (below n (is_unacked w))
 
--- what f gives of one number more
-pub filter_map_more : {Y : Type 0} (f : ℕ → Option Y) (numbers : List ℕ) (i n : ℕ) → slice_get numbers i ≡ Some n → filter_map f (take (i + 1) numbers) ≡ filter_map f (take i numbers) ++ cons_option (f n) []
-filter_map_more f numbers i n at =
-    ap (filter_map f) (take_more numbers i n (slice_get_within numbers i n at) ∙ ap (λ k. take i numbers ++ k ∷ []) (get_or_from_slice_get numbers i n n at))
-    ∙ filter_map-append f (take i numbers) (n ∷ [])
+below-step : (n : ℕ) (p : ℕ → Bool) → below (n + 1) p ≡ cond (p n) (below n p ++ n ∷ []) (below n p)
+unfolding below
+below-step n p = let e : n + 1 ≡ suc n = omega arith in ap (λ k. below k p) e
 
-pub kept_one_more : (s : Sending) (numbers : List ℕ) (i n : ℕ) (bytes : List ℕ) → slice_get numbers i ≡ Some n → bytes_of s n ≡ Some bytes → kept_among s (take (i + 1) numbers) ≡ kept_among s (take i numbers) ++ bytes ∷ []
-kept_one_more s numbers i n bytes at there =
-    filter_map_more (bytes_of s) numbers i n at
-    ∙ ap (λ (o : Option (List ℕ)). kept_among s (take i numbers) ++ cons_option o []) there
+acked-low : (m : Members) (n : ℕ) → n < m.base → is_in m n ≡ true
+unfolding is_in
+acked-low m n lt = or_left (nat_lt n m.base) (flag_at m.flags (n - m.base)) (lt-ltb n m.base lt)
 
-pub resent_one_more : (entries : List WireEntry) (to i n : ℕ) (s : Sending) (bytes : List ℕ) → slice_get (unacked s) i ≡ Some n → bytes_of s n ≡ Some bytes → (entries ++ entries_to to (kept_among s (take i (unacked s)))) ++ record { to = to; bytes = bytes } ∷ [] ≡ entries ++ entries_to to (kept_among s (take (i + 1) (unacked s)))
-resent_one_more entries to i n s bytes at there =
-    append_assoc entries (entries_to to (kept_among s (take i (unacked s)))) (entries_to to (bytes ∷ []))
-    ∙ ap (λ (xs : List WireEntry). entries ++ xs) (sym (map-append (λ (b : List ℕ). record { to = to; bytes = b }) (kept_among s (take i (unacked s))) (bytes ∷ [])))
-    ∙ ap (λ (xs : List (List ℕ)). entries ++ entries_to to xs) (sym (kept_one_more s (unacked s) i n bytes at there))
+pub below-none-yet : {Y : Type 0} (f : ℕ → Option Y) (w : Sending) → gives_below f w w.acked.base ≡ []
+below-none-yet f w = ap (filter_map f) (below-none w.acked.base (is_unacked w) (λ k l. and_right (is_sent w k) (not (is_acked w k)) (ap not (acked-low w.acked k l))))
+
+pub below-one-more : {Y : Type 0} (f : ℕ → Option Y) (w : Sending) (n : ℕ) → gives_below f w (n + 1) ≡ gives_below f w n ++ cons_option (cond (is_unacked w n) (f n) None) []
+below-one-more f w n =
+    ap (filter_map f) (below-step n (is_unacked w))
+    ∙ (elim (is_unacked w n) as (λ b. filter_map f (cond b (below n (is_unacked w) ++ n ∷ []) (below n (is_unacked w))) ≡ gives_below f w n ++ cons_option (cond b (f n) None) []) [
+      | true ↦ filter_map-append f (below n (is_unacked w)) (n ∷ [])
+      | false ↦ sym (append-nil (gives_below f w n))
+    ])
+
+pub below-all-sent : {Y : Type 0} (f : ℕ → Option Y) (w : Sending) → sent_count w ≤ w.numbers → gives_below f w (sent_count w) ≡ filter_map f (unacked w)
+below-all-sent f w le = ap (filter_map f) (sym (below-cut (sent_count w) w.numbers (is_unacked w) le (λ k ge. and_left (is_sent w k) (not (is_acked w k)) (le-ltb k (sent_count w) ge))))
+
+-- a packet more is sent again where its number is not acknowledged, and none where it is
+pub resent-one : (entries : List WireEntry) (to : ℕ) (w : Sending) (n : ℕ) (bytes : List ℕ) → packet_of w n ≡ Some bytes → (entries ++ entries_to to (gives_below (bytes_of w) w n)) ++ record { to = to; bytes = bytes } ∷ [] ≡ entries ++ entries_to to (gives_below (bytes_of w) w (n + 1))
+resent-one entries to w n bytes at =
+    append_assoc entries (entries_to to (gives_below (bytes_of w) w n)) (entries_to to (bytes ∷ []))
+    ∙ ap (λ (xs : List WireEntry). entries ++ xs) (sym (map-append (λ (b : List ℕ). record { to = to; bytes = b }) (gives_below (bytes_of w) w n) (bytes ∷ [])))
+    ∙ ap (λ (xs : List (List ℕ)). entries ++ entries_to to xs) (sym (below-one-more (bytes_of w) w n ∙ ap (λ (o : Option (List ℕ)). gives_below (bytes_of w) w n ++ cons_option o []) at))
+
+pub resent-none : (entries : List WireEntry) (to : ℕ) (w : Sending) (n : ℕ) → packet_of w n ≡ None → entries ++ entries_to to (gives_below (bytes_of w) w n) ≡ entries ++ entries_to to (gives_below (bytes_of w) w (n + 1))
+resent-none entries to w n none =
+    ap (λ (xs : List (List ℕ)). entries ++ entries_to to xs) (sym (below-one-more (bytes_of w) w n ∙ ap (λ (o : Option (List ℕ)). gives_below (bytes_of w) w n ++ cons_option o []) none ∙ append-nil (gives_below (bytes_of w) w n)))
 
 -- `acked`
 filter_map-none : {X Y : Type 0} (f : X → Option Y) (xs : List X) → AllByRecursion (λ x. f x ≡ None) xs → filter_map f xs ≡ []

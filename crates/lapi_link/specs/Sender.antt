@@ -4,7 +4,7 @@ use Rattle.std.specs.List.{AllByRecursion, filter_map}
 use Rattle.lapi_base.specs.declared.layout.TheConstants.{FRAME_ROOM}
 use Rattle.lapi_base.specs.declared.wire.WireEntry.{WireEntry}
 use Rattle.lapi_window.specs.NumberSet.{is_covered}
-use Rattle.lapi_window.specs.SendWindow.{Sending, sent_count, is_acked, base_of, bytes_of, unacked}
+use Rattle.lapi_window.specs.SendWindow.{Sending, sent_count, is_acked, base_of, bytes_of, is_unacked, unacked}
 
 -- the window, the packets that wait to be sent, in the order of their numbers, and the tag of each number from the
 -- least that is not acknowledged on: the statement whose data it carries, or none
@@ -56,6 +56,10 @@ tag_of s n = cond (nat_lt n s.window.acked.base) None (slice_index_or s.tags (n 
 -- the tag of a number that an acknowledgement covers
 abbrev pub covered_tag : SendingEnd → (base bits : ℕ) → ℕ → Option ℕ
 covered_tag s base bits n = cond (is_covered base bits n) (tag_of s n) None
+
+-- where it is the first to cover it
+abbrev pub newly_covered_tag : SendingEnd → (base bits : ℕ) → ℕ → Option ℕ
+newly_covered_tag s base bits n = cond (is_unacked s.window n) (covered_tag s base bits n) None
 
 -- the tags of the numbers that an acknowledgement is the first to cover, by rising number
 abbrev pub newly_acked : SendingEnd → (base bits : ℕ) → List ℕ

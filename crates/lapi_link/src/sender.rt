@@ -1,7 +1,7 @@
 ghost use Rattle.std.specs.Prelude.{◌≡◌, ℕ, ◌+◌, ◌<◌, ◌≤◌, ◌==◌, ◌&&◌, true, [], ◌∷◌, ◌++◌, length, take, drop, slice_index_or, None, IfOk, OnOk};
 ghost use Rattle.lapi_window.specs.NumberSet.{is_covered};
 ghost use Rattle.lapi_window.specs.SendWindow.{MaySend, sent_count, unacked};
-ghost use Rattle.lapi_link.specs.Sender.{IsNewSender, appended, sendable, sent, kept, entries_to, IsAcked, covered_tag, newly_acked};
+ghost use Rattle.lapi_link.specs.Sender.{IsNewSender, appended, sendable, sent, kept, entries_to, IsAcked, newly_covered_tag, newly_acked};
 
 use crate::tags::Tags;
 use lapi_base::{Bytes, Entries, FRAME_ROOM, Frame, Memory, WireEntry};
@@ -89,10 +89,11 @@ impl Sender {
     pub fn resend(&self, alloc: Global, to: u32, entries: &mut Entries) -> Result<(), Memory>
         ensures { OnOk result (entries.new ≡ entries.old ++ entries_to to (kept self.now)) }
     {
-        for i in 0..self.window.unacked_len() {
-            let (_, frame) = self.window.unacked(i);
-            let bytes = Bytes::from_slice(alloc, frame.as_slice())?;
-            entries.push(WireEntry { to, bytes })?;
+        for number in self.window.base()..self.window.sent_end() {
+            if let Some(frame) = self.window.packet(number) {
+                let bytes = Bytes::from_slice(alloc, frame.as_slice())?;
+                entries.push(WireEntry { to, bytes })?;
+            }
         }
         Ok(())
     }
@@ -116,9 +117,8 @@ impl Sender {
         ensures { result ≡ newly_acked self.now base bits }
     {
         let mut tags = Tags::new();
-        for i in 0..self.window.unacked_len() {
-            let (number, _) = self.window.unacked(i);
-            if let Some(tag) = self.covered_tag(number, base, bits) {
+        for number in self.window.base()..self.window.sent_end() {
+            if let Some(tag) = self.newly_covered_tag(number, base, bits) {
                 tags.push(tag);
             }
         }
@@ -126,11 +126,11 @@ impl Sender {
     }
 
     // The tag of a number that is not acknowledged, where an acknowledgement covers it.
-    fn covered_tag(&self, number: u32, base: u32, bits: u64) -> Option<u32>
+    fn newly_covered_tag(&self, number: u32, base: u32, bits: u64) -> Option<u32>
         requires { self.now.window.acked.base ≤ number }
-        ensures { result ≡ covered_tag self.now base bits number }
+        ensures { result ≡ newly_covered_tag self.now base bits number }
     {
-        if !covers(base, bits, number) {
+        if !self.window.is_unacked(number) || !covers(base, bits, number) {
             return None;
         }
         let place = (number - self.window.base()) as usize;

@@ -1,11 +1,11 @@
 -- Laws of what a sending window stands for.
-use Rattle.std.proofs.Common.{◌≡◌, ℕ, zero, suc, ◌+◌, ◌-◌, ◌<◌, ◌≤◌, nat_lt, Bool, true, false, not, cond, ◌||◌, ◌&&◌, ◌⊎◌, inl, inr, List, [], ◌∷◌, ◌++◌, length, drop, Option, Some, None, slice_get, option_copied, IsSome, Bor, refl, sym, ap, ◌∙◌, ⊎_elim, arith, length-append, length-drop}
-use Rattle.std.proofs.lemmas.Bool.{cases_lt, and_left, or_left, or_cases, cond-true, cond-false, cond_both, lt-ltb, le-ltb, not-true}
+use Rattle.std.proofs.Common.{◌≡◌, ℕ, zero, suc, ◌+◌, ◌-◌, ◌<◌, ◌≤◌, nat_lt, Bool, true, false, not, cond, ◌||◌, ◌&&◌, ◌⊎◌, inl, inr, List, [], ◌∷◌, ◌++◌, length, drop, Option, Some, None, slice_get, option_copied, option_map, IsSome, Bor, refl, sym, ap, ◌∙◌, ⊎_elim, arith, length-append, length-drop}
+use Rattle.std.proofs.lemmas.Bool.{cases_lt, and_left, and_parts, or_left, or_cases, cond-true, cond-false, cond_both, lt-ltb, le-ltb, not-true}
 use Rattle.circular_buffer.proofs.Places.{slice_get-append_left, slice_get-last, slice_get-drop}
 use Rattle.lapi_base.specs.Record.Below.{below}
 use Rattle.lapi_base.proofs.BelowLaws.{below-cut, below-member, below-same, length-below-none, length-below-suc}
 use Rattle.lapi_window.specs.NumberSet.{Members, is_in, is_covered}
-use Rattle.lapi_window.specs.SendWindow.{Sending, IsSending, MaySend, sent_count, is_sent, is_acked, base_of, unacked, bytes_of}
+use Rattle.lapi_window.specs.SendWindow.{Sending, IsSending, MaySend, sent_count, is_sent, is_acked, base_of, is_unacked, unacked, bytes_of, packet_of}
 use Rattle.lapi_window.proofs.MemberLaws.{is_in-low, base_le_absent, base_grows, least_missing-base}
 
 pub sending-base : (s : Sending) (capacity : ℕ) → IsSending s capacity → base_of s ≡ s.acked.base
@@ -107,6 +107,16 @@ unacked-kept s i n e =
       bytes = cond-false (nat_lt n s.acked.base) None (slice_get s.packets (n - s.acked.base)) (le-ltb n s.acked.base above);
     }
 
+-- `packet`
+pub unacked-above : (s : Sending) (n : ℕ) → is_unacked s n ≡ true → s.acked.base ≤ n
+unacked-above s n h = base_le_absent s.acked n (not-true (is_acked s n) (and_parts (is_sent s n) (not (is_acked s n)) h).1)
+
+pub packet-kept : (s : Sending) (n : ℕ) → is_unacked s n ≡ true → packet_of s n ≡ slice_get s.packets (n - s.acked.base)
+unfolding bytes_of
+packet-kept s n h =
+    cond-true (is_unacked s n) (bytes_of s n) None h
+    ∙ cond-false (nat_lt n s.acked.base) None (slice_get s.packets (n - s.acked.base)) (le-ltb n s.acked.base (unacked-above s n h))
+
 -- `acked`
 pub acked-base : (old new : Members) (base bits end : ℕ) → ((n : ℕ) → is_in new n ≡ (is_in old n || is_covered base bits n)) → ((n : ℕ) → is_in old n ≡ true → n < end) → ((n : ℕ) → is_covered base bits n ≡ true → n < end) → new.base ≤ end
 acked-base old new base bits end set near covered =
@@ -165,6 +175,10 @@ kept_of s capacity end i n h e found =
 pub some_of_copied : {X : Type 0} (o : Option (Bor X)) (x : X) → option_copied o ≡ Some x → IsSome o
 some_of_copied None x e = absurd (cc)
 some_of_copied (Some r) x e = refl
+
+pub copied-map : {X : Type 0} (o : Option (Bor X)) → option_map (λ b. b.now) o ≡ option_copied o
+copied-map None = refl
+copied-map (Some r) = refl
 
 -- what an acknowledgement leaves
 pub record IsAcked (s t : Sending) (capacity : ℕ) : Type 0 where

@@ -30,13 +30,20 @@ pub record MaySend (s : Sending) : Type 0 where
   pub exists : sent_count s < s.numbers
   pub within : sent_count s < base_of s + s.window
 
+abbrev pub is_unacked : Sending → ℕ → Bool
+is_unacked s n = is_sent s n && not (is_acked s n)
+
 -- the sent numbers that are not acknowledged, rising
 abbrev pub unacked : Sending → List ℕ
-unacked s = below s.numbers (λ n. is_sent s n && not (is_acked s n))
+unacked s = below s.numbers (is_unacked s)
 
 -- the bytes that are kept for a number
 unfoldable pub bytes_of : Sending → ℕ → Option (List ℕ)
 bytes_of s n = cond (nat_lt n s.acked.base) None (slice_get s.packets (n - s.acked.base))
+
+-- the packet of a number that was sent and is not acknowledged
+abbrev pub packet_of : Sending → ℕ → Option (List ℕ)
+packet_of s n = cond (is_unacked s n) (bytes_of s n) None
 
 -- the window has its size, as many packets as it may keep, and nothing is acknowledged that was not sent
 pub record IsSending (s : Sending) (capacity : ℕ) : Type 0 where

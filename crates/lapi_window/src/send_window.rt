@@ -1,6 +1,6 @@
-ghost use Rattle.std.specs.Prelude.{◌≡◌, ℕ, ◌+◌, ◌-◌, ◌^◌, ◌<◌, ◌≤◌, min, ◌↔◌, ◌⊎◌, IsTrue, IsNone, IsSome, IfSome, IfOk, true, false, ◌||◌, ◌∷◌, [], ◌++◌, length, slice_get, Some};
+ghost use Rattle.std.specs.Prelude.{◌≡◌, ℕ, ◌+◌, ◌-◌, ◌^◌, ◌<◌, ◌≤◌, min, ◌↔◌, ◌⊎◌, IsTrue, IsNone, IsSome, IfSome, IfOk, true, false, ◌||◌, ◌∷◌, [], ◌++◌, length, slice_get, Some, option_map};
 ghost use Rattle.lapi_window.specs.NumberSet.{is_covered};
-ghost use Rattle.lapi_window.specs.SendWindow.{sent_count, is_acked, base_of, bytes_of, unacked, MaySend};
+ghost use Rattle.lapi_window.specs.SendWindow.{sent_count, is_acked, base_of, bytes_of, is_unacked, unacked, packet_of, MaySend};
 
 use crate::number_set::NumberSet;
 use circular_buffer::HeapCircularBuffer;
@@ -65,6 +65,7 @@ impl SendWindow {
     pub fn base(&self) -> u32
         ensures least { result ≡ base_of self.now }
         ensures base { result ≡ self.now.acked.base }
+        ensures near { sent_count self.now ≤ result + 64 }
     {
         self.acked.least_absent()
     }
@@ -145,10 +146,28 @@ impl SendWindow {
         self.acked.contains_all(from, to)
     }
 
-    // The number after the last one that was sent.
-    pub(crate) fn sent_end(&self) -> u32
+    /// The number after the last one that was sent.
+    pub fn sent_end(&self) -> u32
         ensures { result ≡ sent_count self.now }
     {
         self.acked.least_absent() + self.packets.len() as u32
+    }
+
+    /// Whether a number was sent and is not acknowledged.
+    pub fn is_unacked(&self, number: u32) -> bool
+        ensures { result ≡ is_unacked self.now number }
+    {
+        number < self.sent_end() && !self.acked.contains(number)
+    }
+
+    /// The packet of a number that was sent and is not acknowledged; none of any other number.
+    pub fn packet(&self, number: u32) -> Option<&Frame>
+        ensures { option_map (λ frame. frame.now) result ≡ packet_of self.now number }
+    {
+        if !self.is_unacked(number) {
+            return None;
+        }
+        self.packets
+            .get((number - self.acked.least_absent()) as usize)
     }
 }
