@@ -48,6 +48,7 @@ which_name which.Lines = codes "lines"
 which_name which.Lane = codes "lane"
 which_name which.Pieces = codes "pieces"
 which_name which.Bytes = codes "bytes"
+which_name which.Events = codes "events"
 which_name which.Unbuilt = codes "unbuilt"
 
 abbrev pub fault_answer : Fault → Answer
