@@ -1,5 +1,10 @@
-//! What holds of the text of an input, read and written. The laws are the contract of a function without a body.
+//! What holds of the texts of an input and of an audit, read and written. The laws are the contract of functions
+//! without a body.
 #![tactic(auto)]
+
+mod audits;
+
+pub use audits::audit_text_laws;
 
 ghost use Rattle.std.specs.Prelude.{◌≡◌, ℕ, ◌≤◌, ◌<◌, List, length, Ok, Err};
 ghost use Rattle.lapi_base.specs.declared.input.Input.{Input};

@@ -1,15 +1,16 @@
 -- The grammar of an audit's text: a script as an input has it, and behind the line `journal` a line for each event.
 -- This is the project's own.
 use Rattle.std.specs.Prelude.{◌≡◌, ℕ, ◌≤◌, List, [], ◌∷◌, ◌++◌, length, map, codes, IsTrue}
-use Rattle.std.specs.List.{AllZip, AllByRecursion}
+use Rattle.std.specs.List.{AllZip, AllByRecursion, flat_map}
 use Rattle.lapi_base.specs.declared.message.Leg.TheVariants.{Go}
 use Rattle.lapi_base.specs.declared.event.Event.{Event}
 use Rattle.lapi_base.specs.declared.event.Event.TheVariants.{Issue, Refuse, Enter, Pass, Copy, Head, Land, Begin, End}
+use Rattle.lapi_base.specs.declared.script.Script.{Script}
 use Rattle.lapi_base.specs.declared.audit_input.AuditInput.{AuditInput}
 use Rattle.lapi_base.specs.Input.Lines.{lines_of, is_clean, read_words}
 use Rattle.lapi_base.specs.Input.FirstFaults.{IsFirstFaultBy}
 use Rattle.lapi_base.specs.Input.Tokens.{Dotted, LegWord}
-use Rattle.lapi_base.specs.Input.Rows.{Column, Word, Field, IsRow, number, script_rows, done_row}
+use Rattle.lapi_base.specs.Input.Rows.{Column, Word, Field, IsRow, number, script_rows, done_row, row_text}
 use Rattle.lapi_base.specs.Input.Built.{IsBuiltList}
 use Rattle.lapi_base.specs.Record.Valid.{ValidScript}
 use Rattle.lapi_base.specs.Output.TextParts.{refusal_number, refusal_name}
@@ -61,3 +62,7 @@ IsAuditText x bytes = IsAuditRead x (lines_of bytes)
 
 abbrev pub IsFirstAuditFault : List (List ℕ) → ℕ → Type 0
 IsFirstAuditFault lines l = IsFirstFaultBy IsAuditRead lines l
+
+-- the canonical lines of a script, and behind the line `journal` a journal's text
+abbrev pub audit_text : Script → (journal : List ℕ) → List ℕ
+audit_text script journal = flat_map row_text (script_rows script) ++ (row_text journal_row ++ (journal ++ row_text done_row))

@@ -124,7 +124,7 @@ canonical OptionalHex (b ∷ bytes) = encode_lower (b ∷ bytes)
 canonical Address at = address_text at
 canonical PlainVector vector = vector_text vector
 canonical TargetVector vector = vector_text vector
-canonical Dotted x = decimal x.0 ++ codes "." ++ decimal x.1
+canonical Dotted x = decimal x.0 ++ (codes "." ++ decimal x.1)
 canonical LegWord leg = leg_word leg
 
 -- ---- the value that is read from a word
