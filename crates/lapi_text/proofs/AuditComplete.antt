@@ -1,7 +1,7 @@
 -- What is spelled as an audit's text within the limits is read.
 use Rattle.std.proofs.Common.{◌≡◌, ℕ, ◌+◌, ◌≤◌, List, [], ◌∷◌, ◌++◌, length, map, refl, sym, ap, ◌∙◌, subst, Bool, true, false, cond, Result, Ok, Err, inl, inr, arith, append_assoc, nat_lt, nat_le}
 use Rattle.std.specs.Prelude.{codes, ◌⊎◌, not, IsTrue}
-use Rattle.std.specs.List.{AllZip, AllByRecursion}
+use Rattle.std.specs.List.{AllByRecursion}
 use Rattle.std.proofs.lemmas.List.{append-nil, length-append}
 use Rattle.std.proofs.lemmas.Bool.{lt-ltb}
 use Rattle.lapi_base.specs.declared.input.LineError.{LineError}
@@ -23,7 +23,7 @@ use Rattle.lapi_base.specs.Input.Reading as reading
 use Rattle.lapi_base.specs.Input.Reading.{State, step, within, on_line, is_word, names_known, keeps_injected, with_task}
 use Rattle.lapi_base.specs.Input.AuditForms.{event_line_form}
 use Rattle.lapi_base.specs.Input.AuditRows.{event_row, IsOfRequest, journal_row, audit_rows, most_events, IsAuditRead}
-use Rattle.lapi_base.specs.Input.AuditReading.{AuditState, Before, Events, Ended, events_of, audit_step, audit_after, read_audit_from}
+use Rattle.lapi_base.specs.Input.AuditReading.{AuditState, Before, Events, Ended, audit_step, audit_after, read_audit_from}
 use Rattle.lapi_text.proofs.Parts.{chosen}
 use Rattle.lapi_text.proofs.Rules.{err_ok, same_Ok, bound, said}
 use Rattle.lapi_text.proofs.AuditRules.{event_matches}

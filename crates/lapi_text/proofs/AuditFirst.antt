@@ -1,13 +1,11 @@
 -- The line of a fault of an audit's text is the first up to which the lines begin none.
-use Rattle.std.proofs.Common.{◌≡◌, ℕ, suc, ◌+◌, ◌-◌, List, [], ◌∷◌, ◌++◌, length, take, map, refl, sym, ap, ◌∙◌, subst, true, false, Result, Ok, Err, inl, inr, arith, append_assoc}
+use Rattle.std.proofs.Common.{◌≡◌, ℕ, suc, ◌+◌, ◌-◌, List, [], ◌∷◌, ◌++◌, length, take, map, refl, sym, ap, ◌∙◌, subst, true, Result, Ok, Err, inl, inr, arith, append_assoc}
 use Rattle.std.specs.Prelude.{◌⊎◌, IsTrue}
 use Rattle.std.specs.List.{AllZip, AllByRecursion}
 use Rattle.std.proofs.lemmas.List.{append-nil, length-append, take_at, take_all}
 use Rattle.lapi_base.specs.declared.input.LineError.{LineError}
-use Rattle.lapi_base.specs.declared.event.Event.{Event}
-use Rattle.lapi_base.specs.declared.script.Script.{Script}
 use Rattle.lapi_base.specs.declared.audit_input.AuditInput.{AuditInput}
-use Rattle.lapi_base.specs.Input.Lines.{words_of, is_clean, is_skipped, read_words}
+use Rattle.lapi_base.specs.Input.Lines.{words_of, is_clean, read_words}
 use Rattle.lapi_base.specs.Input.FirstFaults.{BeginsBy}
 use Rattle.lapi_base.specs.Input.Rows.{Column, IsRow, done_row, script_rows, row_line}
 use Rattle.lapi_base.specs.Input.AuditRows.{event_row, journal_row, audit_rows, IsAuditRead, IsFirstAuditFault}
@@ -17,7 +15,7 @@ use Rattle.lapi_base.specs.Input.AuditReading.{AuditState, Before, Events, Ended
 use Rattle.lapi_text.proofs.Sound.{so_far, Keeps, fault_ok}
 use Rattle.lapi_text.proofs.Canon.{RowFits, lines_clean, lines_stand, all_append, done_fits, journal_fits}
 use Rattle.lapi_text.proofs.First.{ScriptCompletes, first_completes, second_completes, start_completes, tasks_complete, zip_append, words_append, up_to}
-use Rattle.lapi_text.proofs.AuditSound.{IsScript, audit_so_far, audit_with, AuditFits, AuditKeeps, AuditAdds, AuditComes, audit_after_says}
+use Rattle.lapi_text.proofs.AuditSound.{IsScript, audit_so_far, audit_with, AuditFits, AuditKeeps, AuditComes, audit_after_says}
 use Rattle.lapi_text.proofs.AuditComplete.{audit_complete}
 
 -- rows that lead from a state to an audit's text

@@ -1,5 +1,5 @@
 -- A line of an event says what its words spell, and only that.
-use Rattle.std.proofs.Common.{◌≡◌, ℕ, List, [], ◌∷◌, refl, sym, ap, ◌∙◌, Bool, true, false, cond, Some, None, Option, Result, Ok, Err, inl, inr}
+use Rattle.std.proofs.Common.{◌≡◌, ℕ, List, [], ◌∷◌, refl, sym, ap, true, false, Some, None, Option, Ok, inl, inr}
 use Rattle.std.specs.Prelude.{codes, ◌⊎◌, ◌==◌, ◌&&◌, option_map}
 use Rattle.std.proofs.lemmas.Bool.{eqb-true}
 use Rattle.std.proofs.lemmas.Option.{none-some, same_Some}
@@ -12,8 +12,8 @@ use Rattle.lapi_base.specs.declared.event.Event.TheVariants.{Issue, Refuse, Ente
 use Rattle.lapi_base.specs.declared.input.LineError.TheVariants.{Syntax}
 use Rattle.lapi_base.specs.Record.Names.{message}
 use Rattle.lapi_base.specs.Input.Tokens.{Number, Dotted, LegWord, Stands, same_text}
-use Rattle.lapi_base.specs.Input.Forms.{Form, run, choose}
-use Rattle.lapi_base.specs.Input.Rows.{Column, Word, Field, IsRow, number}
+use Rattle.lapi_base.specs.Input.Forms.{run}
+use Rattle.lapi_base.specs.Input.Rows.{Word, Field, IsRow}
 use Rattle.lapi_base.specs.Input.AuditForms.{given, refusals, refusal_among, statement_event_form, refuse_form, message_event_form, request_event_form, job_event_form, events, event_form, event_line_form}
 use Rattle.lapi_base.specs.Input.AuditRows.{dotted_part, event_row, IsOfRequest}
 use Rattle.lapi_base.specs.Output.TextParts.{refusal_number, refusal_name}

@@ -1,5 +1,5 @@
 -- What is read as an audit's text is spelled so, within the limits.
-use Rattle.std.proofs.Common.{◌≡◌, ℕ, ◌+◌, ◌≤◌, List, [], ◌∷◌, ◌++◌, length, map, refl, sym, ap, ◌∙◌, subst, Bool, true, false, cond, Result, Ok, Err, inl, inr, arith, append_assoc, nat_lt}
+use Rattle.std.proofs.Common.{◌≡◌, ℕ, ◌+◌, ◌≤◌, List, [], ◌∷◌, ◌++◌, length, map, refl, sym, ap, ◌∙◌, subst, true, false, cond, Result, Ok, Err, inl, inr, arith, append_assoc, nat_lt}
 use Rattle.std.specs.Prelude.{codes, ◌⊎◌, IsTrue}
 use Rattle.std.specs.List.{AllZip, AllByRecursion}
 use Rattle.std.proofs.lemmas.List.{append-nil, map-append, length-append}
@@ -24,7 +24,7 @@ use Rattle.lapi_base.specs.Input.AuditReading.{AuditState, Before, Events, Ended
 use Rattle.lapi_text.proofs.Parts.{chosen}
 use Rattle.lapi_text.proofs.Rules.{err_ok, same_Ok, bound, task_line_says}
 use Rattle.lapi_text.proofs.AuditRules.{event_says, EventSays}
-use Rattle.lapi_text.proofs.Sound.{allowed, passed, so_far, input_with, Keeps, Adds, step_says, schedule_keeps, all_push, is_one_word, fault_ok, same_read}
+use Rattle.lapi_text.proofs.Sound.{allowed, passed, so_far, Keeps, step_says, schedule_keeps, all_push, is_one_word, fault_ok, same_read}
 use Rattle.lapi_text.proofs.Complete.{one_word}
 
 abbrev pub audit_with : Script → List Event → AuditInput

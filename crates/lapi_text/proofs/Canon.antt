@@ -28,9 +28,9 @@ use Rattle.lapi_base.specs.declared.input.Input.{Input}
 use Rattle.lapi_base.specs.Input.Lines.{lines_of, ended_lines, words_of, is_clean, is_skipped, read_words}
 use Rattle.lapi_base.specs.Input.Tokens.{Kind, Number, Counter, Hex, OptionalHex, Address, PlainVector, TargetVector, Dotted, LegWord, Value, Stands, IsPlainAddress, IsTargetAddress, IsPieceText, IsVectorText, IsLegText, leg_word, offset_text, address_text, piece_text, vector_text, canonical}
 use Rattle.lapi_base.specs.Packet.Spelling.{spells_packet}
-use Rattle.lapi_base.specs.Record.Valid.{IsAddress, IsPlain, IsPiece, ValidStatement, ValidLine}
+use Rattle.lapi_base.specs.Record.Valid.{IsAddress, IsPlain, IsPiece, ValidStatement, ValidScript, ValidLine}
 use Rattle.lapi_base.specs.Input.AuditRows.{journal_row}
-use Rattle.lapi_base.specs.Input.Rows.{Column, Word, Field, IsColumn, IsRow, head_row, sizes_row, task_row, statement_row, schedule_row, done_row, line_row, task_rows, column_text, row_line, row_text, rows, canon, IsInputText}
+use Rattle.lapi_base.specs.Input.Rows.{Column, Word, Field, IsColumn, IsRow, head_row, sizes_row, task_row, statement_row, schedule_row, done_row, line_row, task_rows, script_rows, column_text, row_line, row_text, rows, canon, IsInputText}
 use Rattle.lapi_text.proofs.Bounds.{FitVector, FitLeg, Fit, PartFits, is_bytes, both_true, statement_fits, line_fits}
 use Rattle.lapi_text.proofs.Sound.{Fits, ValidList}
 
@@ -286,7 +286,7 @@ row_words [] fits = absurd (omega (arith, fits.0))
 row_words (p ∷ row) fits = (words_joined (column_text p) (map column_text row) (part_plain p fits.1.0) (parts_plain row fits.1.1), not_skipped (column_text p) (map column_text row) (part_plain p fits.1.0))
 
 -- the lines of the rows' text
-text_lines : (rows : List (List Column)) → AllByRecursion RowFits rows → lines_of (flat_map row_text rows) ≡ map row_line rows
+pub text_lines : (rows : List (List Column)) → AllByRecursion RowFits rows → lines_of (flat_map row_text rows) ≡ map row_line rows
 text_lines [] fits = refl
 text_lines (row ∷ rows) fits =
     ap lines_of (append_assoc (row_line row) (10 ∷ []) (flat_map row_text rows))
@@ -354,6 +354,13 @@ tasks_fit k (list ∷ lists) few valid =
 lines_fit : (script : Script) (schedule : List Line) → script.tasks ≤ 8 → script.workers ≤ 4 → AllByRecursion (ValidLine script spells_packet) schedule → AllByRecursion RowFits (map line_row schedule)
 lines_fit script [] tasks workers valid = tt
 lines_fit script (line ∷ schedule) tasks workers valid = ((omega arith, line_fits script line tasks workers valid.0), lines_fit script schedule tasks workers valid.1)
+
+-- the rows of a valid script can be written
+pub script_fits : (s : Script) → ValidScript s → AllByRecursion RowFits (script_rows s)
+script_fits s v = (
+  head_fits s.layout v.layout,
+  (sizes_fits s v.tasks.1 v.memory.1 v.counters v.workers.1, tasks_fit 0 s.lists (omega (arith, v.one_list_each, v.tasks.1)) v.lists),
+)
 
 rows_fit : (x : Input) → Fits x → AllByRecursion RowFits (rows x)
 rows_fit x fits =

@@ -15,6 +15,7 @@ pub mod AuditFirst
 pub mod Outcome
 pub mod FaultKinds
 pub mod Whole
+pub mod AuditCanon
 pub mod AuditWhole
 pub mod Worked
 pub mod WorkedForms

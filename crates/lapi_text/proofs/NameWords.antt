@@ -1,5 +1,5 @@
 -- The words of a statement's or a worker's number and of a leg are read as what they stand for, and only there.
-use Rattle.std.proofs.Common.{◌≡◌, ℕ, List, [], ◌∷◌, ◌++◌, sym, Bool, true, false, cond, arith, Some, None, Option, inl, inr, subst, refl, ap, ◌∙◌}
+use Rattle.std.proofs.Common.{◌≡◌, ℕ, List, [], ◌∷◌, ◌++◌, sym, true, false, cond, arith, Some, None, Option, inl, inr, subst, refl}
 use Rattle.std.specs.Prelude.{◌==◌, codes, ◌⊎◌, option_map}
 use Rattle.std.specs.List.{slice_split, join_with_byte}
 use Rattle.std.proofs.lemmas.Option.{none-some, same_Some}

@@ -1,14 +1,13 @@
 -- Words that are cut into parts, and values that are taken out of options.
-use Rattle.std.proofs.Common.{◌≡◌, ◌≢◌, ℕ, zero, suc, ◌<◌, ◌≤◌, List, [], ◌∷◌, ◌++◌, length, refl, sym, ap, ◌∙◌, Bool, true, false, cond, arith, Some, None, Option, Result, Ok, Err, inl, inr, subst, nat_lt}
-use Rattle.std.specs.Prelude.{◌==◌, codes, ◌⊎◌, option_map, option_and_then}
-use Rattle.std.specs.List.{slice_split, onto_first, All, AllZip, AllByRecursion, join_with_byte}
+use Rattle.std.proofs.Common.{◌≡◌, ◌≢◌, ℕ, zero, suc, ◌<◌, List, [], ◌∷◌, refl, ap, ◌∙◌, Bool, true, false, cond, arith, Some, None, Option, inl, inr}
+use Rattle.std.specs.Prelude.{◌==◌, ◌⊎◌, option_map, option_and_then}
+use Rattle.std.specs.List.{slice_split, onto_first, All, AllByRecursion, join_with_byte}
 use Rattle.std.specs.Cmp.Lexicographic.{bytes_decides}
-use Rattle.std.proofs.lemmas.Bool.{ne_eqb, eqb-true, false_from_ne_true, ltb-true, lt-ltb, eq-eqb}
+use Rattle.std.proofs.lemmas.Bool.{ne_eqb, eq-eqb}
 use Rattle.std.proofs.lemmas.Option.{none-some, same_Some}
-use Rattle.std.proofs.lemmas.List.Elements.{All-append}
-use Rattle.std.proofs.lemmas.List.Splits.{slice_split_none, slice_split_at, join_with_byte-slice_split}
+use Rattle.std.proofs.lemmas.List.Splits.{slice_split_none, slice_split_at}
 use Rattle.lapi_base.specs.Input.Tokens.{IsNumber, same_text, first_part, only_part}
-use Rattle.lapi_text.proofs.Numbers.{number_says, number_read, digit_at_number}
+use Rattle.lapi_text.proofs.Numbers.{digit_at_number}
 
 -- equal texts, and others
 pub same_text_is : (a b : List ℕ) → same_text a b ≡ true → a ≡ b

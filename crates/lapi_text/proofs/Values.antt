@@ -1,9 +1,8 @@
 -- A word is read as a value where it stands for it, and only there.
-use Rattle.std.proofs.Common.{◌≡◌, ◌≢◌, ℕ, zero, suc, ◌<◌, ◌≤◌, List, [], ◌∷◌, ◌++◌, length, refl, sym, ap, ◌∙◌, Bool, true, false, cond, arith, Some, None, Option, Result, Ok, Err, inl, inr, subst, nat_lt}
-use Rattle.std.specs.Prelude.{◌==◌, codes, ◌⊎◌, option_map, option_and_then}
-use Rattle.std.specs.List.{slice_split, onto_first, All, AllZip, AllByRecursion, join_with_byte}
-use Rattle.std.specs.Cmp.Lexicographic.{bytes_decides}
-use Rattle.std.proofs.lemmas.Bool.{ne_eqb, eqb-true, false_from_ne_true, ltb-true, lt-ltb, eq-eqb}
+use Rattle.std.proofs.Common.{◌≡◌, ◌≢◌, ℕ, ◌≤◌, List, [], ◌∷◌, ◌++◌, length, refl, sym, ap, ◌∙◌, true, false, cond, arith, Some, None, Option, Result, Ok, Err, inl, inr, subst, nat_lt}
+use Rattle.std.specs.Prelude.{◌==◌, codes, ◌⊎◌, option_map}
+use Rattle.std.specs.List.{slice_split, AllZip, AllByRecursion, join_with_byte}
+use Rattle.std.proofs.lemmas.Bool.{ne_eqb, eqb-true, false_from_ne_true, ltb-true, lt-ltb}
 use Rattle.std.proofs.lemmas.Option.{none-some, same_Some}
 use Rattle.std.proofs.lemmas.List.Elements.{All-append}
 use Rattle.std.proofs.lemmas.List.Splits.{slice_split_none, slice_split_at, join_with_byte-slice_split}
@@ -14,7 +13,7 @@ use Rattle.lapi_base.specs.declared.address.Addr.TheVariants.{Plain, Table}
 use Rattle.lapi_base.specs.declared.piece.Piece.{Piece}
 use Rattle.lapi_base.specs.declared.vector.Vector.{Vector}
 use Rattle.lapi_base.specs.declared.vector.Vector.TheVariants.{Stride}
-use Rattle.lapi_base.specs.Input.Tokens.{Kind, Number, Counter, Hex, OptionalHex, Address, PlainVector, TargetVector, Dotted, LegWord, Value, Stands, IsNumber, IsHex, IsPlainAddress, IsTargetAddress, IsPieceText, IsVectorText, same_text, number_of, counter_of, hex_of, optional_hex_of, not_empty, first_part, only_part, plain_address_of, offset_of, table_of, address_of, piece_of, pieces_of, listed_of, some_pieces, sizes_of, strided_of, vector_by, vector_of, value_of}
+use Rattle.lapi_base.specs.Input.Tokens.{Kind, Number, Counter, Hex, OptionalHex, Address, PlainVector, TargetVector, Dotted, LegWord, Value, Stands, IsNumber, IsHex, IsPlainAddress, IsTargetAddress, IsPieceText, IsVectorText, same_text, number_of, counter_of, hex_of, optional_hex_of, not_empty, only_part, plain_address_of, offset_of, table_of, address_of, piece_of, pieces_of, listed_of, some_pieces, sizes_of, strided_of, vector_by, vector_of, value_of}
 use Rattle.lapi_text.proofs.Numbers.{number_says, number_read, digit_at_number}
 use Rattle.lapi_text.proofs.Parts.{same_text_is, same_text_of, map_some, then_some, chosen, first_says, only_says, Avoids, one_avoids, number_avoids, cut_joined, some_parts}
 use Rattle.lapi_text.proofs.NameWords.{dotted_says, dotted_read, leg_says, leg_read}

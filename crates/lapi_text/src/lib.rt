@@ -4,8 +4,6 @@
 
 mod audits;
 
-pub use audits::audit_text_laws;
-
 ghost use Rattle.std.specs.Prelude.{◌≡◌, ℕ, ◌≤◌, ◌<◌, List, length, Ok, Err};
 ghost use Rattle.lapi_base.specs.declared.input.Input.{Input};
 ghost use Rattle.lapi_base.specs.declared.input.Which.TheVariants as which;
@@ -18,6 +16,8 @@ ghost use Rattle.lapi_base.specs.Input.Reading.{read, most_input};
 ghost use Rattle.lapi_base.specs.Input.Rows.{IsInputText, IsFirstFault, canon};
 ghost use Rattle.lapi_base.specs.Packet.Spelling.{spells_packet};
 ghost use Rattle.lapi_base.specs.Record.Valid.{ValidScript, ValidSchedule};
+
+pub use audits::audit_text_laws;
 
 /// The laws of the text of an input. Nothing runs: a caller takes them from the contract.
 pub fn text_laws()

@@ -1,3 +1,4 @@
+use Rattle.lapi_text.proofs.AuditCanon.{audit_canon}
 use Rattle.lapi_text.proofs.AuditWhole.{audit_found, audit_only, audit_first, audit_long}
 use Rattle.lapi_text.proofs.audits.audit_text_laws.Goals as goal
 
@@ -12,3 +13,6 @@ returns-clause-first c = λ bytes why l few e. audit_first bytes why l few e
 
 pub returns-clause-long : goal.returns-clause-long
 returns-clause-long c = λ bytes many. audit_long bytes many
+
+pub returns-clause-written : goal.returns-clause-written
+returns-clause-written c = λ script rules events valid built few there. audit_canon script rules valid events built few there
