@@ -1,4 +1,4 @@
-use Rattle.std.proofs.Common.{◌≡◌, ◌<◌, false, length, sym, ◌∙◌, arith}
+use Rattle.std.proofs.Common.{sym, ◌∙◌}
 use Rattle.lapi_base.specs.declared.refusal.Refusal.TheVariants.{BadTask}
 use Rattle.lapi_base.specs.Input.AuditForms.{refusals}
 use Rattle.lapi_script.proofs.RefusalWords.{not_this}
