@@ -1,4 +1,5 @@
 pub mod Lines
+pub mod FirstFaults
 pub mod Tokens
 pub mod Rows
 pub mod ActRows
@@ -6,3 +7,6 @@ pub mod Built
 pub mod Forms
 pub mod Reading
 pub mod Faults
+pub mod AuditRows
+pub mod AuditForms
+pub mod AuditReading

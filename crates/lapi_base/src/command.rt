@@ -20,6 +20,8 @@ pub enum Command {
     Read(View),
     /// To read an input, and to write how many tasks, statements and lines it has; no line is performed.
     Check,
+    /// To read a script and events, and to write whether they are a journal of the atomic message machine.
+    Audit,
     /// To show the packet that these bytes spell.
     Show(Bytes),
 }

@@ -25,6 +25,8 @@ pub enum Which {
     Lane,
     Pieces,
     Bytes,
+    /// The events of an audit's journal.
+    Events,
     Unbuilt,
 }
 

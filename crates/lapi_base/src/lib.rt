@@ -3,6 +3,7 @@
 
 mod act_row;
 mod address;
+mod audit_input;
 mod bytes;
 mod command;
 mod event;
@@ -33,6 +34,7 @@ mod wire;
 
 pub use act_row::ActRow;
 pub use address::Addr;
+pub use audit_input::AuditInput;
 pub use bytes::Bytes;
 pub use command::{Command, View};
 pub use event::{Event, Events};

@@ -20,6 +20,8 @@ pub enum Status {
     Memory,
     /// The lines of one worker stand in two lanes.
     LaneClash,
+    /// A journal isn't one of the atomic message machine.
+    Broken,
 }
 
 /// Why a text wasn't written whole.

@@ -1,7 +1,7 @@
 //! What several lines have in common.
 
 ghost use Rattle.std.specs.Prelude.{◌≡◌, ◌≤◌, ◌+◌, ◌++◌, length};
-ghost use Rattle.lapi_base.specs.Output.TextParts.{dotted, leg_text, message_text, refusal_number, refusal_name, refusal_text, reason_number, reason_name};
+ghost use Rattle.lapi_base.specs.Output.TextParts.{dotted, leg_text, message_text, refusal_text, reason_number, reason_name};
 
 use crate::text_line::TextLine;
 use lapi_base::{Leg, MsgName, Reason, Refusal};
@@ -50,48 +50,9 @@ pub(crate) fn add_refusal(why: Refusal, line: &mut TextLine)
     ensures text { line.new ≡ line.old ++ refusal_text why }
     ensures room { length line.new ≤ length line.old + 37 }
 {
-    line.number(refusal_number(why));
+    line.number(u64::from(why.number()));
     line.text(" ");
-    line.text(refusal_name(why));
-}
-
-fn refusal_number(why: Refusal) -> u64
-    ensures { result ≡ refusal_number why }
-{
-    match why {
-        Refusal::BadTask => 1,
-        Refusal::BadTargetRange => 2,
-        Refusal::BadOriginRange => 3,
-        Refusal::BadCounter => 4,
-        Refusal::TooLong => 5,
-        Refusal::NoTable => 6,
-        Refusal::BadHandler => 7,
-        Refusal::BadUserHeader => 8,
-        Refusal::VecCount => 9,
-        Refusal::VecLength => 10,
-        Refusal::StrideBelowBlock => 11,
-        Refusal::Misaligned => 12,
-    }
-}
-
-fn refusal_name(why: Refusal) -> &'static str
-    ensures name { result.now ≡ refusal_name why }
-    ensures short { length result.now ≤ 16 }
-{
-    match why {
-        Refusal::BadTask => "BadTask",
-        Refusal::BadTargetRange => "BadTargetRange",
-        Refusal::BadOriginRange => "BadOriginRange",
-        Refusal::BadCounter => "BadCounter",
-        Refusal::TooLong => "TooLong",
-        Refusal::NoTable => "NoTable",
-        Refusal::BadHandler => "BadHandler",
-        Refusal::BadUserHeader => "BadUserHeader",
-        Refusal::VecCount => "VecCount",
-        Refusal::VecLength => "VecLength",
-        Refusal::StrideBelowBlock => "StrideBelowBlock",
-        Refusal::Misaligned => "Misaligned",
-    }
+    line.text(why.name());
 }
 
 pub(crate) fn reason_number(reason: Reason) -> u64

@@ -3,5 +3,7 @@ pub mod Blocks
 pub mod PieceLists
 pub mod TaskLineSteps
 pub mod Onward
+pub mod AuditOnward
+pub mod RefusalWords
 pub mod Texts
 pub mod FirstWords

@@ -1,15 +1,16 @@
 //! The values of a line, one after the other.
 
 ghost use Rattle.std.specs.Prelude.{◌≡◌};
-ghost use Rattle.lapi_base.specs.Input.Tokens.{Number, Counter, Hex, OptionalHex, Address, PlainVector, TargetVector};
+ghost use Rattle.lapi_base.specs.Input.Tokens.{Number, Counter, Hex, OptionalHex, Address, PlainVector, TargetVector, Dotted, LegWord};
 ghost use Rattle.lapi_base.specs.Input.Forms.{value_at, word_at, keyword_at, end_at};
 ghost use Rattle.lapi_script.specs.Gives.{Gives};
 
 use crate::fault::{LineFault, syntax};
+use crate::names::{dotted_of, leg_of};
 use crate::pieces::{Side, VectorWord};
 use crate::values::{address_of, counter_of, hex_of, number_of, optional_hex_of};
 use crate::words::{Words, is_text};
-use lapi_base::{Addr, Bytes};
+use lapi_base::{Addr, Bytes, Leg};
 use std::alloc::Global;
 
 pub(crate) fn word<'a>(words: &mut Words<'a>) -> Result<&'a [u8], LineFault>
@@ -110,5 +111,27 @@ pub(crate) fn target_vector<'a>(words: &mut Words<'a>) -> Result<VectorWord<'a>,
     match VectorWord::read(Side::Target, text) {
         None => Err(syntax()),
         Some(vector) => Ok(vector),
+    }
+}
+
+#[tactic(auto, unfolding(lapi_base::specs::Input::Tokens::value_of))]
+pub(crate) fn dotted(words: &mut Words) -> Result<(u32, u32), LineFault>
+    ensures { Gives (λ x. (x, words.new)) result (value_at Dotted words.old) }
+{
+    let text = word(words)?;
+    match dotted_of(text) {
+        None => Err(syntax()),
+        Some(x) => Ok(x),
+    }
+}
+
+#[tactic(auto, unfolding(lapi_base::specs::Input::Tokens::value_of))]
+pub(crate) fn leg(words: &mut Words) -> Result<Leg, LineFault>
+    ensures { Gives (λ leg. (leg, words.new)) result (value_at LegWord words.old) }
+{
+    let text = word(words)?;
+    match leg_of(text) {
+        None => Err(syntax()),
+        Some(leg) => Ok(leg),
     }
 }

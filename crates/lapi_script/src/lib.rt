@@ -1,13 +1,17 @@
-//! The text of an input, read and written.
+//! The text of an input, read and written, and that of an audit, read.
 #![tactic(auto)]
 
 mod acts;
+mod audit;
+mod audit_state;
 mod cuts;
+mod events;
 mod fault;
 mod fields;
 mod heads;
 mod held_vector;
 mod limits;
+mod names;
 mod pieces;
 mod read;
 mod scan;
@@ -18,5 +22,6 @@ mod values;
 mod words;
 mod write;
 
+pub use audit::read_audit;
 pub use read::read_input;
 pub use write::{line_text, write_input};

@@ -8,6 +8,8 @@ use Rattle.hex.proofs.HexLemmas.{decode_of-ok}
 use Rattle.lapi_base.specs.declared.address.Addr.{Addr}
 use Rattle.lapi_base.specs.declared.address.Addr.TheVariants.{Plain, Table}
 use Rattle.lapi_base.specs.declared.piece.Piece.{Piece}
+use Rattle.lapi_base.specs.declared.message.Leg.{Leg}
+use Rattle.lapi_base.specs.declared.message.Leg.TheVariants.{Go, Back, Note, Echo, Join}
 use Rattle.lapi_base.specs.declared.vector.Vector.{Vector}
 use Rattle.lapi_base.specs.declared.vector.Vector.TheVariants.{Stride}
 use Rattle.lapi_base.specs.declared.statement.RmwOp.TheVariants.{Add, Or, Swap, Cas}
@@ -19,7 +21,7 @@ use Rattle.lapi_base.specs.declared.schedule.Line.{Line}
 use Rattle.lapi_base.specs.declared.script.Script.{Script}
 use Rattle.lapi_base.specs.Record.Valid.{IsU32, IsByte, IsCounter, IsAddress, IsPlain, IsPiece, ValidVector, AtPlain, ValidStatement, ValidAct, ValidLine}
 use Rattle.lapi_base.specs.Packet.Spelling.{spells_packet}
-use Rattle.lapi_base.specs.Input.Tokens.{Kind, Number, Counter, Hex, OptionalHex, Address, PlainVector, TargetVector, Value, Stands, IsPlainAddress, IsTargetAddress, IsPieceText, IsVectorText}
+use Rattle.lapi_base.specs.Input.Tokens.{Kind, Number, Counter, Hex, OptionalHex, Address, PlainVector, TargetVector, Dotted, LegWord, Value, Stands, IsPlainAddress, IsTargetAddress, IsPieceText, IsVectorText, IsLegText}
 use Rattle.lapi_base.specs.Input.Rows.{Column, Word, Field, IsRow, statement_row, act_row, line_row}
 use Rattle.lapi_base.specs.Input.Reading.{has_few_pieces, keeps_pieces, keeps_bytes, keeps_injected, names_known}
 use Rattle.lapi_base.specs.Input.Faults.{HasOperand}
@@ -27,6 +29,13 @@ use Rattle.lapi_base.specs.Input.Faults.{HasOperand}
 abbrev pub FitVector : Vector → Type 0
 FitVector (Vector.List pieces) = (1 ≤ length pieces) × AllByRecursion IsPiece pieces
 FitVector (Stride base block stride count) = (1 ≤ count) × IsU32 count × IsAddress base × IsU32 block × IsU32 stride
+
+abbrev pub FitLeg : Leg → Type 0
+FitLeg Go = Unit {0}
+FitLeg Back = Unit {0}
+FitLeg Note = Unit {0}
+FitLeg Echo = Unit {0}
+FitLeg (Join d) = IsU32 d
 
 -- what a word of the kind can stand for
 abbrev pub Fit : (kind : Kind) → Value kind → Type 0
@@ -37,6 +46,8 @@ Fit OptionalHex bytes = AllByRecursion IsByte bytes
 Fit Address at = IsAddress at
 Fit PlainVector v = FitVector v × AtPlain v
 Fit TargetVector v = FitVector v
+Fit Dotted x = IsU32 x.0 × IsU32 x.1
+Fit LegWord leg = FitLeg leg
 
 -- a word of bytes from + to z, and not of none
 abbrev pub is_plain_word : List ℕ → Bool
@@ -100,6 +111,13 @@ vector_plain : (v : Vector) (word : List ℕ) → IsVectorText IsPlainAddress v 
 vector_plain (Vector.List pieces) word (texts, some, z, e) = pieces_plain pieces texts z
 vector_plain (Stride base block stride count) word (b, k, s, c, isb, isk, iss, isc, some, e) = plain_at base b isb
 
+leg_fit : (leg : Leg) (word : List ℕ) → IsLegText leg word → FitLeg leg
+leg_fit Go word is = tt
+leg_fit Back word is = tt
+leg_fit Note word is = tt
+leg_fit Echo word is = tt
+leg_fit (Join d) word (n, isn, e) = isn.1
+
 pub stands_fit : (kind : Kind) (v : Value kind) (word : List ℕ) → Stands kind v word → Fit kind v
 stands_fit Number n word is = is.1
 stands_fit Counter None word is = tt
@@ -110,6 +128,8 @@ stands_fit OptionalHex (b ∷ bytes) word is = all_bytes (b ∷ bytes) (decode_o
 stands_fit Address at word is = target_fit at word is
 stands_fit PlainVector v word is = (vector_fit IsPlainAddress plain_fit v word is, vector_plain v word is)
 stands_fit TargetVector v word is = vector_fit IsTargetAddress target_fit v word is
+stands_fit Dotted x word (t, s, ist, iss, e) = (ist.1, iss.1)
+stands_fit LegWord leg word is = leg_fit leg word is
 
 pub row_fit : (row : List Column) (words : List (List ℕ)) → IsRow row words → AllByRecursion FieldFits row
 row_fit [] [] z = tt

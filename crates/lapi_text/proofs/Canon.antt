@@ -1,10 +1,10 @@
 -- The canonical text has the rows of its input.
 use Rattle.std.proofs.Common.{◌≡◌, ◌≢◌, ℕ, zero, suc, ◌+◌, ◌^◌, ◌/◌, ◌%◌, ◌<◌, ◌≤◌, List, [], ◌∷◌, ◌++◌, length, map, refl, ap, ◌∙◌, Bool, true, false, cond, arith, append_assoc, nat_lt, get_or, inl, inr}
-use Rattle.std.specs.Prelude.{filter, IsTrue, ◌==◌, ◌&&◌, nat_le, Some, None}
+use Rattle.std.specs.Prelude.{codes, filter, IsTrue, ◌==◌, ◌&&◌, nat_le, Some, None}
 use Rattle.std.specs.List.{AllZip, AllByRecursion, All, slice_split, onto_first, join_with_byte, flat_map, list_all}
 use Rattle.std.specs.Fmt.{decimal}
 use Rattle.std.specs.Str.Parse.{AllDigits}
-use Rattle.std.proofs.lemmas.List.{append-nil}
+use Rattle.std.proofs.lemmas.List.{append-nil, length-append}
 use Rattle.std.proofs.lemmas.List.Splits.{slice_split_none, slice_split_at}
 use Rattle.std.proofs.lemmas.List.Folds.{list_all-append}
 use Rattle.std.proofs.lemmas.Bool.{lt-ltb, ltb-true, le-leb, leb-true, ne_eqb}
@@ -16,6 +16,8 @@ use Rattle.hex.proofs.HexLemmas.{decode_of-encode_lower}
 use Rattle.lapi_base.specs.declared.address.Addr.{Addr}
 use Rattle.lapi_base.specs.declared.address.Addr.TheVariants.{Plain, Table}
 use Rattle.lapi_base.specs.declared.piece.Piece.{Piece}
+use Rattle.lapi_base.specs.declared.message.Leg.{Leg}
+use Rattle.lapi_base.specs.declared.message.Leg.TheVariants.{Go, Back, Note, Echo, Join}
 use Rattle.lapi_base.specs.declared.vector.Vector.{Vector}
 use Rattle.lapi_base.specs.declared.vector.Vector.TheVariants.{Stride}
 use Rattle.lapi_base.specs.declared.statement.Statement.{Statement}
@@ -24,11 +26,12 @@ use Rattle.lapi_base.specs.declared.schedule.Line.{Line}
 use Rattle.lapi_base.specs.declared.script.Script.{Script}
 use Rattle.lapi_base.specs.declared.input.Input.{Input}
 use Rattle.lapi_base.specs.Input.Lines.{lines_of, ended_lines, words_of, is_clean, is_skipped, read_words}
-use Rattle.lapi_base.specs.Input.Tokens.{Kind, Number, Counter, Hex, OptionalHex, Address, PlainVector, TargetVector, Value, Stands, IsPlainAddress, IsTargetAddress, IsPieceText, IsVectorText, offset_text, address_text, piece_text, vector_text, canonical}
+use Rattle.lapi_base.specs.Input.Tokens.{Kind, Number, Counter, Hex, OptionalHex, Address, PlainVector, TargetVector, Dotted, LegWord, Value, Stands, IsPlainAddress, IsTargetAddress, IsPieceText, IsVectorText, IsLegText, leg_word, offset_text, address_text, piece_text, vector_text, canonical}
 use Rattle.lapi_base.specs.Packet.Spelling.{spells_packet}
-use Rattle.lapi_base.specs.Record.Valid.{IsAddress, IsPlain, IsPiece, ValidStatement, ValidLine}
-use Rattle.lapi_base.specs.Input.Rows.{Column, Word, Field, IsColumn, IsRow, head_row, sizes_row, task_row, statement_row, schedule_row, done_row, line_row, task_rows, column_text, row_line, row_text, rows, canon, IsInputText}
-use Rattle.lapi_text.proofs.Bounds.{FitVector, Fit, PartFits, is_bytes, both_true, statement_fits, line_fits}
+use Rattle.lapi_base.specs.Record.Valid.{IsAddress, IsPlain, IsPiece, ValidStatement, ValidScript, ValidLine}
+use Rattle.lapi_base.specs.Input.AuditRows.{journal_row}
+use Rattle.lapi_base.specs.Input.Rows.{Column, Word, Field, IsColumn, IsRow, head_row, sizes_row, task_row, statement_row, schedule_row, done_row, line_row, task_rows, script_rows, column_text, row_line, row_text, rows, canon, IsInputText}
+use Rattle.lapi_text.proofs.Bounds.{FitVector, FitLeg, Fit, PartFits, is_bytes, both_true, statement_fits, line_fits}
 use Rattle.lapi_text.proofs.Sound.{Fits, ValidList}
 
 -- a word of canonical text: bytes from + to z
@@ -87,6 +90,13 @@ line_more line rest none = ap ended_lines (slice_split_at (λ b. b == 10) line 1
 
 abbrev Plain' : List ℕ → Type 0
 Plain' word = AllByRecursion (λ b. (43 ≤ b) × (b ≤ 122)) word
+
+pub plain_by_test : (word : List ℕ) → list_all (λ b. nat_le 43 b && nat_le b 122) word ≡ true → Plain' word
+plain_by_test [] e = tt
+plain_by_test (b ∷ word) e =
+    let both = both_true _ _ e in
+    let here = both_true (nat_le 43 b) (nat_le b 122) both.0 in
+    ((leb-true 43 b here.0, leb-true b 122 here.1), plain_by_test word both.1)
 
 digits_plain : (ds : List ℕ) → AllDigits 10 ds → Plain' ds
 digits_plain [] all = tt
@@ -157,6 +167,19 @@ vector_plain (Stride base block stride count) fit =
     ((address_plain base fit.2).1, ((number_plain block fit.3).1, ((number_plain stride fit.4).1, ((number_plain count fit.1).1, tt)))) in
     (omega arith, ((omega arith, omega arith), ((omega arith, omega arith), parts)))
 
+dotted_plain : (t s : ℕ) → t < 2 ^ 32 → s < 2 ^ 32 → IsPlainWord (decimal t ++ (codes "." ++ decimal s))
+dotted_plain t s small few =
+    let first = number_plain t small in
+    let len : length (decimal t ++ (codes "." ++ decimal s)) ≡ length (decimal t) + suc (length (decimal s)) = length-append (decimal t) (46 ∷ decimal s) in
+    (omega (arith, len), plain_append (decimal t) (46 ∷ decimal s) first.1 ((omega arith, omega arith), (number_plain s few).1))
+
+leg_plain : (leg : Leg) → FitLeg leg → IsPlainWord (leg_word leg)
+leg_plain Go fit = (omega arith, plain_by_test (codes "go") refl)
+leg_plain Back fit = (omega arith, plain_by_test (codes "back") refl)
+leg_plain Note fit = (omega arith, plain_by_test (codes "note") refl)
+leg_plain Echo fit = (omega arith, plain_by_test (codes "echo") refl)
+leg_plain (Join d) fit = (omega arith, plain_append (codes "join-") (decimal d) (plain_by_test (codes "join-") refl) (number_plain d fit).1)
+
 -- a value's text is a plain word
 value_plain : (kind : Kind) (v : Value kind) → Fit kind v → IsPlainWord (canonical kind v)
 value_plain Number n fit = number_plain n fit
@@ -168,6 +191,8 @@ value_plain OptionalHex (b ∷ bytes) fit = (hex_some (b ∷ bytes) (some_bytes 
 value_plain Address at fit = address_plain at fit
 value_plain PlainVector v fit = vector_plain v fit.0
 value_plain TargetVector v fit = vector_plain v fit
+value_plain Dotted x fit = dotted_plain x.0 x.1 fit.0 fit.1
+value_plain LegWord leg fit = leg_plain leg fit
 
 plain_stands : (at : Addr) → IsAddress at → IsPlain at → IsPlainAddress at (address_text at)
 plain_stands (Plain n) fit plain = (refl, fit)
@@ -202,6 +227,13 @@ module _ (At : Addr → List ℕ → Type 0) where
   stride_stands base block stride count fit at =
       (address_text base, decimal block, decimal stride, decimal count, at, (refl, fit.3), (refl, fit.4), (refl, fit.1), fit.0, refl)
 
+leg_stands : (leg : Leg) → FitLeg leg → IsLegText leg (leg_word leg)
+leg_stands Go fit = refl
+leg_stands Back fit = refl
+leg_stands Note fit = refl
+leg_stands Echo fit = refl
+leg_stands (Join d) fit = (decimal d, (refl, fit), refl)
+
 -- and stands for the value
 value_stands : (kind : Kind) (v : Value kind) → Fit kind v → Stands kind v (canonical kind v)
 value_stands Number n fit = (refl, fit)
@@ -215,13 +247,8 @@ value_stands PlainVector (Vector.List pieces) fit = list_stands IsPlainAddress p
 value_stands PlainVector (Stride base block stride count) fit = stride_stands IsPlainAddress base block stride count fit.0 (plain_stands base fit.0.2 fit.1)
 value_stands TargetVector (Vector.List pieces) fit = list_stands IsTargetAddress pieces fit (pieces_at_target pieces fit.1)
 value_stands TargetVector (Stride base block stride count) fit = stride_stands IsTargetAddress base block stride count fit (target_stands base fit.2)
-
-pub plain_by_test : (word : List ℕ) → list_all (λ b. nat_le 43 b && nat_le b 122) word ≡ true → Plain' word
-plain_by_test [] e = tt
-plain_by_test (b ∷ word) e =
-    let both = both_true _ _ e in
-    let here = both_true (nat_le 43 b) (nat_le b 122) both.0 in
-    ((leb-true 43 b here.0, leb-true b 122 here.1), plain_by_test word both.1)
+value_stands Dotted x fit = (decimal x.0, decimal x.1, (refl, fit.0), (refl, fit.1), refl)
+value_stands LegWord leg fit = leg_stands leg fit
 
 part_plain : (p : Column) → PartFits p → IsPlainWord (column_text p)
 part_plain (Word text) fits = let both = both_true (nat_lt 0 (length text)) _ fits in (ltb-true 0 (length text) both.0, plain_by_test text both.1)
@@ -259,7 +286,7 @@ row_words [] fits = absurd (omega (arith, fits.0))
 row_words (p ∷ row) fits = (words_joined (column_text p) (map column_text row) (part_plain p fits.1.0) (parts_plain row fits.1.1), not_skipped (column_text p) (map column_text row) (part_plain p fits.1.0))
 
 -- the lines of the rows' text
-text_lines : (rows : List (List Column)) → AllByRecursion RowFits rows → lines_of (flat_map row_text rows) ≡ map row_line rows
+pub text_lines : (rows : List (List Column)) → AllByRecursion RowFits rows → lines_of (flat_map row_text rows) ≡ map row_line rows
 text_lines [] fits = refl
 text_lines (row ∷ rows) fits =
     ap lines_of (append_assoc (row_line row) (10 ∷ []) (flat_map row_text rows))
@@ -307,6 +334,9 @@ task_fits t lt = (omega arith, (refl, (lt, tt)))
 pub schedule_fits : RowFits schedule_row
 schedule_fits = (omega arith, (refl, tt))
 
+pub journal_fits : RowFits journal_row
+journal_fits = (omega arith, (refl, tt))
+
 pub done_fits : RowFits done_row
 done_fits = (omega arith, (refl, tt))
 
@@ -324,6 +354,13 @@ tasks_fit k (list ∷ lists) few valid =
 lines_fit : (script : Script) (schedule : List Line) → script.tasks ≤ 8 → script.workers ≤ 4 → AllByRecursion (ValidLine script spells_packet) schedule → AllByRecursion RowFits (map line_row schedule)
 lines_fit script [] tasks workers valid = tt
 lines_fit script (line ∷ schedule) tasks workers valid = ((omega arith, line_fits script line tasks workers valid.0), lines_fit script schedule tasks workers valid.1)
+
+-- the rows of a valid script can be written
+pub script_fits : (s : Script) → ValidScript s → AllByRecursion RowFits (script_rows s)
+script_fits s v = (
+  head_fits s.layout v.layout,
+  (sizes_fits s v.tasks.1 v.memory.1 v.counters v.workers.1, tasks_fit 0 s.lists (omega (arith, v.one_list_each, v.tasks.1)) v.lists),
+)
 
 rows_fit : (x : Input) → Fits x → AllByRecursion RowFits (rows x)
 rows_fit x fits =

@@ -22,7 +22,7 @@ use Rattle.lapi_base.specs.Input.Forms.{and_then, head_form, sizes_form, Task, S
 use Rattle.lapi_base.specs.Input.Rows.{Column, Word, IsRow, head_row, sizes_row, task_row, statement_row, schedule_row, done_row, act_row, line_row, task_rows, rows, IsRead}
 use Rattle.lapi_base.specs.Input.Reading as reading
 use Rattle.lapi_base.specs.Input.Reading.{State, within, on_statement, step, after, read_from, checked_sizes, is_word}
-use Rattle.lapi_text.proofs.Values.{same_text_of}
+use Rattle.lapi_text.proofs.Parts.{same_text_of}
 use Rattle.lapi_text.proofs.Rules.{same_Ok, bound, said, without_tasks, statement_matches, task_matches, schedule_matches, head_matches, sizes_matches, line_matches}
 use Rattle.lapi_text.proofs.Bounds.{pieces_kept, bytes_kept, operand_of, act_known, injected_kept}
 use Rattle.lapi_text.proofs.Sound.{ValidList, Fits, input_with}
@@ -118,7 +118,7 @@ unfolding step
 step_line script schedule line words z valid built lt =
     rw (not_done (codes "done") line words z, said line_form line (line_row line) words (line_matches line) z, act_known script line.act valid.1, built, lt-ltb _ _ lt, le-leb _ _ valid.0, injected_kept script line.act valid.1) refl
 
-one_word : (text : List ℕ) (words : List (List ℕ)) → IsRow (Word text ∷ []) words → is_word text words ≡ true
+pub one_word : (text : List ℕ) (words : List (List ℕ)) → IsRow (Word text ∷ []) words → is_word text words ≡ true
 one_word text [] z = absurd z
 one_word text (w ∷ []) z = same_text_of w text z.0
 one_word text (w ∷ v ∷ words) z = absurd z.1
@@ -238,7 +238,7 @@ tasks_all s list more schedule wordss fits z =
     first : (inner : Inner) → Goal
     first inner = others inner (tasks_run s more [] list 1 (end_rows schedule) inner.left inner.spelled fits.script.lists.1 fits.built.lists.1 (omega arith) (omega (arith, fits.script.one_list_each)))
 
-all_run : (s : Script) (lists : List (List Statement)) (schedule : List Line) (wordss : List (List (List ℕ)))
+pub all_run : (s : Script) (lists : List (List Statement)) (schedule : List Line) (wordss : List (List (List ℕ)))
     → Fits (input_with (script_with s lists) schedule) → Spells (rows (input_with (script_with s lists) schedule)) wordss
     → steps reading.First wordss ≡ Ok (reading.Finished (input_with (script_with s lists) schedule))
 all_run s [] schedule wordss fits z = absurd (omega (arith, fits.script.one_list_each, fits.script.tasks.0))

@@ -25,28 +25,49 @@ record Completes (state : State) : Type 0 where
   fits : Fits x
   texts : AllByRecursion RowFits more
 
-prepend : (state next : State) (row : List Column) → so_far next ≡ so_far state ++ row ∷ [] → RowFits row → Completes next → Completes state
-prepend state next row is fit c = record { x = c.x; more = row ∷ c.more; whole = c.whole ∙ ap (λ r. r ++ c.more) is ∙ append_assoc (so_far state) (row ∷ []) c.more; fits = c.fits; texts = (fit, c.texts) }
-
 finished_completes : (x : Input) → Fits x → Completes (reading.Finished x)
 finished_completes x fits = record { x = x; more = []; whole = sym (append-nil (rows x)); fits = fits; texts = tt }
 
 lines_complete : (script : Script) (schedule : List Line) → Fits (input_with script schedule) → Completes (reading.Lines script schedule)
-lines_complete script schedule keeps =
-    prepend _ (reading.Finished (input_with script schedule)) done_row (sym (append_assoc (script_rows script) (schedule_row ∷ map line_row schedule) (done_row ∷ []))) done_fits
-    (finished_completes (input_with script schedule) keeps)
+lines_complete script schedule keeps = record {
+  x = input_with script schedule;
+  more = done_row ∷ [];
+  whole = sym (append_assoc (script_rows script) (schedule_row ∷ map line_row schedule) (done_row ∷ []));
+  fits = keeps;
+  texts = (done_fits, tt);
+}
 
-tasks_complete : (n : ℕ) (script : Script) (current : List Statement) → TasksKeep script current → length script.lists + 1 + n ≡ script.tasks → Completes (reading.Tasks script current)
-tasks_complete zero script current keeps here =
-    prepend _ (reading.Lines (with_task script current) []) schedule_row refl schedule_fits (lines_complete (with_task script current) [] (schedule_keeps script current keeps (omega (arith, here))))
-tasks_complete (suc n) script current keeps here =
+-- rows that lead from a state to the end of a script
+pub record ScriptCompletes (state : State) : Type 0 where
+  pub script : Script
+  pub more : List (List Column)
+  pub whole : script_rows script ≡ so_far state ++ more
+  pub fits : Fits (input_with script [])
+  pub texts : AllByRecursion RowFits more
+
+prepend : (state next : State) (row : List Column) → so_far next ≡ so_far state ++ row ∷ [] → RowFits row → ScriptCompletes next → ScriptCompletes state
+prepend state next row is fit c =
+    record { script = c.script; more = row ∷ c.more; whole = c.whole ∙ ap (λ r. r ++ c.more) is ∙ append_assoc (so_far state) (row ∷ []) c.more; fits = c.fits; texts = (fit, c.texts) }
+
+last_task_completes : (n : ℕ) (script : Script) (current : List Statement) → TasksKeep script current → length script.lists + 1 + n ≡ script.tasks → ScriptCompletes (reading.Tasks script current)
+last_task_completes zero script current keeps here = record {
+  script = with_task script current;
+  more = [];
+  whole = sym (append-nil (so_far (reading.Tasks script current)));
+  fits = schedule_keeps script current keeps (omega (arith, here));
+  texts = tt;
+}
+last_task_completes (suc n) script current keeps here =
     let t : ℕ = length script.lists + 1 in
     let len : length (script.lists ++ current ∷ []) ≡ length script.lists + 1 = length-append script.lists (current ∷ []) in
     let small : length script.lists + 1 < 2 ^ 32 = omega (arith, here, keeps.sized.tasks.1) in
     prepend _ (reading.Tasks (with_task script current) []) (task_row t) (tasks_push script current t refl) (task_fits t small)
-    (tasks_complete n (with_task script current) [] (next_task_keeps script current keeps (omega (arith, here))) (omega (arith, len, here)))
+    (last_task_completes n (with_task script current) [] (next_task_keeps script current keeps (omega (arith, here))) (omega (arith, len, here)))
 
-start_completes : (script : Script) → Sized script → script.lists ≡ [] → Completes (reading.Start script)
+pub tasks_complete : (script : Script) (current : List Statement) → TasksKeep script current → ScriptCompletes (reading.Tasks script current)
+tasks_complete script current keeps = last_task_completes (script.tasks - (length script.lists + 1)) script current keeps (omega (arith, keeps.room))
+
+pub start_completes : (script : Script) → Sized script → script.lists ≡ [] → ScriptCompletes (reading.Start script)
 start_completes script fit none =
     let kept : TasksKeep script [] = record {
       sized = fit;
@@ -57,27 +78,40 @@ start_completes script fit none =
       built_list = tt;
     } in
     let first : task_rows 0 (script.lists ++ [] ∷ []) ≡ task_row 0 ∷ [] = rw none refl in
-    let empty : length script.lists ≡ 0 = ap (λ ls. length ls) none in
-    prepend _ (reading.Tasks script []) (task_row 0) (ap (λ r. head_row script.layout ∷ sizes_row script ∷ r) first) (task_fits 0 (lit< tt))
-    (tasks_complete (script.tasks - 1) script [] kept (omega (arith, fit.tasks.0, empty)))
+    prepend _ (reading.Tasks script []) (task_row 0) (ap (λ r. head_row script.layout ∷ sizes_row script ∷ r) first) (task_fits 0 (lit< tt)) (tasks_complete script [] kept)
 
 -- the smallest sizes
-abbrev small : Script
+abbrev pub small : Script
 small = sized 1 2 64 0 1
 
 small_fit : Sized small
 small_fit = record { layout = refl; tasks = (omega arith, omega arith); memory = (omega arith, omega arith, refl); counters = omega arith; workers = (omega arith, omega arith) }
 
-second_completes : (layout : ℕ) → layout ≡ 1 → Completes (reading.Second layout)
+pub second_completes : (layout : ℕ) → layout ≡ 1 → ScriptCompletes (reading.Second layout)
 second_completes layout is =
     prepend _ (reading.Start small) (sizes_row small) (ap (λ n. head_row n ∷ sizes_row small ∷ []) (sym is)) (sizes_fits small (omega arith) (omega arith) (omega arith) (omega arith)) (start_completes small small_fit refl)
 
+pub first_completes : ScriptCompletes reading.First
+first_completes = prepend _ (reading.Second 1) (head_row 1) refl (head_fits 1 refl) (second_completes 1 refl)
+
+-- and to an input without lines
+script_leads : (state : State) → ScriptCompletes state → Completes state
+script_leads state c =
+    let tail : List (List Column) = schedule_row ∷ done_row ∷ [] in
+    record {
+      x = input_with c.script [];
+      more = c.more ++ tail;
+      whole = ap (λ r. r ++ tail) c.whole ∙ append_assoc (so_far state) c.more tail;
+      fits = c.fits;
+      texts = all_append RowFits c.more tail c.texts (schedule_fits, (done_fits, tt));
+    }
+
 -- each state that keeps the limits leads to an input
 completes : (state : State) → Keeps state → Completes state
-completes reading.First keeps = prepend _ (reading.Second 1) (head_row 1) refl (head_fits 1 refl) (second_completes 1 refl)
-completes (reading.Second layout) keeps = second_completes layout keeps
-completes (reading.Start script) keeps = start_completes script keeps.0 keeps.1
-completes (reading.Tasks script current) keeps = tasks_complete (script.tasks - (length script.lists + 1)) script current keeps (omega (arith, keeps.room))
+completes reading.First keeps = script_leads reading.First first_completes
+completes (reading.Second layout) keeps = script_leads (reading.Second layout) (second_completes layout keeps)
+completes (reading.Start script) keeps = script_leads (reading.Start script) (start_completes script keeps.0 keeps.1)
+completes (reading.Tasks script current) keeps = script_leads (reading.Tasks script current) (tasks_complete script current keeps)
 completes (reading.Lines script schedule) keeps = lines_complete script schedule keeps
 completes (reading.Finished x) keeps = finished_completes x keeps
 

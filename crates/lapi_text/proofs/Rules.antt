@@ -18,7 +18,8 @@ use Rattle.lapi_base.specs.Input.Tokens.{Kind, Number, Value, Stands, value_of, 
 use Rattle.lapi_base.specs.Input.Forms.{Form, End, Wrong, Next, Take, run, and_then, well_formed, word_at, value_at, choose, ◌>>=◌, number, expect, head_form, sized, sizes_form, store_form, put_form, get_form, putv_form, getv_form, one_operand_form, cas_form, operations, rmw_form, amsend_form, wait_form, set_form, read_form, address_init_form, statements, statement_form, TaskLine, Task, Schedule, StatementLine, task_line_form, task_form, deliver_form, cut_form, inject_form, worker_form, acts, act_form, line_form}
 use Rattle.lapi_base.proofs.Runs.{run_statement, run_line, line_with}
 use Rattle.lapi_base.specs.Input.Rows.{Column, Word, Field, IsRow, head_row, sizes_row, task_row, operation_word, second_operand, statement_row, schedule_row, act_row, line_row}
-use Rattle.lapi_text.proofs.Values.{value_says, value_read, same_text_is}
+use Rattle.lapi_text.proofs.Parts.{same_text_is}
+use Rattle.lapi_text.proofs.Values.{value_says, value_read}
 
 -- the words are the form's in order, and stand for x
 abbrev pub Spelled : {A : Type 0} → Form A → A → List (List ℕ) → Type 0
@@ -69,7 +70,7 @@ said (Take kind more) x parts (word ∷ words) m z =
     let here = subst (λ ps. IsRow ps (word ∷ words)) m.2 z in
     rw (value_read kind word m.0 here.0) (said (more m.0) x m.1 words m.3 here.1)
 
-chosen_run : {A : Type 0} (b : Bool) (f g : Form A) (words : List (List ℕ)) (x : A) → run (cond b f g) words ≡ Ok x → ((b ≡ true) × (run f words ≡ Ok x)) ⊎ ((b ≡ false) × (run g words ≡ Ok x))
+pub chosen_run : {A : Type 0} (b : Bool) (f g : Form A) (words : List (List ℕ)) (x : A) → run (cond b f g) words ≡ Ok x → ((b ≡ true) × (run f words ≡ Ok x)) ⊎ ((b ≡ false) × (run g words ≡ Ok x))
 chosen_run true f g words x e = inl (refl, e)
 chosen_run false f g words x e = inr (refl, e)
 
@@ -77,10 +78,10 @@ named : (P : List ℕ → Type 0) (word text : List ℕ) → same_text word text
 named P word text same p = subst P (sym (same_text_is word text same)) p
 
 -- what each form of a table spells holds of what the word that names it and the words after it spell
-abbrev Table : {A : Type 0} → (A → List (List ℕ) → Type 0) → List (List ℕ × Form A) → Type 0
+abbrev pub Table : {A : Type 0} → (A → List (List ℕ) → Type 0) → List (List ℕ × Form A) → Type 0
 Table {A = A} P forms = AllByRecursion (λ (f : List ℕ × Form A). (x : A) (words : List (List ℕ)) → Spelled f.1 x words → P x (f.0 ∷ words)) forms
 
-choose_says : {A : Type 0} (P : A → List (List ℕ) → Type 0) (forms : List (List ℕ × Form A)) → Table P forms → (word : List ℕ) (words : List (List ℕ)) (x : A) → Spelled (choose forms word) x words → P x (word ∷ words)
+pub choose_says : {A : Type 0} (P : A → List (List ℕ) → Type 0) (forms : List (List ℕ × Form A)) → Table P forms → (word : List ℕ) (words : List (List ℕ)) (x : A) → Spelled (choose forms word) x words → P x (word ∷ words)
 choose_says P [] all word words x s = absurd s
 choose_says P (f ∷ forms) all word words x s = at (same_text word f.0) refl s (λ t. choose_says P forms all.1 word words x t)
   where

@@ -21,7 +21,7 @@ use Rattle.lapi_base.specs.Input.Forms.{run, and_then, head_form, sizes_form, Ta
 use Rattle.lapi_base.specs.Input.Rows.{Column, IsRow, head_row, sizes_row, task_row, statement_row, schedule_row, done_row, line_row, task_rows, script_rows, rows, IsRead}
 use Rattle.lapi_base.specs.Input.Reading as reading
 use Rattle.lapi_base.specs.Input.Reading.{State, step, after, read_from, input_of, at_line, within, checked_sizes, keeps_pieces, keeps_bytes, keeps_injected, names_known, with_task, on_first_task, on_statement, on_task_line, on_line, is_word}
-use Rattle.lapi_text.proofs.Values.{same_text_is, chosen}
+use Rattle.lapi_text.proofs.Parts.{same_text_is, chosen}
 use Rattle.lapi_text.proofs.Rules.{err_ok, same_Ok, bound, head_says, sizes_says, SizesSay, task_line_says, TaskLineSays, Says, line_says}
 use Rattle.lapi_text.proofs.Bounds.{both_true, row_fit, valid_statement, valid_act}
 
@@ -323,7 +323,7 @@ pub record Goes (state : State) (x : Input) (lines : List (List ℕ)) : Type 0 w
 pub fault_ok : {A : Type 0} (e : LineError × ℕ) (x : A) → Err e ≡ Ok x → ⊥
 fault_ok e x h = cc
 
-same_read : {A : Type 0} (x y : A) → ◌≡◌ {A = Result A (LineError × ℕ)} (Ok x) (Ok y) → x ≡ y
+pub same_read : {A : Type 0} (x y : A) → ◌≡◌ {A = Result A (LineError × ℕ)} (Ok x) (Ok y) → x ≡ y
 same_read x y h = cc
 
 at_the_end : (l : ℕ) (state : State) (x : Input) → Keeps state → input_of l state ≡ Ok x → Goes state x []

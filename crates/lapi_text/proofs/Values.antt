@@ -1,9 +1,8 @@
 -- A word is read as a value where it stands for it, and only there.
-use Rattle.std.proofs.Common.{◌≡◌, ◌≢◌, ℕ, zero, suc, ◌<◌, ◌≤◌, List, [], ◌∷◌, ◌++◌, length, refl, sym, ap, ◌∙◌, Bool, true, false, cond, arith, Some, None, Option, Result, Ok, Err, inl, inr, subst, nat_lt}
-use Rattle.std.specs.Prelude.{◌==◌, codes, ◌⊎◌, option_map, option_and_then}
-use Rattle.std.specs.List.{slice_split, onto_first, All, AllZip, AllByRecursion, join_with_byte}
-use Rattle.std.specs.Cmp.Lexicographic.{bytes_decides}
-use Rattle.std.proofs.lemmas.Bool.{ne_eqb, eqb-true, false_from_ne_true, ltb-true, lt-ltb, eq-eqb}
+use Rattle.std.proofs.Common.{◌≡◌, ◌≢◌, ℕ, ◌≤◌, List, [], ◌∷◌, ◌++◌, length, refl, sym, ap, ◌∙◌, true, false, cond, arith, Some, None, Option, Result, Ok, Err, inl, inr, subst, nat_lt}
+use Rattle.std.specs.Prelude.{◌==◌, codes, ◌⊎◌, option_map}
+use Rattle.std.specs.List.{slice_split, AllZip, AllByRecursion, join_with_byte}
+use Rattle.std.proofs.lemmas.Bool.{ne_eqb, eqb-true, false_from_ne_true, ltb-true, lt-ltb}
 use Rattle.std.proofs.lemmas.Option.{none-some, same_Some}
 use Rattle.std.proofs.lemmas.List.Elements.{All-append}
 use Rattle.std.proofs.lemmas.List.Splits.{slice_split_none, slice_split_at, join_with_byte-slice_split}
@@ -14,27 +13,10 @@ use Rattle.lapi_base.specs.declared.address.Addr.TheVariants.{Plain, Table}
 use Rattle.lapi_base.specs.declared.piece.Piece.{Piece}
 use Rattle.lapi_base.specs.declared.vector.Vector.{Vector}
 use Rattle.lapi_base.specs.declared.vector.Vector.TheVariants.{Stride}
-use Rattle.lapi_base.specs.Input.Tokens.{Kind, Number, Counter, Hex, OptionalHex, Address, PlainVector, TargetVector, Value, Stands, IsNumber, IsHex, IsPlainAddress, IsTargetAddress, IsPieceText, IsVectorText, same_text, number_of, counter_of, hex_of, optional_hex_of, not_empty, first_part, only_part, plain_address_of, offset_of, table_of, address_of, piece_of, pieces_of, listed_of, some_pieces, sizes_of, strided_of, vector_by, vector_of, value_of}
+use Rattle.lapi_base.specs.Input.Tokens.{Kind, Number, Counter, Hex, OptionalHex, Address, PlainVector, TargetVector, Dotted, LegWord, Value, Stands, IsNumber, IsHex, IsPlainAddress, IsTargetAddress, IsPieceText, IsVectorText, same_text, number_of, counter_of, hex_of, optional_hex_of, not_empty, only_part, plain_address_of, offset_of, table_of, address_of, piece_of, pieces_of, listed_of, some_pieces, sizes_of, strided_of, vector_by, vector_of, value_of}
 use Rattle.lapi_text.proofs.Numbers.{number_says, number_read, digit_at_number}
-
--- equal texts, and others
-pub same_text_is : (a b : List ℕ) → same_text a b ≡ true → a ≡ b
-same_text_is a b e = (bytes_decides a b).0 e
-
-pub same_text_of : (a b : List ℕ) → a ≡ b → same_text a b ≡ true
-same_text_of a b e = (bytes_decides a b).1 e
-
-pub map_some : {A B : Type 0} (f : A → B) (o : Option A) (y : B) → option_map f o ≡ Some y → (x : A) × (o ≡ Some x) × (f x ≡ y)
-map_some f (Some x) y e = (x, refl, same_Some _ _ e)
-map_some f None y e = absurd (none-some y e)
-
-pub then_some : {A B : Type 0} (f : A → Option B) (o : Option A) (y : B) → option_and_then f o ≡ Some y → (x : A) × (o ≡ Some x) × (f x ≡ Some y)
-then_some f (Some x) y e = (x, refl, e)
-then_some f None y e = absurd (none-some y e)
-
-pub chosen : {A : Type 0} (b : Bool) (x y z : A) → cond b x y ≡ z → ((b ≡ true) × (x ≡ z)) ⊎ ((b ≡ false) × (y ≡ z))
-chosen true x y z e = inl (refl, e)
-chosen false x y z e = inr (refl, e)
+use Rattle.lapi_text.proofs.Parts.{same_text_is, same_text_of, map_some, then_some, chosen, first_says, only_says, Avoids, one_avoids, number_avoids, cut_joined, some_parts}
+use Rattle.lapi_text.proofs.NameWords.{dotted_says, dotted_read, leg_says, leg_read}
 
 -- ---- counters and hexadecimal text
 
@@ -100,46 +82,6 @@ optional_read word (b ∷ bytes) is =
     let read = hex_read word (b ∷ bytes) is in
     let no : same_text word (codes "-") ≡ false = false_from_ne_true _ (λ yes. none-some (b ∷ bytes) (dash_is_odd ∙ sym (ap hex_of (same_text_is word (codes "-") yes)) ∙ read)) in
     rw (no, read) refl
-
--- ---- words that are cut into parts
-
-pub first_says : {A B : Type 0} (read : List ℕ → Option A) (more : A → List (List ℕ) → Option B) (parts : List (List ℕ)) (y : B) → first_part read more parts ≡ Some y
-    → (part : List ℕ) × (rest : List (List ℕ)) × (x : A) × (parts ≡ part ∷ rest) × (read part ≡ Some x) × (more x rest ≡ Some y)
-first_says read more [] y e = absurd (none-some y e)
-first_says read more (part ∷ rest) y e = let x = then_some _ (read part) y e in (part, rest, x.0, refl, x.1, x.2)
-
-pub only_says : {A : Type 0} (read : List ℕ → Option A) (parts : List (List ℕ)) (y : A) → only_part read parts ≡ Some y → (part : List ℕ) × (parts ≡ part ∷ []) × (read part ≡ Some y)
-only_says read [] y e = absurd (none-some y e)
-only_says read (part ∷ []) y e = (part, refl, e)
-only_says read (part ∷ other ∷ rest) y e = absurd (none-some y e)
-
--- no byte is this one
-abbrev pub Avoids : ℕ → List ℕ → Type 0
-Avoids c word = All (λ b. (b == c) ≡ false) word
-
-one_avoids : (c b : ℕ) → b ≢ c → Avoids c (b ∷ [])
-one_avoids c b ne zero d lt = ne_eqb b c ne
-one_avoids c b ne (suc k) d lt = absurd (omega (arith, lt))
-
-pub number_avoids : (word : List ℕ) (n c : ℕ) → IsNumber n word → (c < 48) ⊎ (57 < c) → Avoids c word
-number_avoids word n c is (inl low) = λ k d lt. ne_eqb _ _ (λ e. omega (arith, e, low, (digit_at_number word n is k d lt).0))
-number_avoids word n c is (inr high) = λ k d lt. ne_eqb _ _ (λ e. omega (arith, e, high, (digit_at_number word n is k d lt).1))
-
--- parts without the byte that joins them are the parts that they are cut into
-pub cut_joined : (c : ℕ) (text : List ℕ) (texts : List (List ℕ)) → Avoids c text → AllByRecursion (Avoids c) texts → slice_split (λ b. b == c) (join_with_byte c (text ∷ texts)) ≡ text ∷ texts
-cut_joined c text [] here all = slice_split_none (λ b. b == c) text here
-cut_joined c text (next ∷ texts) here all =
-    slice_split_at (λ b. b == c) text c (join_with_byte c (next ∷ texts)) here (eq-eqb c c refl) ∙ ap (λ ts. text ∷ ts) (cut_joined c next texts all.0 all.1)
-
--- there is always a first part
-pub some_parts : (p : ℕ → Bool) (bytes : List ℕ) → (first : List ℕ) × (more : List (List ℕ)) × (slice_split p bytes ≡ first ∷ more)
-some_parts p [] = ([], [], refl)
-some_parts p (b ∷ bytes) =
-    let rest = some_parts p bytes in
-    elim (p b) as (λ v. (first : List ℕ) × (more : List (List ℕ)) × (cond v ([] ∷ slice_split p bytes) (onto_first b (slice_split p bytes)) ≡ first ∷ more)) [
-      | true ↦ ([], slice_split p bytes, refl)
-      | false ↦ (b ∷ rest.0, rest.1, ap (onto_first b) rest.2)
-    ]
 
 -- ---- addresses
 
@@ -394,6 +336,8 @@ value_says OptionalHex word v e = optional_says word v e
 value_says Address word v e = address_says word v e
 value_says PlainVector word v e = vector_says IsPlainAddress plain_address_of plain_exact word v e
 value_says TargetVector word v e = vector_says IsTargetAddress address_of target_exact word v e
+value_says Dotted word x e = dotted_says word x e
+value_says LegWord word leg e = leg_says word leg e
 
 -- what a word stands for, it is read as
 pub value_read : (kind : Kind) (word : List ℕ) (v : Value kind) → Stands kind v word → value_of kind word ≡ Some v
@@ -405,3 +349,5 @@ value_read OptionalHex word v is = optional_read word v is
 value_read Address word v is = address_read word v is
 value_read PlainVector word v is = vector_read IsPlainAddress plain_address_of plain_exact word v is
 value_read TargetVector word v is = vector_read IsTargetAddress address_of target_exact word v is
+value_read Dotted word x is = dotted_read word x is
+value_read LegWord word leg is = leg_read word leg is

@@ -1,5 +1,8 @@
-//! What holds of the text of an input, read and written. The laws are the contract of a function without a body.
+//! What holds of the texts of an input and of an audit, read and written. The laws are the contract of functions
+//! without a body.
 #![tactic(auto)]
+
+mod audits;
 
 ghost use Rattle.std.specs.Prelude.{◌≡◌, ℕ, ◌≤◌, ◌<◌, List, length, Ok, Err};
 ghost use Rattle.lapi_base.specs.declared.input.Input.{Input};
@@ -13,6 +16,8 @@ ghost use Rattle.lapi_base.specs.Input.Reading.{read, most_input};
 ghost use Rattle.lapi_base.specs.Input.Rows.{IsInputText, IsFirstFault, canon};
 ghost use Rattle.lapi_base.specs.Packet.Spelling.{spells_packet};
 ghost use Rattle.lapi_base.specs.Record.Valid.{ValidScript, ValidSchedule};
+
+pub use audits::audit_text_laws;
 
 /// The laws of the text of an input. Nothing runs: a caller takes them from the contract.
 pub fn text_laws()

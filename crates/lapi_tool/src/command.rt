@@ -12,6 +12,7 @@ ghost use Rattle.lapi_tool.specs.Shown.{asked_text};
 
 use crate::fault::{status_of, write_fault};
 use crate::text::write_text;
+use crate::verdict::audit_and_answer;
 use crate::views::write_view;
 use crate::words::command_of;
 use lapi_base::{Command, LONGEST_INPUT, ReadFault, Status, View, Which, WriteFault};
@@ -24,16 +25,17 @@ use lapi_text::text_laws;
 use std::alloc::Global;
 
 /// What is told of an input with more bytes than that.
-const TOO_LONG: ReadFault = ReadFault::Limit {
+pub(crate) const TOO_LONG: ReadFault = ReadFault::Limit {
     which: Which::Input,
     line: 0,
 };
 
 const USAGE: &str =
-    "usage: lapi run|journal|wire|trace|check|live, lapi show HEX, lapi gen N, lapi sum N\n";
+    "usage: lapi run|journal|wire|trace|check|live|audit, lapi show HEX, lapi gen N, lapi sum N\n";
 
 /// Does what the words say, which are the arguments after the program's name: reads an input, performs every
-/// line of its schedule with these handlers and writes what is asked of it, or shows a packet.
+/// line of its schedule with these handlers and writes what is asked of it, tells the verdict on a journal, or shows a
+/// packet.
 ///
 /// All text goes to the sink, that of a refusal too.
 pub fn run<S: Source, K: Sink>(
@@ -66,6 +68,7 @@ pub fn run<S: Source, K: Sink>(
         Ok(None) => end(Status::Usage, write_text(USAGE, sink)),
         Ok(Some(Command::Show(bytes))) => end(Status::Ok, write_packet(bytes.as_slice(), sink)),
         Ok(Some(Command::Check)) => read_and_answer(alloc, None, source, sink, handlers),
+        Ok(Some(Command::Audit)) => audit_and_answer(alloc, source, sink, handlers),
         Ok(Some(Command::Read(view))) => read_and_answer(alloc, Some(view), source, sink, handlers),
     }
 }
@@ -114,7 +117,7 @@ fn answer_input<K: Sink>(
 }
 
 /// Answers a fault of the input.
-fn refuse<K: Sink>(alloc: Global, fault: ReadFault, sink: &mut K) -> Status
+pub(crate) fn refuse<K: Sink>(alloc: Global, fault: ReadFault, sink: &mut K) -> Status
     ensures answer { CommandGives (refused_answer fault) (K.held sink.old) (K.held sink.new) result }
     ensures source { result ≢ Status.SourceFault }
     ensures sink { result ≡ Status.SinkFault → Rose (K.faults sink.old) (K.faults sink.new) }
@@ -124,7 +127,7 @@ fn refuse<K: Sink>(alloc: Global, fault: ReadFault, sink: &mut K) -> Status
 }
 
 /// The status, unless its text wasn't written whole.
-fn end(status: Status, written: Result<(), WriteFault>) -> Status
+pub(crate) fn end(status: Status, written: Result<(), WriteFault>) -> Status
     ensures answer { (held now : Option (List ℕ)) (text : List ℕ) → Wrote held now text written
         → CommandGives (record { status = status; text = text }) held now result }
     ensures source { result ≡ Status.SourceFault → status ≡ Status.SourceFault }

@@ -56,6 +56,7 @@ fn name_of(which: Which) -> &'static str
         Which::Lane => "lane",
         Which::Pieces => "pieces",
         Which::Bytes => "bytes",
+        Which::Events => "events",
         Which::Unbuilt => "unbuilt",
     }
 }

@@ -6,6 +6,7 @@ mod counts;
 mod fault;
 mod performed;
 mod text;
+mod verdict;
 mod views;
 mod words;
 

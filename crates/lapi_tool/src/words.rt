@@ -34,6 +34,8 @@ fn read_of(word: &str) -> Option<Command>
 {
     if word == "check" {
         Some(Command::Check)
+    } else if word == "audit" {
+        Some(Command::Audit)
     } else {
         view_of(word).map(Command::Read)
     }

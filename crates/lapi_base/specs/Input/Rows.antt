@@ -1,6 +1,6 @@
 -- The grammar of an input: the row of parts of each line, the order of the lines, the texts that have these rows,
 -- the line of the first fault of all others, and the canonical text. This is the project's own.
-use Rattle.std.specs.Prelude.{◌≡◌, ℕ, ◌+◌, ◌-◌, ◌<◌, ◌≤◌, List, [], ◌∷◌, ◌++◌, length, map, take, codes, Option, IsTrue}
+use Rattle.std.specs.Prelude.{◌≡◌, ℕ, ◌+◌, List, [], ◌∷◌, ◌++◌, map, codes, Option, IsTrue}
 use Rattle.std.specs.List.{AllZip, AllByRecursion, flat_map, join_with_byte}
 use Rattle.lapi_base.specs.declared.address.Addr.{Addr}
 use Rattle.lapi_base.specs.declared.vector.Vector.{Vector}
@@ -14,6 +14,7 @@ use Rattle.lapi_base.specs.declared.schedule.Line.{Line}
 use Rattle.lapi_base.specs.declared.script.Script.{Script}
 use Rattle.lapi_base.specs.declared.input.Input.{Input}
 use Rattle.lapi_base.specs.Input.Lines.{lines_of, is_clean, read_words}
+use Rattle.lapi_base.specs.Input.FirstFaults.{BeginsBy, IsFirstFaultBy}
 use Rattle.lapi_base.specs.Input.Tokens.{Kind, Number, Counter, Hex, OptionalHex, Address, PlainVector, TargetVector, Value, Stands, canonical}
 use Rattle.lapi_base.specs.Packet.Spelling.{spells_packet}
 use Rattle.lapi_base.specs.Record.Valid.{ValidScript, ValidSchedule}
@@ -149,13 +150,10 @@ IsInputText x bytes = IsRead x (lines_of bytes)
 
 -- the lines begin an input's
 abbrev pub Begins : List (List ℕ) → Type 0
-Begins lines = (x : Input) × (more : List (List ℕ)) × IsRead x (lines ++ more)
+Begins lines = BeginsBy IsRead lines
 
--- Line l, counted from 1, is the first up to which the lines begin no input, or one after the last where they begin
--- one but are none.
 abbrev pub IsFirstFault : List (List ℕ) → ℕ → Type 0
-IsFirstFault lines l =
-    (0 < l) × (l ≤ length lines + 1) × Begins (take (l - 1) lines) × (l ≤ length lines → ¬ Begins (take l lines)) × ((x : Input) → ¬ IsRead x lines)
+IsFirstFault lines l = IsFirstFaultBy IsRead lines l
 
 -- ---- the canonical text
 

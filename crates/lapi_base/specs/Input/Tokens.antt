@@ -12,10 +12,13 @@ use Rattle.lapi_base.specs.declared.address.Addr.TheVariants.{Plain, Table}
 use Rattle.lapi_base.specs.declared.piece.Piece.{Piece}
 use Rattle.lapi_base.specs.declared.vector.Vector.{Vector}
 use Rattle.lapi_base.specs.declared.vector.Vector.TheVariants.{Stride}
+use Rattle.lapi_base.specs.declared.message.Leg.{Leg}
+use Rattle.lapi_base.specs.declared.message.Leg.TheVariants.{Go, Back, Note, Echo, Join}
 
--- A counter, hexadecimal text and an optional one may be `-`; the pieces of a plain vector are at plain addresses.
+-- A counter, hexadecimal text and an optional one may be `-`; the pieces of a plain vector are at plain addresses. A dotted
+-- word names statement S of task T, or worker S of it.
 pub data Kind : Type 0 where
-  Number Counter Hex OptionalHex Address PlainVector TargetVector : Kind
+  Number Counter Hex OptionalHex Address PlainVector TargetVector Dotted LegWord : Kind
 
 -- what a word of the kind stands for
 abbrev pub Value : Kind → Type 0
@@ -26,6 +29,8 @@ Value OptionalHex = List ℕ
 Value Address = Addr
 Value PlainVector = Vector
 Value TargetVector = Vector
+Value Dotted = ℕ × ℕ
+Value LegWord = Leg
 
 -- ---- which words stand for a value
 
@@ -60,6 +65,18 @@ IsVectorText At (Stride base block stride count) word =
 abbrev pub IsHex : List ℕ → List ℕ → Type 0
 IsHex bytes word = (decode_of word ≡ Ok bytes) × (bytes ≢ [])
 
+-- T.S
+abbrev pub IsDotted : ℕ × ℕ → List ℕ → Type 0
+IsDotted x word = (t : List ℕ) × (s : List ℕ) × IsNumber x.0 t × IsNumber x.1 s × (word ≡ t ++ (codes "." ++ s))
+
+-- go, back, note, echo or join-D
+abbrev pub IsLegText : Leg → List ℕ → Type 0
+IsLegText Go word = word ≡ codes "go"
+IsLegText Back word = word ≡ codes "back"
+IsLegText Note word = word ≡ codes "note"
+IsLegText Echo word = word ≡ codes "echo"
+IsLegText (Join d) word = (n : List ℕ) × IsNumber d n × (word ≡ codes "join-" ++ n)
+
 -- The word stands for the value.
 abbrev pub Stands : (kind : Kind) → Value kind → List ℕ → Type 0
 Stands Number n word = IsNumber n word
@@ -71,6 +88,8 @@ Stands OptionalHex (b ∷ bytes) word = IsHex (b ∷ bytes) word
 Stands Address at word = IsTargetAddress at word
 Stands PlainVector vector word = IsVectorText IsPlainAddress vector word
 Stands TargetVector vector word = IsVectorText IsTargetAddress vector word
+Stands Dotted x word = IsDotted x word
+Stands LegWord leg word = IsLegText leg word
 
 -- ---- the one word for a value that is written
 
@@ -88,6 +107,13 @@ abbrev pub vector_text : Vector → List ℕ
 vector_text (Vector.List pieces) = codes "L:" ++ join_with_byte 44 (map piece_text pieces)
 vector_text (Stride base block stride count) = join_with_byte 58 (codes "S" ∷ address_text base ∷ decimal block ∷ decimal stride ∷ decimal count ∷ [])
 
+abbrev pub leg_word : Leg → List ℕ
+leg_word Go = codes "go"
+leg_word Back = codes "back"
+leg_word Note = codes "note"
+leg_word Echo = codes "echo"
+leg_word (Join d) = codes "join-" ++ decimal d
+
 abbrev pub canonical : (kind : Kind) → Value kind → List ℕ
 canonical Number n = decimal n
 canonical Counter None = codes "-"
@@ -98,6 +124,8 @@ canonical OptionalHex (b ∷ bytes) = encode_lower (b ∷ bytes)
 canonical Address at = address_text at
 canonical PlainVector vector = vector_text vector
 canonical TargetVector vector = vector_text vector
+canonical Dotted x = decimal x.0 ++ (codes "." ++ decimal x.1)
+canonical LegWord leg = leg_word leg
 
 -- ---- the value that is read from a word
 
@@ -188,6 +216,22 @@ vector_of at_of [] = None
 vector_of at_of (letter ∷ []) = None
 vector_of at_of (letter ∷ colon ∷ text) = if colon == 58 then vector_by at_of letter text else None
 
+unfoldable pub dotted_of : List ℕ → Option (ℕ × ℕ)
+dotted_of word = first_part number_of (λ t parts. option_map (λ s. (t, s)) (only_part number_of parts)) (slice_split (λ b. b == 46) word)
+
+-- what is cut at each hyphen: join, and a number
+abbrev pub join_of : List (List ℕ) → Option Leg
+join_of [] = None
+join_of (first ∷ parts) = if same_text first (codes "join") then option_map (λ d. Join d) (only_part number_of parts) else None
+
+unfoldable pub leg_of : List ℕ → Option Leg
+leg_of word =
+    if same_text word (codes "go") then Some Go
+    else if same_text word (codes "back") then Some Back
+    else if same_text word (codes "note") then Some Note
+    else if same_text word (codes "echo") then Some Echo
+    else join_of (slice_split (λ b. b == 45) word)
+
 unfoldable pub value_of : (kind : Kind) → List ℕ → Option (Value kind)
 value_of Number word = number_of word
 value_of Counter word = counter_of word
@@ -196,3 +240,5 @@ value_of OptionalHex word = optional_hex_of word
 value_of Address word = address_of word
 value_of PlainVector word = vector_of plain_address_of word
 value_of TargetVector word = vector_of address_of word
+value_of Dotted word = dotted_of word
+value_of LegWord word = leg_of word

@@ -27,7 +27,7 @@ pub record Answer : Type 0 where
 
 -- Words that are no command.
 abbrev pub usage_text : List ℕ
-usage_text = codes "usage: lapi run|journal|wire|trace|check|live, lapi show HEX, lapi gen N, lapi sum N\n"
+usage_text = codes "usage: lapi run|journal|wire|trace|check|live|audit, lapi show HEX, lapi gen N, lapi sum N\n"
 
 abbrev pub usage_answer : Answer
 usage_answer = record { status = status.Usage; text = usage_text }
@@ -48,6 +48,7 @@ which_name which.Lines = codes "lines"
 which_name which.Lane = codes "lane"
 which_name which.Pieces = codes "pieces"
 which_name which.Bytes = codes "bytes"
+which_name which.Events = codes "events"
 which_name which.Unbuilt = codes "unbuilt"
 
 abbrev pub fault_answer : Fault → Answer
@@ -74,3 +75,11 @@ view_text Trace rules x = trace_text x.schedule (numbers_below (length x.schedul
 abbrev pub input_answer : (text : Input → List ℕ) → Result Input Fault → Answer
 input_answer text (Ok x) = record { status = status.Ok; text = text x }
 input_answer text (Err fault) = fault_answer fault
+
+-- What is told of events that are a journal of the atomic message machine, and of those that are not: the number of a
+-- rule, and the place of the first event that breaks one.
+abbrev pub atomic_answer : (events : ℕ) → Answer
+atomic_answer count = record { status = status.Ok; text = codes "atomic " ++ decimal count ++ codes "\n" }
+
+abbrev pub broken_answer : (rule place : ℕ) → Answer
+broken_answer rule place = record { status = status.Broken; text = codes "broken A" ++ decimal rule ++ codes " " ++ decimal place ++ codes "\n" }

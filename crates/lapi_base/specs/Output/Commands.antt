@@ -27,7 +27,9 @@ view_of word =
 
 abbrev pub read_of : List ℕ → Option Command
 read_of word =
-    if same_text word (codes "check") then Some commands.Check else option_map (λ view. commands.Read view) (view_of word)
+    if same_text word (codes "check") then Some commands.Check
+    else if same_text word (codes "audit") then Some commands.Audit
+    else option_map (λ view. commands.Read view) (view_of word)
 
 abbrev pub show_of : (word digits : List ℕ) → Option Command
 show_of word digits = if same_text word (codes "show") then option_map (λ bytes. commands.Show bytes) (shown_of digits) else None

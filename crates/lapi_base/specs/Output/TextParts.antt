@@ -4,24 +4,19 @@ use Rattle.std.specs.Fmt.{decimal}
 use Rattle.std.specs.Int.{w16, w32, to_be_bytes}
 use Rattle.hex.specs.Hex.{encode_lower}
 use Rattle.lapi_base.specs.declared.message.Leg.{Leg}
-use Rattle.lapi_base.specs.declared.message.Leg.TheVariants.{Go, Back, Note, Echo, Join}
 use Rattle.lapi_base.specs.declared.message.MsgName.{MsgName}
 use Rattle.lapi_base.specs.declared.refusal.Refusal.{Refusal}
 use Rattle.lapi_base.specs.declared.refusal.Refusal.TheVariants.{BadTask, BadTargetRange, BadOriginRange, BadCounter, TooLong, NoTable, BadHandler, BadUserHeader, VecCount, VecLength, StrideBelowBlock, Misaligned}
 use Rattle.lapi_base.specs.declared.reply.Reason.{Reason}
 use Rattle.lapi_base.specs.declared.reply.Reason.TheVariants as reasons
-use Rattle.lapi_base.specs.Input.Tokens.{Counter, OptionalHex, canonical}
+use Rattle.lapi_base.specs.Input.Tokens.{Counter, OptionalHex, Dotted, LegWord, canonical}
 
 -- T.S: statement S of task T, or worker S of it
 abbrev pub dotted : (task number : ℕ) → List ℕ
-dotted t s = decimal t ++ codes "." ++ decimal s
+dotted t s = canonical Dotted (t, s)
 
 abbrev pub leg_text : Leg → List ℕ
-leg_text Go = codes "go"
-leg_text Back = codes "back"
-leg_text Note = codes "note"
-leg_text Echo = codes "echo"
-leg_text (Join d) = codes "join-" ++ decimal d
+leg_text leg = canonical LegWord leg
 
 -- O.S LEG
 abbrev pub message_text : MsgName → List ℕ
