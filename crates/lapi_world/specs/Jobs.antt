@@ -1,5 +1,5 @@
 -- Lines that begin and end jobs: what a Begin hands out, and what an End is given.
-use Rattle.std.specs.Prelude.{◌≡◌, ℕ, ◌<◌, ◌≤◌, Bool, true, false, List, length, Option, Some, None}
+use Rattle.std.specs.Prelude.{◌≡◌, ℕ, ◌+◌, ◌*◌, ◌<◌, ◌≤◌, Bool, true, false, List, length, slice_index_or, Option, Some, None}
 use Rattle.lapi_base.specs.declared.layout.TheConstants.{LONGEST_ACTIVE}
 use Rattle.lapi_base.specs.declared.reply.Reply.{Reply}
 use Rattle.lapi_base.specs.declared.reply.Reply.TheVariants as replies
@@ -74,3 +74,8 @@ HandsOut w n Busy = Unit {0}
 -- line n is an End, and this is of what its worker runs
 abbrev pub IsEndWith : WorldView → ℕ → Option Finished → Type 0
 IsEndWith w n finished = (t worker : ℕ) × EndsAt w.schedule n t worker × IsOfWorker w.script w.rules t worker (view_record w) finished
+
+-- Of each worker there may be, this is kept: of worker w of task t at place 4 * t + w.
+pub record AreKept (w : WorldView) (jobs : List (Option Finished)) : Type 0 where
+  pub count : length jobs ≡ 32
+  pub each : (t worker : ℕ) → t < 8 → worker < 4 → IsOfWorker w.script w.rules t worker (view_record w) (slice_index_or jobs (t * 4 + worker) None)

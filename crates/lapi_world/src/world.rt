@@ -150,15 +150,14 @@ impl World {
     }
 
     pub fn script(&self) -> &Script
-        ensures same { result.now ≡ self.now.script }
-        ensures valid { ValidScript self.now.script }
+        ensures { result.now ≡ self.now.script }
     {
         &self.script
     }
 
     pub fn schedule(&self) -> &[Line]
         ensures same { result.now ≡ self.now.schedule }
-        ensures valid { ValidSchedule self.now.script spells_packet self.now.schedule }
+        ensures valid { ValidScript self.now.script × ValidSchedule self.now.script spells_packet self.now.schedule }
     {
         self.schedule.as_slice()
     }
