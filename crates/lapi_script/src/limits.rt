@@ -80,8 +80,13 @@ pub(crate) fn is_built_act(act: &Act) -> bool
     ensures { result ≡ is_built_act act.now }
 {
     match act {
-        Act::Step(_) | Act::Poll(_) | Act::Tick(_) | Act::Deliver { .. } => true,
-        _ => false,
+        Act::Step(_)
+        | Act::Poll(_)
+        | Act::Tick(_)
+        | Act::Deliver { .. }
+        | Act::Begin { .. }
+        | Act::End { .. } => true,
+        Act::Cut { .. } | Act::Inject { .. } => false,
     }
 }
 

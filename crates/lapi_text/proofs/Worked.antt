@@ -149,11 +149,15 @@ task_before_lane : with_line 8 (codes "16 step 2") ≡ Err (Syntax, 8)
 unfolding reading
 task_before_lane = refl
 
-worker_before_unbuilt : with_line 8 (codes "0 begin 1 9") ≡ Err (Syntax, 8)
+worker_before_lane : with_line 8 (codes "16 begin 1 9") ≡ Err (Syntax, 8)
 unfolding reading
-worker_before_unbuilt = refl
+worker_before_lane = refl
 
-unbuilt_before_lane : with_line 8 (codes "16 begin 0 0") ≡ Err (Limit which.Unbuilt, 8)
+lane_of_a_begin : with_line 8 (codes "16 begin 0 0") ≡ Err (Limit which.Lane, 8)
+unfolding reading
+lane_of_a_begin = refl
+
+unbuilt_before_lane : with_line 8 (codes "16 cut 0 1 0 33") ≡ Err (Limit which.Unbuilt, 8)
 unfolding reading
 unbuilt_before_lane = refl
 

@@ -1,3 +1,4 @@
+pub mod KeptJobs
 pub mod LinesInOrder
 pub mod Refusals
 pub mod Reported

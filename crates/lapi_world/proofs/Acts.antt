@@ -31,6 +31,7 @@ use Rattle.lapi_task.specs.Supported.{IsSupported}
 use Rattle.lapi_task.specs.StandsFor.{StandsFor}
 use Rattle.lapi_world.specs.declared.network.Network.{Network}
 use Rattle.lapi_world.specs.Grows.{bytes_at, ArePut, IsAdded}
+use Rattle.lapi_world.specs.Jobs.{is_work}
 use Rattle.lapi_world.specs.Stands.{TaskAt, TasksStand, WiresStand, Stands, StandsForOne}
 use Rattle.lapi_world.proofs.Putting.{reverse-followed, put-length, own-bytes, other-bytes}
 
@@ -85,6 +86,10 @@ module _ (script : Script) (rules : Rules) where
   -- an act that is built is none that isn't
   pub unbuilt : (act other : Act) → is_built_act act ≡ true → is_built_act other ≡ false → act ≡ other → ⊥
   unbuilt act other built isn same = false≢true (sym isn ∙ sym (ap is_built_act same) ∙ built)
+
+  -- and one that is no work is none that begins or ends a job
+  pub no-work : (act other : Act) → is_work act ≡ false → is_work other ≡ true → act ≡ other → ⊥
+  no-work act other plain is same = false≢true (sym plain ∙ ap is_work same ∙ is)
 
   moved : (r s : Run) (u : ℕ) → ((task : Task) → StandsFor script rules u task r → StandsFor script rules u task s) → (o : Option Task) → TaskAt script rules r u o → TaskAt script rules s u o
   moved r s u f None h = absurd h

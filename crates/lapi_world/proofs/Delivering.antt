@@ -62,7 +62,7 @@ module _ (script : Script) (rules : Rules) where
       receivers = h.receivers;
     }
 
-    network-with : (network : Network) → Stands script rules network r → Stands script rules network replied
+    pub network-with : (network : Network) → Stands script rules network r → Stands script rules network replied
     network-with network h = record {
       journal = h.journal;
       task_count = h.task_count;

@@ -1,5 +1,5 @@
 -- A world, line by line.
-use Rattle.std.proofs.Common.{◌≡◌, ℕ, ◌<◌, Bool, true, false, List, [], ◌∷◌, ◌++◌, reverse, Option, Some, None, refl, sym, ap, ◌∙◌, subst}
+use Rattle.std.proofs.Common.{◌≡◌, ℕ, ◌<◌, Bool, true, false, List, [], ◌∷◌, ◌++◌, length, reverse, Option, Some, None, refl, sym, ap, ◌∙◌, subst}
 use Rattle.std.specs.Prelude.{slice_get, option_map}
 use Rattle.std.specs.List.{AllByRecursion}
 use Rattle.lapi_base.specs.declared.script.Script.{Script}
@@ -12,16 +12,50 @@ use Rattle.lapi_base.specs.Record.Atomic.{AtomicInTime}
 use Rattle.lapi_base.specs.Input.Built.{is_built_act}
 use Rattle.lapi_base.specs.Laws.Headline.{HoldsOfRuns}
 use Rattle.lapi_base.specs.Record.Wires.{Run, start}
-use Rattle.lapi_base.specs.Record.WorldView.{IsRecord, act_at, acts_of, record_of, record_at, performed}
+use Rattle.lapi_base.specs.Record.WorldView.{WorldView, IsRecord, act_at, acts_of, record_of, record_at, performed, view_record}
 use Rattle.lapi_base.specs.Packet.Spelling.{refusal, spells_packet}
 use Rattle.lapi_base.specs.Record.Valid.{ValidAct, ValidLine}
 use Rattle.lapi_base.specs.Packet.PacketBytes.{packet_size}
 use Rattle.lapi_base.proofs.ListLaws.{all-get}
 use Rattle.lapi_parts.proofs.LinesTaken.{record-first, record-more, acts-valid}
 use Rattle.lapi_task.specs.declared.task.Task.{Task}
+use Rattle.lapi_handlers.specs.declared.begun.Begun.{Begun}
+use Rattle.lapi_handlers.specs.declared.begun.Begun.TheVariants.{Job as IsAJob, Idle, Busy}
+use Rattle.lapi_handlers.specs.declared.finished.Finished.{Finished}
 use Rattle.lapi_task.specs.HasEffect.{IsAt}
+use Rattle.lapi_task.specs.Working.{IsBegun}
 use Rattle.lapi_world.specs.declared.network.Network.{Network}
+use Rattle.lapi_world.specs.Jobs.{BeginsAt, EndsAt, HandsOut, IsEndWith, IsOfWorker, RunsJob}
 use Rattle.lapi_world.specs.Stands.{TaskAt, Stands, IsSupportedLine, IsWorld}
+use Rattle.lapi_world.proofs.JobLines.{job-runs}
+
+-- The worker of an End.
+same-end : (schedule : List Line) (n t w a v : ℕ) → EndsAt schedule n t w → EndsAt schedule n a v → (t ≡ a) × (w ≡ v)
+same-end schedule n t w a v one other =
+    let e : Some (Act.End t w) ≡ Some (Act.End a v) = sym one ∙ other in
+    let task : t ≡ a = cc in
+    let worker : w ≡ v = cc in
+    (task, worker)
+
+pub end-finished : (view : WorldView) (n t w : ℕ) (finished : Option Finished) → IsEndWith view n finished → EndsAt view.schedule n t w → IsOfWorker view.script view.rules t w (view_record view) finished
+end-finished view n t w finished h at =
+    let same = same-end view.schedule n h.0 h.1 t w h.2 at in
+    subst (λ v. IsOfWorker view.script view.rules t v (view_record view) finished) same.1
+    (subst (λ a. IsOfWorker view.script view.rules a h.1 (view_record view) finished) same.0 h.3)
+
+-- A job that begins is handed out.
+hands : (view : WorldView) (n t w : ℕ) (r : Run) (begun : Begun) → BeginsAt view.schedule n t w → view_record view ≡ performed view.script view.rules r (Act.Begin t w) → IsBegun view.script view.rules t r w begun → HandsOut view n begun
+hands view n t w r Busy at after h = tt
+hands view n t w r Idle at after h = tt
+hands view n t w r (IsAJob job) at after h = (
+  at ∙ ap (λ (a : ℕ). Some (Act.Begin a w)) (sym h.1.place.0) ∙ ap (λ (v : ℕ). Some (Act.Begin job.task v)) (sym h.1.place.1),
+  subst (λ (q : Run). RunsJob view.script view.rules q job) (sym after) (job-runs view.script view.rules r t w job h),
+)
+
+pub hands-out : (view : WorldView) (taken : List ℕ) (n t w : ℕ) (begun : Begun) → BeginsAt view.schedule n t w → view.taken ≡ taken ++ n ∷ [] → IsBegun view.script view.rules t (record_at view.script view.rules view.schedule taken) w begun → HandsOut view n begun
+hands-out view taken n t w begun at push h =
+    hands view n t w (record_at view.script view.rules view.schedule taken) begun at
+    (ap (record_at view.script view.rules view.schedule) push ∙ record-more view.script view.rules view.schedule taken n (Act.Begin t w) at) h
 
 module _ (script : Script) (rules : Rules) where
   -- A line of the schedule.
@@ -54,6 +88,22 @@ module _ (script : Script) (rules : Rules) where
 
   pub line-replies : (schedule : List Line) (old new : List ℕ) (n : ℕ) (act : Act) (reply : Reply) → act_at schedule n ≡ Some act → new ≡ old ++ n ∷ [] → (performed script rules (record_at script rules schedule old) act).replies ≡ (record_at script rules schedule old).replies ++ reply ∷ [] → (record_at script rules schedule new).replies ≡ (record_at script rules schedule old).replies ++ reply ∷ []
   line-replies schedule old new n act reply at push h = ap (λ (r : Run). r.replies) (one-more schedule old new n act at push) ∙ h
+
+  -- One line more was taken, and its reply noted.
+  module _ (schedule : List Line) (old new : Network) (taken more : List ℕ) (replies told : List Reply) (spent : Bool) (n : ℕ) (act : Act) (reply : Reply) where
+    pub world-more : IsWorld script rules schedule old taken replies spent → spent ≡ false → act_at schedule n ≡ Some act → more ≡ taken ++ n ∷ [] → told ≡ replies ++ reply ∷ [] → length new.tasks.items ≡ length old.tasks.items
+        → Stands script rules new (performed script rules (record_at script rules schedule taken) act)
+        → (performed script rules (record_at script rules schedule taken) act).replies ≡ (record_at script rules schedule taken).replies ++ reply ∷ []
+        → IsWorld script rules schedule new more told false
+    world-more w free at push tell count h answer = record {
+      script_performed = w.script_performed;
+      rules_valid = w.rules_valid;
+      schedule_valid = w.schedule_valid;
+      schedule_performed = w.schedule_performed;
+      task_count = count ∙ w.task_count;
+      stands = λ _. line-stands schedule taken more n act new at push h;
+      answers = λ _. tell ∙ ap (λ (rs : List Reply). rs ++ reply ∷ []) (w.answers free) ∙ sym (line-replies schedule taken more n act reply at push answer);
+    }
 
   pub first-stands : (schedule : List Line) (network : Network) (taken : List ℕ) → taken ≡ [] → Stands script rules network start → Stands script rules network (record_at script rules schedule taken)
   first-stands schedule network taken e h = subst (Stands script rules network) (sym (ap (record_at script rules schedule) e ∙ record-first script rules schedule)) h

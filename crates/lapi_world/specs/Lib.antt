@@ -1,2 +1,4 @@
 pub mod Stands
 pub mod Grows
+pub mod Jobs
+pub mod Ends

@@ -1,8 +1,8 @@
-ghost use Rattle.std.specs.Prelude.{◌≡◌, ◌+◌, ◌*◌, ◌<◌, ◌≤◌, true, [], ◌++◌, length, map, replicate, slice_get, Some, OnOk, IfOk};
+ghost use Rattle.std.specs.Prelude.{◌≡◌, ◌+◌, ◌*◌, ◌<◌, ◌≤◌, true, false, [], ◌++◌, length, map, replicate, slice_get, Some, OnOk, IfOk};
 ghost use Rattle.std.specs.List.{AllByRecursion};
 ghost use Rattle.lapi_base.specs.declared.rule.Rules.{Rules};
 ghost use Rattle.lapi_base.specs.declared.script.Script.{Script};
-ghost use Rattle.lapi_base.specs.declared.schedule.Act.TheVariants.{Step, Poll, Tick, Deliver};
+ghost use Rattle.lapi_base.specs.declared.schedule.Act.TheVariants.{Step, Poll, Tick, Deliver, Begin, End};
 ghost use Rattle.lapi_base.specs.declared.wire.WireEntry.{WireEntry};
 ghost use Rattle.lapi_base.specs.Input.Built.{is_built_act};
 ghost use Rattle.lapi_base.specs.Record.Final.{is_quiet};
@@ -14,12 +14,15 @@ ghost use Rattle.lapi_base.specs.Packet.PacketBytes as written;
 ghost use Rattle.lapi_handlers.specs.Handlers.{rules_of};
 ghost use Rattle.lapi_task.specs.Apart.{TasksStayApart};
 ghost use Rattle.lapi_task.specs.Supported.{IsSupported};
+ghost use Rattle.lapi_task.specs.Working.{IsBegun};
 ghost use Rattle.lapi_world.specs.Stands.{HaveRules, Stands, StandsForOne, TasksStand};
 ghost use Rattle.lapi_world.specs.Grows.{KeepsRecord, Answers, ArePut, IsAdded};
+ghost use Rattle.lapi_world.specs.Jobs.{begun_reply, is_work};
+ghost use Rattle.lapi_world.specs.Ends.{AnswersEnd, IsOfSome, KeepsEnd};
 
 use crate::wire::Wire;
 use lapi_base::{Act, Bytes, Entries, Event, Events, Memory, Reply, Script, WireEntry};
-use lapi_handlers::Handlers;
+use lapi_handlers::{Begun, Finished, Handlers};
 use lapi_task::{Outcome, Task, tasks_stay_apart};
 use std::alloc::Global;
 
@@ -73,7 +76,7 @@ impl Network {
         }
     }
 
-    /// What a schedule line of these forms does.
+    /// What a schedule line of these forms does, one that neither begins nor ends a job.
     pub fn perform(
         &mut self,
         alloc: Global,
@@ -83,6 +86,7 @@ impl Network {
     ) -> Result<Reply, Memory>
         requires script { IsSupported script.now }
         requires act { ValidAct script.now spells_packet act.now × (is_built_act act.now ≡ true) }
+        requires plain { is_work act.now ≡ false }
         requires stands { StandsForOne script.now (rules_of handlers.now) self.old }
         ensures ok { OnOk result (KeepsRecord script.now (rules_of handlers.now) act.now self.old self.new) }
         ensures reply { IfOk result (Answers script.now (rules_of handlers.now) act.now self.old) }
@@ -168,6 +172,57 @@ impl Network {
         let task = &mut self.tasks[b as usize];
         task.receive(alloc, a, entry, handlers, &mut out)?;
         self.add(script.tasks, b, out)?;
+        Ok(Reply::Did)
+    }
+
+    /// A worker of task `t` begins the oldest job that waits there.
+    pub fn begin(
+        &mut self,
+        alloc: Global,
+        script: &Script,
+        t: u32,
+        worker: u32,
+    ) -> Result<Begun, Memory>
+        requires script { IsSupported script.now }
+        requires place { (t < script.now.tasks) × (worker < script.now.workers) }
+        requires stands { (rules : Rules) × StandsForOne script.now rules self.old }
+        ensures ok { OnOk result ((rules : Rules) → KeepsRecord script.now rules (Begin t worker) self.old self.new) }
+        ensures reply { IfOk result (λ begun. (rules : Rules)
+            → Answers script.now rules (Begin t worker) self.old (begun_reply begun)) }
+        ensures job { IfOk result (λ begun. (rules : Rules) (r : Run) → IsRecord script.now rules r
+            → Stands script.now rules self.old r → IsBegun script.now rules t r worker begun) }
+        ensures count { length self.new.tasks.items ≡ length self.old.tasks.items }
+    {
+        let mut out = Outcome::new(alloc);
+        let task = &mut self.tasks[t as usize];
+        let begun = task.begin(alloc, worker, &mut out)?;
+        self.add(script.tasks, t, out)?;
+        Ok(begun)
+    }
+
+    /// A worker of task `t` ends its job, or is idle where it has none.
+    pub fn end(
+        &mut self,
+        alloc: Global,
+        script: &Script,
+        t: u32,
+        worker: u32,
+        finished: Option<Finished>,
+    ) -> Result<Reply, Memory>
+        requires script { IsSupported script.now }
+        requires place { (t < script.now.tasks) × (worker < script.now.workers) }
+        requires finished { IsOfSome script.now t worker finished self.old }
+        ensures ok { OnOk result (KeepsEnd script.now t worker finished self.old self.new) }
+        ensures reply { IfOk result (AnswersEnd script.now t worker finished self.old) }
+        ensures count { length self.new.tasks.items ≡ length self.old.tasks.items }
+    {
+        let Some(finished) = finished else {
+            return Ok(Reply::Idle);
+        };
+        let mut out = Outcome::new(alloc);
+        let task = &mut self.tasks[t as usize];
+        task.end(alloc, finished, &mut out)?;
+        self.add(script.tasks, t, out)?;
         Ok(Reply::Did)
     }
 

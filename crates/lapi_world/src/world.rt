@@ -1,4 +1,4 @@
-ghost use Rattle.std.specs.Prelude.{◌≡◌, ◌<◌, true, false, ◌∷◌, [], ◌++◌, length, map, reverse, OnOk, OnErr, IfOk, Some};
+ghost use Rattle.std.specs.Prelude.{◌≡◌, ℕ, ◌<◌, true, false, ◌∷◌, [], ◌++◌, length, map, reverse, OnOk, OnErr, IfOk, Some};
 ghost use Rattle.lapi_base.specs.Record.Atomic.{AtomicInTime};
 ghost use Rattle.lapi_base.specs.Record.Final.{is_quiet};
 ghost use Rattle.lapi_base.specs.Record.WorldView.{view_record, act_at};
@@ -8,12 +8,13 @@ ghost use Rattle.lapi_base.specs.Record.Valid.{ValidScript, ValidSchedule};
 ghost use Rattle.lapi_base.specs.Packet.PacketBytes as written;
 ghost use Rattle.lapi_handlers.specs.Handlers.{rules_of};
 ghost use Rattle.lapi_task.specs.HasEffect.{IsAt};
+ghost use Rattle.lapi_world.specs.Jobs.{BeginsAt, EndsAt, HandsOut, IsBeginLine, IsEndWith, IsPlainLine, begun_reply};
 
 use crate::network::Network;
 use lapi_base::{
     Act, Bytes, Event, Line, Memory, Numbers, Replies, Reply, Rules, Schedule, Script,
 };
-use lapi_handlers::Handlers;
+use lapi_handlers::{Begun, Finished, Handlers};
 use lapi_laws::journal_is_atomic;
 use lapi_task::Task;
 use std::alloc::Global;
@@ -73,9 +74,11 @@ impl World {
         })
     }
 
-    /// Performs schedule line `n`, from 0, with handlers of the rules that the world was made with.
+    /// Performs schedule line `n`, from 0, with handlers of the rules that the world was made with. A line that begins or
+    /// ends a job is one for `begin` or `end`.
     pub fn line(&mut self, alloc: Global, handlers: &Handlers, n: u32) -> Result<Reply, Memory>
         requires line { n < length self.old.schedule }
+        requires plain { IsPlainLine self.old.schedule n }
         requires rules { rules_of handlers.now ≡ self.old.rules }
         ensures ok { OnOk result ((self.old.spent ≡ false)
             × (self.new ≡ record self.old { taken = self.old.taken ++ n ∷ [] })) }
@@ -95,6 +98,57 @@ impl World {
         Ok(reply)
     }
 
+    /// Performs schedule line `n`, a Begin. A job that begins is handed out: the caller gives it to its completion handler,
+    /// and what that makes of it to the next End of the same worker.
+    pub fn begin(&mut self, alloc: Global, n: u32) -> Result<Begun, Memory>
+        requires line { IsBeginLine self.old.schedule n }
+        ensures ok { OnOk result ((self.old.spent ≡ false)
+            × (self.new ≡ record self.old { taken = self.old.taken ++ n ∷ [] })) }
+        ensures reply { IfOk result (λ begun. (view_record self.new).replies ≡ (view_record
+            self.old).replies ++ begun_reply begun ∷ []) }
+        ensures job { IfOk result (HandsOut self.new n) }
+        ensures err { OnErr result (self.new ≡ record self.old { spent = true }) }
+    {
+        if self.spent {
+            return Err(Memory);
+        }
+        self.spent = true;
+        let (task, worker) = begin_at(self.schedule.as_slice(), n);
+        let begun = self.network.begin(alloc, &self.script, task, worker)?;
+        self.replies.push(reply_of(&begun))?;
+        self.taken.push(n)?;
+        self.spent = false;
+        Ok(begun)
+    }
+
+    /// Performs schedule line `n`, an End, with what became of the job that its worker runs, if it runs one.
+    pub fn end(
+        &mut self,
+        alloc: Global,
+        n: u32,
+        finished: Option<Finished>,
+    ) -> Result<Reply, Memory>
+        requires line { IsEndWith self.old n finished }
+        ensures ok { OnOk result ((self.old.spent ≡ false)
+            × (self.new ≡ record self.old { taken = self.old.taken ++ n ∷ [] })) }
+        ensures reply { IfOk result (λ reply. (view_record self.new).replies ≡ (view_record
+            self.old).replies ++ reply ∷ []) }
+        ensures err { OnErr result (self.new ≡ record self.old { spent = true }) }
+    {
+        if self.spent {
+            return Err(Memory);
+        }
+        self.spent = true;
+        let (task, worker) = end_at(self.schedule.as_slice(), n);
+        let reply = self
+            .network
+            .end(alloc, &self.script, task, worker, finished)?;
+        self.replies.push(reply)?;
+        self.taken.push(n)?;
+        self.spent = false;
+        Ok(reply)
+    }
+
     pub fn script(&self) -> &Script
         ensures { result.now ≡ self.now.script }
     {
@@ -102,7 +156,8 @@ impl World {
     }
 
     pub fn schedule(&self) -> &[Line]
-        ensures { result.now ≡ self.now.schedule }
+        ensures same { result.now ≡ self.now.schedule }
+        ensures valid { ValidScript self.now.script × ValidSchedule self.now.script spells_packet self.now.schedule }
     {
         self.schedule.as_slice()
     }
@@ -167,4 +222,37 @@ fn act_at(schedule: &[Line], n: u32) -> &Act
     ensures { act_at schedule.now n ≡ Some result.now }
 {
     &schedule[n as usize].act
+}
+
+/// The task and the worker of line `n`, a Begin.
+fn begin_at(schedule: &[Line], n: u32) -> (u32, u32)
+    requires { IsBeginLine schedule.now n }
+    ensures { BeginsAt schedule.now n result.0 result.1 }
+{
+    let Act::Begin { task, worker } = schedule[n as usize].act else {
+        unreachable!()
+    };
+    (task, worker)
+}
+
+/// The task and the worker of line `n`, an End.
+fn end_at(schedule: &[Line], n: u32) -> (u32, u32)
+    requires { (t w : ℕ) × EndsAt schedule.now n t w }
+    ensures { EndsAt schedule.now n result.0 result.1 }
+{
+    let Act::End { task, worker } = schedule[n as usize].act else {
+        unreachable!()
+    };
+    (task, worker)
+}
+
+/// What a Begin replies.
+fn reply_of(begun: &Begun) -> Reply
+    ensures { result ≡ begun_reply begun.now }
+{
+    match begun {
+        Begun::Job(_) => Reply::Did,
+        Begun::Idle => Reply::Idle,
+        Begun::Busy => Reply::Busy,
+    }
 }

@@ -9,7 +9,7 @@ use Rattle.lapi_base.specs.declared.vector.Vector.TheVariants.{Stride}
 use Rattle.lapi_base.specs.declared.statement.Statement.{Statement}
 use Rattle.lapi_base.specs.declared.statement.Statement.TheVariants.{Store, Put, Get, Putv, Getv, Rmw, Wait, Set, Read}
 use Rattle.lapi_base.specs.declared.schedule.Act.{Act}
-use Rattle.lapi_base.specs.declared.schedule.Act.TheVariants.{Step, Poll, Tick, Deliver}
+use Rattle.lapi_base.specs.declared.schedule.Act.TheVariants.{Step, Poll, Tick, Deliver, Begin, End}
 use Rattle.lapi_base.specs.declared.schedule.Line.{Line}
 use Rattle.lapi_base.specs.declared.input.Input.{Input}
 
@@ -41,6 +41,8 @@ is_built_act (Step t) = true
 is_built_act (Poll t) = true
 is_built_act (Tick t) = true
 is_built_act (Deliver a b k) = true
+is_built_act (Begin t w) = true
+is_built_act (End t w) = true
 is_built_act _ = false
 
 abbrev pub IsBuiltList : List Statement → Type 0

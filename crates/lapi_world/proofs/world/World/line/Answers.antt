@@ -1,12 +1,12 @@
 use Rattle.std.proofs.Common.{◌≡◌, ◌++◌, ◌∷◌, [], List, subst, sym, ap, ◌∙◌}
 use Rattle.lapi_base.specs.declared.schedule.Line.{Line}
-use Rattle.lapi_base.specs.declared.reply.Reply.{Reply}
 use Rattle.lapi_base.specs.Record.WorldView.{WorldView, act_at, record_at, view_record}
 use Rattle.lapi_base.specs.declared.rule.Rules.{Rules}
 use Rattle.lapi_handlers.specs.Handlers.{rules_of}
 use Rattle.lapi_world.specs.Grows.{KeepsRecord, Answers}
+use Rattle.lapi_world.specs.Jobs.{IsPlainLine}
 use Rattle.lapi_world.specs.Stands.{StandsForOne}
-use Rattle.lapi_world.proofs.WorldLaws.{act-valid, recorded, line-stands, line-replies}
+use Rattle.lapi_world.proofs.WorldLaws.{act-valid, recorded, line-replies, world-more}
 use Rattle.lapi_world.proofs.world.World.line.Goals as goal
 
 pub perform-requires : goal.perform-requires
@@ -17,6 +17,7 @@ perform-requires g c =
     record {
       script = c.self.invariant.script_performed;
       act = act-valid w.script w.rules w.schedule c.args.n c.act_at-act.result.now c.self.invariant.schedule_valid.lines c.self.invariant.schedule_performed at;
+      plain = subst (λ (s : List Line). IsPlainLine s c.args.n) (sym (ap (λ (v : WorldView). v.schedule) c.self.view_is)) c.requires.plain c.act_at-act.result.now at;
       stands = subst (λ (x : Rules). StandsForOne w.script x w.network) (sym same) (record_at w.script w.rules w.schedule w.taken, recorded w.script w.rules w.schedule w.network w.taken w.replies w.spent c.self.invariant, c.self.invariant.stands c.if-self.false);
     }
 
@@ -29,18 +30,9 @@ invariant_of-self-2 g c =
     let stands = c.self.invariant.stands c.if-self.false in
     let act = c.act_at-act.result.now in
     let at = ap (λ (s : List Line). act_at s c.args.n) (sym c.as_slice.ensures) ∙ c.act_at-act.ensures in
-    record {
-      script_performed = c.self.invariant.script_performed;
-      rules_valid = c.self.invariant.rules_valid;
-      schedule_valid = c.self.invariant.schedule_valid;
-      schedule_performed = c.self.invariant.schedule_performed;
-      task_count = c.perform.ensures.count ∙ c.self.invariant.task_count;
-      stands = λ _. line-stands w.script w.rules w.schedule w.taken c.push-2.new.self c.args.n act c.perform.new.self at c.in_ok-push-2.ensures.ok (subst (λ (x : Rules). KeepsRecord w.script x act w.network c.perform.new.self) same c.in_ok-reply.ensures.ok r is stands);
-      answers = λ _.
-          c.in_ok-push.ensures.ok
-          ∙ ap (λ (rs : List Reply). rs ++ c.in_ok-reply.reply ∷ []) (c.self.invariant.answers c.if-self.false)
-          ∙ sym (line-replies w.script w.rules w.schedule w.taken c.push-2.new.self c.args.n act c.in_ok-reply.reply at c.in_ok-push-2.ensures.ok (subst (λ (x : Rules). Answers w.script x act w.network c.in_ok-reply.reply) same c.in_ok-reply.ensures.reply r is stands));
-    }
+    world-more w.script w.rules w.schedule w.network c.perform.new.self w.taken c.push-2.new.self w.replies c.push.new.self w.spent c.args.n act c.in_ok-reply.reply c.self.invariant c.if-self.false at c.in_ok-push-2.ensures.ok c.in_ok-push.ensures.ok c.perform.ensures.count
+    (subst (λ (x : Rules). KeepsRecord w.script x act w.network c.perform.new.self) same c.in_ok-reply.ensures.ok r is stands)
+    (subst (λ (x : Rules). Answers w.script x act w.network c.in_ok-reply.reply) same c.in_ok-reply.ensures.reply r is stands)
 
 pub returns-clause-reply : goal.returns-clause-reply
 returns-clause-reply g c =
