@@ -35,7 +35,7 @@ module _ (script : Script) (rules : Rules) where
   busy-told r t w None e = absurd (false≢true e)
   busy-told r t w (Some m) e = refl
 
-  first-told : (r : Run) (t w : ℕ) (b : Begun) → IsBegun script rules t r w b → (begin script rules r t w).replies ≡ r.replies ++ begun_reply b ∷ []
+  first-told : (r : Run) (t w : ℕ) (b : Begun) → IsBegun script rules t w r b → (begin script rules r t w).replies ≡ r.replies ++ begun_reply b ∷ []
   unfolding begin
   first-told r t w Busy h = busy-told r t w (runs r.journal t w) h
   first-told r t w Idle h =
@@ -45,7 +45,7 @@ module _ (script : Script) (rules : Rules) where
       ap (λ (o : Option MsgName). (begin_at script rules r t w o).replies) h.0
       ∙ ap (λ (ms : List MsgName). (begin_first script rules r t w ms).replies) h.1.first
 
-  pub begin-replies : (r : Run) (t w : ℕ) (b : Begun) → IsBegun script rules t r w b → (performed script rules r (acts.Begin t w)).replies ≡ r.replies ++ begun_reply b ∷ []
+  pub begin-replies : (r : Run) (t w : ℕ) (b : Begun) → IsBegun script rules t w r b → (performed script rules r (acts.Begin t w)).replies ≡ r.replies ++ begun_reply b ∷ []
   begin-replies r t w b h = ap (λ (q : Run). q.replies) (performed-begin r t w) ∙ first-told r t w b h
 
   -- The job that begins is what its worker runs then.
@@ -56,7 +56,7 @@ module _ (script : Script) (rules : Rules) where
       ∙ ap (λ (waiting : List MsgName). runs (begin_first script rules r t w waiting).journal t w) first
       ∙ cond-true (t == t && w == w) (Some m) (runs r.journal t w) (and_from (t == t) (w == w) (eq-eqb t t refl) (eq-eqb w w refl))
 
-  pub job-runs : (r : Run) (t w : ℕ) (job : Job) → IsBegun script rules t r w (IsAJob job) → RunsJob script rules (performed script rules r (acts.Begin t w)) job
+  pub job-runs : (r : Run) (t w : ℕ) (job : Job) → IsBegun script rules t w r (IsAJob job) → RunsJob script rules (performed script rules r (acts.Begin t w)) job
   job-runs r t w job h =
       let first = h.1 in
       let after = performed-begin r t w in

@@ -44,7 +44,7 @@ end-finished view n t w finished h at =
     (subst (λ a. IsOfWorker view.script view.rules a h.1 (view_record view) finished) same.0 h.3)
 
 -- A job that begins is handed out.
-hands : (view : WorldView) (n t w : ℕ) (r : Run) (begun : Begun) → BeginsAt view.schedule n t w → view_record view ≡ performed view.script view.rules r (Act.Begin t w) → IsBegun view.script view.rules t r w begun → HandsOut view n begun
+hands : (view : WorldView) (n t w : ℕ) (r : Run) (begun : Begun) → BeginsAt view.schedule n t w → view_record view ≡ performed view.script view.rules r (Act.Begin t w) → IsBegun view.script view.rules t w r begun → HandsOut view n begun
 hands view n t w r Busy at after h = tt
 hands view n t w r Idle at after h = tt
 hands view n t w r (IsAJob job) at after h = (
@@ -52,7 +52,7 @@ hands view n t w r (IsAJob job) at after h = (
   subst (λ (q : Run). RunsJob view.script view.rules q job) (sym after) (job-runs view.script view.rules r t w job h),
 )
 
-pub hands-out : (view : WorldView) (taken : List ℕ) (n t w : ℕ) (begun : Begun) → BeginsAt view.schedule n t w → view.taken ≡ taken ++ n ∷ [] → IsBegun view.script view.rules t (record_at view.script view.rules view.schedule taken) w begun → HandsOut view n begun
+pub hands-out : (view : WorldView) (taken : List ℕ) (n t w : ℕ) (begun : Begun) → BeginsAt view.schedule n t w → view.taken ≡ taken ++ n ∷ [] → IsBegun view.script view.rules t w (record_at view.script view.rules view.schedule taken) begun → HandsOut view n begun
 hands-out view taken n t w begun at push h =
     hands view n t w (record_at view.script view.rules view.schedule taken) begun at
     (ap (record_at view.script view.rules view.schedule) push ∙ record-more view.script view.rules view.schedule taken n (Act.Begin t w) at) h

@@ -190,7 +190,7 @@ impl Network {
         ensures reply { IfOk result (λ begun. (rules : Rules)
             → Answers script.now rules (Begin t worker) self.old (begun_reply begun)) }
         ensures job { IfOk result (λ begun. (rules : Rules) (r : Run) → IsRecord script.now rules r
-            → Stands script.now rules self.old r → IsBegun script.now rules t r worker begun) }
+            → Stands script.now rules self.old r → IsBegun script.now rules t worker r begun) }
         ensures count { length self.new.tasks.items ≡ length self.old.tasks.items }
     {
         let mut out = Outcome::new(alloc);
