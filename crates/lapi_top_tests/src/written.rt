@@ -18,6 +18,8 @@ schedule
 0 poll 1
 3 tick 1
 0 deliver 1 0 4294967295
+2 begin 1 0
+0 end 0 0
 done
 ";
 
@@ -42,16 +44,20 @@ schedule
 0   poll 1 
 3 tick 1
 0 deliver 1 0 4294967295
+2 begin 1 0
+0 end 0 0
 done
 #done
    # lapi 1";
 
 /// The lines of the schedule.
-const LINES: [&str; 4] = [
+const LINES: [&str; 6] = [
     "15 step 1",
     "0 poll 1",
     "3 tick 1",
     "0 deliver 1 0 4294967295",
+    "2 begin 1 0",
+    "0 end 0 0",
 ];
 
 #[test]
