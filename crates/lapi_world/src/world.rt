@@ -74,8 +74,8 @@ impl World {
         })
     }
 
-    /// Performs schedule line `n`, from 0, with handlers of the rules that the world was made with. A line that begins or
-    /// ends a job is one for `begin` or `end`.
+    /// Performs schedule line `n`, from 0, with handlers of the rules that the world was made with. A line that
+    /// begins or ends a job is one for `begin` or `end`.
     pub fn line(&mut self, alloc: Global, handlers: &Handlers, n: u32) -> Result<Reply, Memory>
         requires line { n < length self.old.schedule }
         requires plain { IsPlainLine self.old.schedule n }
@@ -98,8 +98,8 @@ impl World {
         Ok(reply)
     }
 
-    /// Performs schedule line `n`, a Begin. A job that begins is handed out: the caller gives it to its completion handler,
-    /// and what that makes of it to the next End of the same worker.
+    /// Performs schedule line `n`, a Begin. A job that begins is handed out: the caller gives it to its completion
+    /// handler, and what that makes of it to the next End of the same worker.
     pub fn begin(&mut self, alloc: Global, n: u32) -> Result<Begun, Memory>
         requires line { IsBeginLine self.old.schedule n }
         ensures ok { OnOk result ((self.old.spent ≡ false)
