@@ -13,8 +13,8 @@ use lapi_handlers::{Handlers, nowhere};
 use lapi_link::{Arrival, Receiver};
 use lapi_reassembly::Message;
 
-/// Calls the header handler at the first fragment of an active message, and keeps its answer while others are missing. The
-/// message, if it is whole now, has the answer.
+/// Calls the header handler at the first fragment of an active message, and keeps its answer while others are missing.
+/// The message, if it is whole now, has the answer.
 pub fn answer(
     receiver: &mut Receiver,
     packet: &DataPacket,
@@ -26,7 +26,8 @@ pub fn answer(
     requires partial { arrival ≡ First → is_partial receiver.old packet.now.name ≡ true }
     ensures message { IfOk result (λ m. m ≡ landed (answer_to (rules_of handlers.now) packet.now.name packet.now.head
         packet.now.length) arrival) }
-    ensures events { OnOk result (events.new ≡ events.old ++ called (is_first arrival) packet.now.name packet.now.head) }
+    ensures events { OnOk result (events.new
+        ≡ events.old ++ called (is_first arrival) packet.now.name packet.now.head) }
     ensures kept { OnOk result (KeepsAnswer packet.now.name (kept_now arrival (answer_to (rules_of handlers.now)
         packet.now.name packet.now.head packet.now.length)) receiver.old receiver.new) }
 {

@@ -11,8 +11,8 @@ use lapi_base::{Head, HeaderOut, Memory, Span, Spans};
 use lapi_memory::{TaskMemory, rmw};
 use lapi_vector::Pieces;
 
-/// Writes what the message brings, or the word that it makes. What an active message brings goes where the answer to its
-/// header says.
+/// Writes what the message brings, or the word that it makes. What an active message brings goes where the answer to
+/// its header says.
 #[tactic(auto, unfolding(lapi_base::specs::Record::Values::scattered))]
 pub fn write(
     memory: &mut TaskMemory,
@@ -22,7 +22,8 @@ pub fn write(
 ) -> Result<(), Memory>
     requires direct { IsDirect head.now }
     requires pieces { AreWithin (head_pieces head.now (length bytes.now)) (length memory.old) }
-    requires total { is_active head.now ≡ false → total_of (head_pieces head.now (length bytes.now)) ≡ length bytes.now }
+    requires total { is_active head.now ≡ false
+        → total_of (head_pieces head.now (length bytes.now)) ≡ length bytes.now }
     requires asked { AreWithin (asked_pieces head.now) (length memory.old) }
     ensures { OnOk result (memory.new ≡ head_memory head.now out bytes.now memory.old) }
 {

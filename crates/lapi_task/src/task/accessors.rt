@@ -88,8 +88,8 @@ impl Task {
         self.receivers[a as usize].window()
     }
 
-    /// The messages from task `a` of which some fragments have come and some are missing, with the answers to the headers
-    /// of active messages.
+    /// The messages from task `a` of which some fragments have come and some are missing, with the answers to
+    /// the headers of active messages.
     pub fn partials(&self, a: u32) -> &Partials
         requires { ForSomeRecord self.now (λ script rules t r. a < script.tasks) }
         ensures { ForEachRecord self.now (λ script rules t r. a < script.tasks → (m : MsgName)
