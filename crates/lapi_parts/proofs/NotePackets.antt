@@ -1,5 +1,5 @@
 -- The packets of a notice that may follow the landing of a packet's message, whether it does or not.
-use Rattle.std.proofs.Common.{◌≡◌, ℕ, ◌*◌, ◌^◌, ◌<◌, ◌≤◌, Bool, true, false, not, ◌&&◌, [], length, Option, Some, None, is_some, refl, sym, ap, ◌∙◌, subst, arith}
+use Rattle.std.proofs.Common.{◌≡◌, ℕ, ◌^◌, ◌<◌, ◌≤◌, Bool, true, false, ◌&&◌, [], length, Some, None, is_some, refl, sym, ap, ◌∙◌, subst, arith}
 use Rattle.std.specs.Prelude.{nat_lt}
 use Rattle.std.proofs.lemmas.Bool.{false≢true, and_parts, ltb-true}
 use Rattle.lapi_base.specs.declared.script.Script.{Script}
@@ -14,7 +14,6 @@ use Rattle.lapi_base.specs.declared.packet.Packet.TheVariants.{Data}
 use Rattle.lapi_base.specs.declared.packet.DataPacket.{DataPacket}
 use Rattle.lapi_base.specs.Packet.Spelling.{Spells}
 use Rattle.lapi_base.specs.Packet.PacketBytes as written
-use Rattle.lapi_base.specs.Packet.Layout.{First, unit}
 use Rattle.lapi_base.specs.Record.Fragments.{fragments_in}
 use Rattle.lapi_base.specs.Record.HeadSays.{note_head}
 use Rattle.lapi_base.specs.Record.Names.{message, Copied}
@@ -26,7 +25,7 @@ use Rattle.lapi_base.specs.Record.WorldView.{IsRecord}
 use Rattle.lapi_laws.proofs.Backward.{there}
 use Rattle.lapi_laws.proofs.Still.{copied-ends}
 use Rattle.lapi_parts.proofs.Accepted.{copied-accepted}
-use Rattle.lapi_parts.proofs.Deliveries.{Facts, facts}
+use Rattle.lapi_parts.proofs.Deliveries.{facts}
 use Rattle.lapi_parts.proofs.FirstLayout.{first-unit}
 use Rattle.lapi_parts.proofs.MessageHeads.{no-answers}
 use Rattle.lapi_parts.proofs.SpelledPackets.{packet-spelled}
