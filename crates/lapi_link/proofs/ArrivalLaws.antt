@@ -63,7 +63,7 @@ module _ (script : Script) where
     other-fragments : (j : ℕ) → fragment_at script (Data p ∷ ps) m j ≡ fragment_at script ps m j
     other-fragments j = later-at script ps m j p (false_from_ne_true _ (λ e. both_ways _ other (and_parts (name_eq m p.name) (p.fragment == j) e).0))
 
-    other-partial : partial_of script (Data p ∷ ps) m ≡ partial_of script ps m
+    pub other-partial : partial_of script (Data p ∷ ps) m ≡ partial_of script ps m
     unfolding partial_of some_packet
     other-partial =
         ap (λ b. partial_by script (Data p ∷ ps) m (cond b (Some p) (some_packet ps m))) other
@@ -78,14 +78,14 @@ module _ (script : Script) where
             ∙ told m ∙ sym (other-partial ps p m e)
       ] refl
 
-  own-partial : (ps : List Packet) (p : DataPacket) → partial_of script (Data p ∷ ps) p.name ≡ partial_by script (Data p ∷ ps) p.name (Some p)
+  pub own-partial : (ps : List Packet) (p : DataPacket) → partial_of script (Data p ∷ ps) p.name ≡ partial_by script (Data p ∷ ps) p.name (Some p)
   unfolding partial_of some_packet
   own-partial ps p = ap (λ b. partial_by script (Data p ∷ ps) p.name (cond b (Some p) (some_packet ps p.name))) (name_eq-refl p.name)
 
   -- A packet that may come.
   module _ (ps : List Packet) (p : DataPacket) (fits : MayArrive script ps p) where
     -- nothing of its message has come, or a packet with its head and length
-    before : ((some_packet ps p.name ≡ None) × (partial_of script ps p.name ≡ None)) ⊎ (partial_of script ps p.name ≡ partial_by script ps p.name (Some p))
+    pub before : ((some_packet ps p.name ≡ None) × (partial_of script ps p.name ≡ None)) ⊎ (partial_of script ps p.name ≡ partial_by script ps p.name (Some p))
     unfolding partial_of
     before =
         elim (some_packet ps p.name) as (λ o. some_packet ps p.name ≡ o → ((o ≡ None) × (partial_by script ps p.name o ≡ None)) ⊎ (partial_by script ps p.name o ≡ partial_by script ps p.name (Some p))) [
@@ -113,7 +113,7 @@ module _ (script : Script) where
             | false ↦ λ e. later-at script ps p.name j p e
           ] refl
 
-      known-partial : partial_of script ps p.name ≡ partial_of script (Data p ∷ ps) p.name
+      pub known-partial : partial_of script ps p.name ≡ partial_of script (Data p ∷ ps) p.name
       known-partial =
           let at = fits.known known in
           ⊎_elim

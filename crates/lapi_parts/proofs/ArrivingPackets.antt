@@ -52,7 +52,7 @@ length_of (Ack from to base bits) = 0
 
 module _ (script : Script) (rules : Rules) where
   -- What the head of a message tells of its statement: whether it is an active message,
-  active-is : (answers : Bool) (m : MsgName) (leg : Leg) (s : Statement) → has_leg script answers m.origin leg s ≡ true → (is_am s && leg_eq leg Go) ≡ is_active (head_by script m leg s)
+  pub active-is : (answers : Bool) (m : MsgName) (leg : Leg) (s : Statement) → has_leg script answers m.origin leg s ≡ true → (is_am s && leg_eq leg Go) ≡ is_active (head_by script m leg s)
   active-is ans m Go (Put target to from len tgt org cmpl) h = refl
   active-is ans m Go (Get target from to len tgt org) h = refl
   active-is ans m Go (Putv target to from tgt org cmpl) h = refl

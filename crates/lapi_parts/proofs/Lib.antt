@@ -15,6 +15,7 @@ pub mod LocalQuestions
 pub mod HandedPackets
 pub mod WholeMessages
 pub mod LineFrames
+pub mod NotePackets
 pub mod OtherTasks
 pub mod Replay
 pub mod SameParts

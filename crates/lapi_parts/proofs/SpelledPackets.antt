@@ -279,32 +279,24 @@ module _ (script : Script) (rules : Rules) (valid : ValidScript script) (few : V
   unfolding message_length
   head-kept m g f v r = head-spelled script rules valid few m m.leg (statement script m.origin m.statement) g f v r
 
-  -- and its packets have spellings
-  pub message-spelled : (J : List Event) (m : MsgName) (n j : ℕ) → Atomic script rules J → happened (Copied m) J ≡ true → n < 2 ^ 32 → j < fragment_count script m → Spells (data_packet script m n j (carried script rules J m)) (written.packet (data_packet script m n j (carried script rules J m)))
+  -- and its packets have spellings, whatever bytes it has
+  pub packet-spelled : (m : MsgName) (n j : ℕ) (bytes : List ℕ) →
+      m.origin < script.tasks → m.statement < length (statements script m.origin) → sender script m < script.tasks → receiver script m < script.tasks →
+      has_leg script (answers script rules m.origin m.statement) m.origin m.leg (statement script m.origin m.statement) ≡ true →
+      Accepted script rules (target script m.origin m.statement) (statement script m.origin m.statement) →
+      message_length script m ≤ 16384 → fragment_count script m ≤ 64 → length bytes ≡ message_length script m → AllBytes bytes →
+      n < 2 ^ 32 → j < fragment_count script m → Spells (data_packet script m n j bytes) (written.packet (data_packet script m n j bytes))
   unfolding data_packet
-  message-spelled J m n j h c ln lj =
+  packet-spelled m n j bytes own at from to leg fine short count long all ln lj =
       let a = m.origin in
       let i = m.statement in
       let s = statement script a i in
       let d = target script a i in
       let size = message_length script m in
       let head = head_by script m m.leg s in
-      let bytes = carried script rules J m in
-      let is = and_parts _ _ (there script rules (Copied m) J h c) in
-      let place = and_parts (nat_lt a script.tasks) (nat_lt i (length (statements script a))) is.0 in
-      let leg = is.1 in
-      let fine = copied-accepted script rules J m h c in
       let tasks : script.tasks ≤ 8 = valid.tasks.1 in
-      let ends = copied-ends script rules J m h c in
-      let from : sender script m < script.tasks = ends.0 in
-      let to : receiver script m < script.tasks = ends.1 in
-      let own : a < script.tasks = ltb-true a script.tasks place.0 in
-      let at : i < length (statements script a) = ltb-true i (length (statements script a)) place.1 in
       let most = statements-few script rules valid a in
-      let short : size ≤ 16384 = subst (λ l. size ≤ l) (first-longest script valid) (copied-short script rules J m h c) in
       let unit = unit_of script in
-      let count = copied-few script rules J m h c in
-      let long : length bytes ≡ size = carried-length script rules J m h c in
       let part : length (take unit (drop (unit * j) bytes)) ≡ min 256 (size - 256 * j) = length-take unit (drop (unit * j) bytes) ∙ ap (λ k. min unit k) (length-drop (unit * j) bytes ∙ ap (λ k. k - unit * j) long) ∙ ap (λ u. min u (size - u * j)) (first-unit script valid) in
       data-spelled (record { from = sender script m; to = receiver script m; seq = n; name = m; head = head; length = size; fragment = j; payload = take unit (drop (unit * j) bytes) })
       (omega arith) (omega arith) ln
@@ -314,7 +306,22 @@ module _ (script : Script) (rules : Rules) (valid : ValidScript script) (few : V
       (subst (λ (k : ℕ). j < k) (counts-same script valid m) lj) (omega arith)
       (head-kept m leg fine (statement-valid script valid a i) (round-small script a i (omega arith)))
       part
-      (all-take IsByte unit (drop (unit * j) bytes) (all-drop IsByte (unit * j) bytes ((values-small script rules valid J).bytes m)))
+      (all-take IsByte unit (drop (unit * j) bytes) (all-drop IsByte (unit * j) bytes all))
+
+  pub message-spelled : (J : List Event) (m : MsgName) (n j : ℕ) → Atomic script rules J → happened (Copied m) J ≡ true → n < 2 ^ 32 → j < fragment_count script m → Spells (data_packet script m n j (carried script rules J m)) (written.packet (data_packet script m n j (carried script rules J m)))
+  message-spelled J m n j h c ln lj =
+      let is = and_parts _ _ (there script rules (Copied m) J h c) in
+      let place = and_parts (nat_lt m.origin script.tasks) (nat_lt m.statement (length (statements script m.origin))) is.0 in
+      let ends = copied-ends script rules J m h c in
+      packet-spelled m n j (carried script rules J m)
+      (ltb-true m.origin script.tasks place.0) (ltb-true m.statement (length (statements script m.origin)) place.1)
+      ends.0 ends.1 is.1
+      (copied-accepted script rules J m h c)
+      (subst (λ l. message_length script m ≤ l) (first-longest script valid) (copied-short script rules J m h c))
+      (copied-few script rules J m h c)
+      (carried-length script rules J m h c)
+      ((values-small script rules valid J).bytes m)
+      ln lj
 
   -- a packet of a wire
   wire-spelled : (r : Run) (a b : ℕ) (p : Packet) → SoundRun script rules r → IsOfNumber script rules r.journal a b p → IsTold script rules a b p → Spells p (written.packet p)

@@ -41,6 +41,7 @@ pub(crate) fn is_built_statement(statement: &Statement) -> bool
 {
     match statement {
         Statement::Store { .. }
+        | Statement::Am { .. }
         | Statement::Wait { .. }
         | Statement::Set { .. }
         | Statement::Read { .. } => true,
@@ -49,9 +50,7 @@ pub(crate) fn is_built_statement(statement: &Statement) -> bool
         Statement::Putv { to, from, .. } => is_plain_vector(to) && is_plain_vector(from),
         Statement::Getv { from, to, .. } => is_plain_vector(from) && is_plain_vector(to),
         Statement::Rmw { at, .. } => is_plain(*at),
-        Statement::Am { .. } | Statement::Fence | Statement::Gfence | Statement::Addr { .. } => {
-            false
-        }
+        Statement::Fence | Statement::Gfence | Statement::Addr { .. } => false,
     }
 }
 

@@ -19,8 +19,7 @@ use Rattle.lapi_base.specs.Packet.PacketBytes as written
 use Rattle.lapi_link.specs.Receiver.{ReceivingEnd, ReceivesFor}
 use Rattle.lapi_parts.proofs.ArrivingPackets.{next-acks-told}
 use Rattle.lapi_task.specs.declared.task.Task.{Task}
-use Rattle.lapi_task.specs.Acknowledging.{HasTaken, answer}
-use Rattle.lapi_task.specs.StandsFor.{ReceiverAt}
+use Rattle.lapi_task.specs.Acknowledging.{ReceivesAt, HasTaken, answer}
 use Rattle.lapi_task.proofs.AnswerSpelled.{ack-spelled}
 use Rattle.lapi_base.specs.Record.Valid.{ValidScript}
 use Rattle.lapi_base.proofs.ListLaws.{at-place}
@@ -28,11 +27,11 @@ use Rattle.lapi_base.proofs.TestLaws.{eqb-refl}
 use Rattle.lapi_parts.proofs.FirstLayout.{first-window, told-at-once}
 
 module _ (script : Script) where
-  receives-at : (ps : List Packet) (ends : List ReceivingEnd) (n : ℕ) (end : ReceivingEnd) → ReceiverAt script ps (slice_get ends n) → end ≡ get_or ends n end → ReceivesFor script end ps
+  receives-at : (ps : List Packet) (ends : List ReceivingEnd) (n : ℕ) (end : ReceivingEnd) → ReceivesAt script ps (slice_get ends n) → end ≡ get_or ends n end → ReceivesFor script end ps
   receives-at ps ends n end there read =
-      elim (slice_get ends n) as (λ o. slice_get ends n ≡ o → ReceiverAt script ps o → ReceivesFor script end ps) [
+      elim (slice_get ends n) as (λ o. slice_get ends n ≡ o → ReceivesAt script ps o → ReceivesFor script end ps) [
         | None ↦ λ _ h. absurd h
-        | Some x ↦ λ e h. subst (λ y. ReceivesFor script y ps) (sym (at-place ends n x end e read)) h.0
+        | Some x ↦ λ e h. subst (λ y. ReceivesFor script y ps) (sym (at-place ends n x end e read)) h
       ] refl there
 
   -- what is told of these packets, from task number

@@ -102,7 +102,7 @@ module _ (script : Script) (rules : Rules) (t : ℕ) where
       sender_count = h.sender_count;
       receiver_count = h.receiver_count;
       senders = λ b lt. sender-same b (slice_get task.senders.items b) (h.senders b lt);
-      receivers = λ a lt. subst (λ (ps : List Packet). ReceiverAt script ps (slice_get task.receivers.items a)) (same.handed a) (h.receivers a lt);
+      receivers = λ a lt. subst (λ (ps : List Packet). ReceiverAt script rules ps (slice_get task.receivers.items a)) (same.handed a) (h.receivers a lt);
     }
 
 pub stays-apart : TasksStayApart

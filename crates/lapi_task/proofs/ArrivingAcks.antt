@@ -47,9 +47,9 @@ module _ (script : Script) (ps : List Packet) (x y base bits : ℕ) where
     partials = λ m. h.partials m ∙ same-partial m (some_packet ps m);
   }
 
-  receiver-ack : (o : Option ReceivingEnd) → ReceiverAt script ps o → ReceiverAt script (Ack x y base bits ∷ ps) o
-  receiver-ack None h = absurd h
-  receiver-ack (Some s) h = (receives-ack s h.0, h.1)
+  receiver-ack : (rules : Rules) (o : Option ReceivingEnd) → ReceiverAt script rules ps o → ReceiverAt script rules (Ack x y base bits ∷ ps) o
+  receiver-ack rules None h = absurd h
+  receiver-ack rules (Some s) h = (receives-ack s h.0, h.1)
 
   -- but of what it covers.
   acks-more : (n : ℕ) → has_ack (Ack x y base bits ∷ ps) n ≡ (is_covered base bits n || has_ack ps n)
@@ -107,11 +107,11 @@ module _ (script : Script) (rules : Rules) (r : Run) (from t k x y base bits : �
   sender-other b apart None h = absurd h
   sender-other b apart (Some s) h = sends-other b apart s h
 
-  receiver-after : (a : ℕ) (o : Option ReceivingEnd) → ReceiverAt script (r.handed a t) o → ReceiverAt script (noted.handed a t) o
+  receiver-after : (a : ℕ) (o : Option ReceivingEnd) → ReceiverAt script rules (r.handed a t) o → ReceiverAt script rules (noted.handed a t) o
   receiver-after a o h =
-      elim (a == from) as (λ c. (a == from) ≡ c → ReceiverAt script (noted.handed a t) o) [
-        | true ↦ λ e. subst (λ n. ReceiverAt script (r.handed n t) o → ReceiverAt script (noted.handed n t) o) (sym (eqb-true a from e)) (λ own. subst (λ ps. ReceiverAt script ps o) (sym handed-own) (receiver-ack script (r.handed from t) x y base bits o own)) h
-        | false ↦ λ e. subst (λ ps. ReceiverAt script ps o) (sym (handed-other a e)) h
+      elim (a == from) as (λ c. (a == from) ≡ c → ReceiverAt script rules (noted.handed a t) o) [
+        | true ↦ λ e. subst (λ n. ReceiverAt script rules (r.handed n t) o → ReceiverAt script rules (noted.handed n t) o) (sym (eqb-true a from e)) (λ own. subst (λ ps. ReceiverAt script rules ps o) (sym handed-own) (receiver-ack script (r.handed from t) x y base bits rules o own)) h
+        | false ↦ λ e. subst (λ ps. ReceiverAt script rules ps o) (sym (handed-other a e)) h
       ] refl
 
   -- the task with another end of the link

@@ -255,7 +255,7 @@ module _ (script : Script) (rules : Rules) (t : ℕ) (task : Task) (r : Run) (i 
             g.change s (ap (λ (xs : List SendingEnd). slice_get xs to) ends ∙ at)
             ∙ (λ k. with_message (unit-then k) copy.message (source (p.others k).state.memory copy) s))
             h.stands.senders;
-        receivers = λ a l. subst (λ (xs : List _). ReceiverAt script (r.handed a t) (slice_get xs a)) (sym receivers) (h.stands.receivers a l);
+        receivers = λ a l. subst (λ (xs : List _). ReceiverAt script rules (r.handed a t) (slice_get xs a)) (sym receivers) (h.stands.receivers a l);
       }
 
 -- ---- the first number, taken off its list

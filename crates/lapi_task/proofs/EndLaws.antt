@@ -40,15 +40,17 @@ use Rattle.lapi_task.specs.declared.outcome.Outcome.{Outcome}
 use Rattle.lapi_task.specs.declared.state.State.{State}
 use Rattle.lapi_task.specs.declared.task.Task.{Task}
 use Rattle.lapi_task.specs.Counting.{announced}
-use Rattle.lapi_task.specs.Effects.{all_written, job_note, with_job_note}
+use Rattle.lapi_task.specs.Effects.{all_written}
+use Rattle.lapi_task.specs.Landed.{MayLeave, with_follower}
 use Rattle.lapi_task.specs.HasEffect.{IsAt, HasEffect}
 use Rattle.lapi_task.specs.HasJobs.{pending}
-use Rattle.lapi_task.specs.Outgoing.{AreSpelled}
 use Rattle.lapi_task.specs.StandsFor.{task_unit, SenderAt, HoldsFor, StandsFor}
 use Rattle.lapi_task.specs.Working.{IsFinished}
 use Rattle.lapi_task.proofs.CopyLaws.{unit-is}
 use Rattle.lapi_task.proofs.EffectLaws.{memory-ended, counter-ended}
-use Rattle.lapi_task.proofs.JobNotes.{notice-spelled, notice-ends, noted-length, count-noted}
+use Rattle.lapi_task.proofs.EndNotes.{end_note, notice-follows, count-noted}
+use Rattle.lapi_task.proofs.Followers.{may-leave}
+use Rattle.lapi_task.proofs.ReceiveLinks.{ends-sent, followed-length, settled-same, stays-none}
 use Rattle.lapi_task.proofs.JobsStay.{jobs-stay}
 use Rattle.lapi_task.proofs.QueueLaws.{jobs-ended}
 use Rattle.lapi_task.proofs.ReceiveCounts.{announced-length}
@@ -135,11 +137,11 @@ module _ (script : Script) (rules : Rules) (t : ℕ) (before : Task) (r : Run) (
     (let e = unit-is script rules t before at.stands.calls in let u = first-unit script at.stands.calls.supported.valid in omega (arith, e, u)),
   )
 
-  pub note-spelled : (c : ℕ) → cmpl_counter s ≡ Some c → AreSpelled (task_unit before) (job_note before.state.number m c) []
-  note-spelled c e =
-      subst (λ (u : ℕ). AreSpelled u (job_note before.state.number m c) []) (sym (unit-is script rules t before at.stands.calls))
-      (subst (λ (n : ℕ). AreSpelled (unit_of script) (job_note n m c) []) (sym at.stands.holds.number)
-      (notice-spelled script rules t m begun.0 c e at.stands.calls.supported at.stands.calls.rules_valid (ended ∷ J) (atomic-noted c e)))
+  pub note-leaves : (c : ℕ) → cmpl_counter s ≡ Some c → MayLeave (task_unit before) (end_note before.state.number m c)
+  note-leaves c e =
+      subst (λ (u : ℕ). MayLeave u (end_note before.state.number m c)) (sym (unit-is script rules t before at.stands.calls))
+      (subst (λ (n : ℕ). MayLeave (unit_of script) (end_note n m c)) (sym at.stands.holds.number)
+      (may-leave script rules at.stands.calls.supported at.stands.calls.rules_valid (ended ∷ J) t m.origin (end_note t m c) (notice-follows script rules t m begun.0 c e (ended ∷ J)) (atomic-noted c e)))
 
   -- What the task holds then.
   abbrev mid : (jobs : Works) (memory counters : List ℕ) → State
@@ -200,16 +202,16 @@ module _ (script : Script) (rules : Rules) (t : ℕ) (before : Task) (r : Run) (
             rest = refl;
           }
 
-      stands-noted : (after : Task) → after ≡ record task { senders = after.senders } → after.senders.items ≡ with_job_note (unit_of script) t m (Some c) before.senders.items → StandsFor script rules t after (with_event script rules t K note)
+      stands-noted : (after : Task) → after ≡ record task { senders = after.senders } → after.senders.items ≡ with_follower (unit_of script) (Some (end_note t m c)) before.senders.items → StandsFor script rules t after (with_event script rules t K note)
       stands-noted after same ends =
           stands-from (note ∷ ended ∷ J) after same
           (work-holds script rules t note (ended ∷ J) (mid jobs memory counters) (mid jobs memory counters) refl stands-mid.holds noted-made)
-          (ap length ends ∙ noted-length (unit_of script) (job_note t m c) (slice_get before.senders.items m.origin) before.senders.items ∙ at.stands.sender_count)
+          (ap length ends ∙ followed-length script rules (unit_of script) (Some (end_note t m c)) before.senders.items ∙ at.stands.sender_count)
           (λ b l.
           subst (λ (xs : List SendingEnd). SenderAt script rules (with_event script rules t K note) t b (slice_get xs b)) (sym ends)
-          (notice-ends script rules t m begun.0 c e K before.senders.items link-there.0 (atomic-noted c e) stands-mid.senders b l))
+          (ends-sent script rules K K m.origin t before.senders.items (λ y. settled-same script rules K t y) origin-known stands-mid.senders (ended ∷ J) (λ y _. stays-none script rules (ended ∷ J) t y) (end_note t m c) (notice-follows script rules t m begun.0 c e (ended ∷ J)) (atomic-noted c e) b l))
 
-    stands-then : (o : Option ℕ) → cmpl_counter s ≡ o → (after : Task) → after ≡ record task { senders = after.senders } → after.senders.items ≡ with_job_note (unit_of script) t m o before.senders.items → StandsFor script rules t after (record r { journal = followed (ended ∷ J) (noted m o) })
+    stands-then : (o : Option ℕ) → cmpl_counter s ≡ o → (after : Task) → after ≡ record task { senders = after.senders } → after.senders.items ≡ with_follower (unit_of script) (option_map (end_note t m) o) before.senders.items → StandsFor script rules t after (record r { journal = followed (ended ∷ J) (noted m o) })
     unfolding followed
     stands-then None e after same ends =
         stands-from (ended ∷ J) after same stands-mid.holds (ap length ends ∙ at.stands.sender_count)
@@ -218,7 +220,7 @@ module _ (script : Script) (rules : Rules) (t : ℕ) (before : Task) (r : Run) (
 
     pub ends-does : (after : Task) (old out : Outcome) (mids : List Event) →
         after ≡ record task { senders = after.senders } →
-        after.senders.items ≡ with_job_note (task_unit before) before.state.number m (cmpl_counter s) before.senders.items →
+        after.senders.items ≡ with_follower (task_unit before) (option_map (end_note before.state.number m) (cmpl_counter s)) before.senders.items →
         mids ≡ old.events ++ End m before.state.number f.worker ∷ [] → out.events ≡ mids ++ noted m (cmpl_counter s) → out.entries ≡ old.entries →
         HasEffect script rules t r (end script rules r t f.worker) after old out
     unfolding followed
@@ -228,7 +230,7 @@ module _ (script : Script) (rules : Rules) (t : ℕ) (before : Task) (r : Run) (
           entries = [];
           stands = stands-on script rules t (record r { journal = followed (ended ∷ J) (noted m (cmpl_counter s)) }) Did after
               (stands-then (cmpl_counter s) refl after same
-              (senders ∙ (λ i. with_job_note (unit-is script rules t before at.stands.calls i) (at.stands.holds.number i) m (cmpl_counter s) before.senders.items)));
+              (senders ∙ (λ i. with_follower (unit-is script rules t before at.stands.calls i) (option_map (end_note (at.stands.holds.number i) m) (cmpl_counter s)) before.senders.items)));
           journal = refl;
           events_added =
               more

@@ -1,5 +1,5 @@
 -- The messages that follow landings: their lengths, and their copies.
-use Rattle.std.proofs.Common.{◌≡◌, ℕ, ◌+◌, false, [], ◌∷◌, List, Option, None, Some, refl, sym, ap, ◌∙◌, arith}
+use Rattle.std.proofs.Common.{◌≡◌, ℕ, ◌+◌, Bool, true, false, [], ◌∷◌, List, Option, None, Some, refl, sym, ap, ◌∙◌, arith}
 use Rattle.std.specs.List.{flat_map}
 use Rattle.std.proofs.lemmas.List.Folds.{fold-map}
 use Rattle.std.proofs.lemmas.List.Sums.{sum_by-cons}
@@ -28,20 +28,21 @@ pub back-made : (t a : ℕ) (m : MsgName) (pieces : List Span) (memory : List �
 back-made t a m pieces memory head len packet bytes made size same = λ i. record { packet = (made ∙ ap (follower_packet t a m Back head) size) i; bytes = same i }
 
 -- what follows this head may leave
-abbrev pub MayFollow : (unit t a : ℕ) → MsgName → (memory : List ℕ) → Head → Type 0
-MayFollow unit t a m memory head = (x : Follower) → follower t a m head memory ≡ Some x → MayLeave unit x
+abbrev pub MayFollow : (unit t a : ℕ) → MsgName → (completion : Bool) → (memory : List ℕ) → Head → Type 0
+MayFollow unit t a m completion memory head = (x : Follower) → follower t a m head completion memory ≡ Some x → MayLeave unit x
 
 -- the copy of what follows
 abbrev pub copies : Option Follower → List Event
 copies None = []
 copies (Some x) = Copy x.packet.name ∷ []
 
-pub follows-is : (t a : ℕ) (m : MsgName) (memory : List ℕ) (h : Head) → follows h false m ≡ copies (follower t a m h memory)
+pub follows-is : (t a : ℕ) (m : MsgName) (completion : Bool) (memory : List ℕ) (h : Head) → follows h completion m ≡ copies (follower t a m h completion memory)
 unfolding follows
-follows-is t a m memory (heads.Put at tgt None) = refl
-follows-is t a m memory (heads.Put at tgt (Some c)) = refl
-follows-is t a m memory (heads.Putv tgt None pieces) = refl
-follows-is t a m memory (heads.Putv tgt (Some c) pieces) = refl
-follows-is t a m memory (heads.Am handler tgt None header) = refl
-follows-is t a m memory (heads.Am handler tgt (Some c) header) = refl
-follows-is t a m memory _ = refl
+follows-is t a m completion memory (heads.Put at tgt None) = refl
+follows-is t a m completion memory (heads.Put at tgt (Some c)) = refl
+follows-is t a m completion memory (heads.Putv tgt None pieces) = refl
+follows-is t a m completion memory (heads.Putv tgt (Some c) pieces) = refl
+follows-is t a m true memory (heads.Am handler tgt cmpl header) = refl
+follows-is t a m false memory (heads.Am handler tgt None header) = refl
+follows-is t a m false memory (heads.Am handler tgt (Some c) header) = refl
+follows-is t a m completion memory _ = refl

@@ -1,5 +1,5 @@
 -- The message that follows a landing, as the record has it.
-use Rattle.std.proofs.Common.{◌≡◌, ℕ, ◌<◌, true, cond, List, [], ◌∷◌, length, Option, None, Some, refl, sym, ap, ◌∙◌, subst, arith}
+use Rattle.std.proofs.Common.{◌≡◌, ℕ, ◌<◌, Bool, true, false, cond, List, [], ◌∷◌, ◌++◌, length, Option, None, Some, refl, sym, ap, ◌∙◌, subst, arith}
 use Rattle.std.specs.Prelude.{option_map}
 use Rattle.std.specs.Option.{option_or}
 use Rattle.std.proofs.lemmas.Bool.{cond-true}
@@ -7,7 +7,9 @@ use Rattle.lapi_base.specs.declared.script.Script.{Script}
 use Rattle.lapi_base.specs.declared.rule.Rules.{Rules}
 use Rattle.lapi_base.specs.declared.event.Event.{Event}
 use Rattle.lapi_base.specs.declared.event.Event.TheVariants.{Copy, Land}
+use Rattle.lapi_base.specs.declared.handler.HeaderOut.{HeaderOut}
 use Rattle.lapi_base.specs.declared.head.Head.{Head}
+use Rattle.lapi_base.specs.declared.head.Head.TheVariants as heads
 use Rattle.lapi_base.specs.declared.message.Leg.TheVariants.{Back, Note}
 use Rattle.lapi_base.specs.declared.message.MsgName.{MsgName}
 use Rattle.lapi_base.specs.declared.packet.Packet.{Packet}
@@ -19,7 +21,7 @@ use Rattle.lapi_base.specs.Packet.Spelling.{HasSpelling}
 use Rattle.lapi_base.specs.Record.Acts.{followed}
 use Rattle.lapi_base.specs.Record.Atomic.{Atomic}
 use Rattle.lapi_base.specs.Record.Fragments.{fragments_in}
-use Rattle.lapi_base.specs.Record.HeadSays.{back_head, note_head, asked_pieces}
+use Rattle.lapi_base.specs.Record.HeadSays.{back_head, note_head, asked_pieces, follows}
 use Rattle.lapi_base.specs.Record.Names.{message, name_eq}
 use Rattle.lapi_base.specs.Record.Operations.{fragment_count, message_length}
 use Rattle.lapi_base.specs.Record.Packets.{data_packet}
@@ -39,20 +41,30 @@ use Rattle.lapi_parts.proofs.CarriedLengths.{carried-length}
 use Rattle.lapi_parts.proofs.Deliveries.{delivered}
 use Rattle.lapi_parts.proofs.FirstLayout.{first-unit, first-longest}
 use Rattle.lapi_parts.proofs.HeadAnswers.{backs-follow, backs-bring, notes-follow}
+use Rattle.lapi_parts.proofs.NotePackets.{note-spelled}
 use Rattle.lapi_parts.proofs.SpelledPackets.{message-spelled}
-use Rattle.lapi_task.specs.Landed.{Follower, note_of, back_of, follower, MayLeave, events_of}
+use Rattle.lapi_task.specs.Answered.{completes_in}
+use Rattle.lapi_task.specs.Landed.{Follower, note_of, back_of, note_now, follower, MayLeave, called, events_of}
 use Rattle.lapi_task.specs.Outgoing.{outgoing, packet_of}
 use Rattle.lapi_task.specs.Supported.{IsSupported}
 use Rattle.lapi_task.proofs.Landings.{picked-is}
 use Rattle.lapi_task.proofs.MessageCopies.{packet-is}
-use Rattle.lapi_task.proofs.ReceiveEvents.{come, come-events, came_bytes}
-use Rattle.lapi_task.proofs.ReceiveKinds.{Comes, direct-is, there-is}
+use Rattle.lapi_task.proofs.HeaderAnswers.{is-told}
+use Rattle.lapi_task.proofs.ReceiveHolds.{answer_now, handlers_now, events_now}
+use Rattle.lapi_task.proofs.ReceiveEvents.{come, come-events, came_bytes, is_opening, followed-append}
+use Rattle.lapi_task.proofs.ReceiveKinds.{Comes, there-is}
 use Rattle.lapi_task.proofs.FollowerParts.{copies, follows-is}
 
 -- what the packets have in common with this one
 common : DataPacket → Packet → DataPacket
 common o (Data p) = record p { seq = 0; fragment = 0; payload = [] }
 common o (Ack from to base bits) = o
+
+-- a notice that goes out with the landing is that of the head
+noted-now : (h : Head) (completion : Bool) (head : Head) → note_now h completion ≡ Some head → note_head h ≡ Some head
+noted-now (heads.Am handler tgt cmpl header) true head e = absurd (cc)
+noted-now (heads.Am handler tgt cmpl header) false head e = e
+noted-now _ completion head e = e
 
 module _ (script : Script) (rules : Rules) where
   -- This goes from task t to task a, and is the message of the record that is copied after these events.
@@ -66,7 +78,7 @@ module _ (script : Script) (rules : Rules) where
   unfolding common data_packet
   sent-is m t a len head sent = ap (common (outgoing script m)) (sent 0 0 [])
 
-  note-carries : (m : MsgName) (J : List Event) → let n = message m.origin m.statement Note in [] ≡ carried script rules (Copy n ∷ J) n
+  pub note-carries : (m : MsgName) (J : List Event) → let n = message m.origin m.statement Note in [] ≡ carried script rules (Copy n ∷ J) n
   unfolding values
   note-carries m J = let n = message m.origin m.statement Note in sym (cond-true (name_eq n n) [] (carried script rules J n) (name_eq-refl n))
 
@@ -92,36 +104,47 @@ module _ (script : Script) (rules : Rules) where
   -- ---- a delivery
 
   module _ (r : Run) (a t k : ℕ) (p : DataPacket) (is : IsRecord script rules r) (entry : IsEntry r a t k (Data p)) (c : Comes script rules r a t p) where
-    abbrev pub brought : List Event
-    brought = events_of (come (completes script rules r a t p) p.name p.head (came_bytes script (r.handed a t) p))
+    abbrev out : Option HeaderOut
+    out = answer_now script rules t p
 
-    pub journal-is : (performed script rules r (Deliver a t k)).journal ≡ followed r.journal brought
+    abbrev later : Bool
+    later = completes_in (handlers_now script rules t) out
+
+    abbrev first : Bool
+    first = is_opening (r.handed a t) p
+
+    pub journal-is : (performed script rules r (Deliver a t k)).journal ≡ followed r.journal (events_now script rules t r a p)
     journal-is =
+        let told = is-told script rules r is a t k p entry in
         delivered script rules r a t k p entry
         ∙ ap (λ es. followed r.journal (cond (is_delivered r a t p.seq) [] es)) (arrivals-told script rules r is a t k p entry)
-        ∙ ap (followed r.journal) (come-events script rules (r.handed a t) p (direct-is p.head p.length c.kind) (is_delivered r a t p.seq))
+        ∙ ap (followed r.journal) (come-events script rules (r.handed a t) p out (handlers_now script rules t) told.completes (is_delivered r a t p.seq))
 
     module _ (whole : completes script rules r a t p ≡ true) where
-      abbrev J : List Event
-      J = Land p.name ∷ r.journal
+      -- the landing, after the call of a header handler
+      abbrev pub J : List Event
+      J = Land p.name ∷ followed r.journal (called first p.name p.head)
 
       abbrev memory : List ℕ
       memory = memory_bytes script rules r.journal t
 
       -- the copy comes after the landing
-      pub copied-then : (o : Option Follower) → follower t a p.name p.head memory ≡ o → followed r.journal brought ≡ followed J (copies o)
+      pub copied-then : (o : Option Follower) → follower t a p.name p.head later memory ≡ o → followed r.journal (events_now script rules t r a p) ≡ followed J (copies o)
       unfolding followed
       copied-then o e =
-          ap (λ b. followed r.journal (events_of (come b p.name p.head (came_bytes script (r.handed a t) p)))) whole
-          ∙ ap (followed J) (follows-is t a p.name memory p.head ∙ ap copies e)
+          ap (λ b. followed r.journal (called first p.name p.head ++ events_of (handlers_now script rules t) (come b p.name p.head (came_bytes script (r.handed a t) p) out))) whole
+          ∙ followed-append (called first p.name p.head) (Land p.name ∷ follows p.head later p.name) r.journal
+          ∙ ap (followed J) (follows-is t a p.name later memory p.head ∙ ap copies e)
+
+      back-given : (c : Bool) (head : Head) → back_head p.head ≡ Some head → follower t a p.name p.head c memory ≡ Some (back_of t a p.name (asked_pieces p.head) memory head)
+      back-given c head e = ap (λ o. option_or (option_map (back_of t a p.name (asked_pieces p.head) memory) o) (option_map (note_of t a p.name) (note_now p.head c))) e
 
       back-follows : (head : Head) → back_head p.head ≡ Some head → Follows J t a (back_of t a p.name (asked_pieces p.head) memory head)
       unfolding followed
       back-follows head e =
           let m = message p.name.origin p.name.statement Back in
           let x = back_of t a p.name (asked_pieces p.head) memory head in
-          let given : follower t a p.name p.head memory ≡ Some x = ap (λ o. option_or (option_map (back_of t a p.name (asked_pieces p.head) memory) o) (option_map (note_of t a p.name) (note_head p.head))) e in
-          let then : (performed script rules r (Deliver a t k)).journal ≡ Copy m ∷ J = journal-is ∙ copied-then (Some x) given in
+          let then : (performed script rules r (Deliver a t k)).journal ≡ Copy m ∷ J = journal-is ∙ copied-then (Some x) (back-given later head e) in
           record {
             from = refl;
             to = refl;
@@ -140,10 +163,40 @@ module _ (script : Script) (rules : Rules) where
         bytes = note-carries p.name J;
       }
 
-      follower-by : (ob on : Option Head) → back_head p.head ≡ ob → note_head p.head ≡ on → (x : Follower) → option_or (option_map (back_of t a p.name (asked_pieces p.head) memory) ob) (option_map (note_of t a p.name) on) ≡ Some x → Follows J t a x
+      follower-by : (ob on : Option Head) → back_head p.head ≡ ob → note_now p.head later ≡ on → (x : Follower) → option_or (option_map (back_of t a p.name (asked_pieces p.head) memory) ob) (option_map (note_of t a p.name) on) ≡ Some x → Follows J t a x
       follower-by (Some head) on b n x e = subst (Follows J t a) (some-same _ _ e) (back-follows head b)
-      follower-by None (Some head) b n x e = subst (Follows J t a) (some-same _ _ e) (note-follows head n)
+      follower-by None (Some head) b n x e = subst (Follows J t a) (some-same _ _ e) (note-follows head (noted-now p.head later head n))
       follower-by None None b n x e = absurd (cc)
 
-      pub follower-is : (x : Follower) → follower t a p.name p.head memory ≡ Some x → Follows J t a x
-      follower-is x e = follower-by (back_head p.head) (note_head p.head) refl refl x e
+      pub follower-is : (x : Follower) → follower t a p.name p.head later memory ≡ Some x → Follows J t a x
+      follower-is x e = follower-by (back_head p.head) (note_now p.head later) refl refl x e
+
+      -- What follows may leave, whatever was answered to the header.
+      module _ (supported : IsSupported script) (ok : ValidRules rules) (atomic : Atomic script rules (followed r.journal (events_now script rules t r a p))) where
+        note-leaves : (head : Head) → note_head p.head ≡ Some head → MayLeave (unit_of script) (note_of t a p.name head)
+        unfolding fragment_count
+        note-leaves head e =
+            let m = message p.name.origin p.name.statement Note in
+            let f = note-follows head e in
+            record {
+              size = refl;
+              short = omega arith;
+              spelled = λ n j few lj.
+                  let spells = note-spelled script rules supported.valid ok r is a t k p head entry e n j few (subst (λ (o : DataPacket). j < fragments_in (unit_of script) o.length) (sym f.is) lj) in
+                  subst HasSpelling (packet-is script rules m n j [] ∙ (λ i. packet_of (f.is i) (unit_of script) n j [])) (_, spells);
+            }
+
+        back-leaves : (head : Head) → back_head p.head ≡ Some head → MayLeave (unit_of script) (back_of t a p.name (asked_pieces p.head) memory head)
+        unfolding followed
+        back-leaves head e =
+            let x = back_of t a p.name (asked_pieces p.head) memory head in
+            may-leave supported ok J t a x (back-follows head e)
+            (subst (Atomic script rules) (copied-then (Some x) (back-given later head e)) atomic)
+
+        leaves-by : (c : Bool) (ob on : Option Head) → back_head p.head ≡ ob → note_now p.head c ≡ on → (x : Follower) → option_or (option_map (back_of t a p.name (asked_pieces p.head) memory) ob) (option_map (note_of t a p.name) on) ≡ Some x → MayLeave (unit_of script) x
+        leaves-by c (Some head) on b n x e = subst (MayLeave (unit_of script)) (some-same _ _ e) (back-leaves head b)
+        leaves-by c None (Some head) b n x e = subst (MayLeave (unit_of script)) (some-same _ _ e) (note-leaves head (noted-now p.head c head n))
+        leaves-by c None None b n x e = absurd (cc)
+
+        pub follower-leaves : (c : Bool) (x : Follower) → follower t a p.name p.head c memory ≡ Some x → MayLeave (unit_of script) x
+        follower-leaves c x e = leaves-by c (back_head p.head) (note_now p.head c) refl refl x e

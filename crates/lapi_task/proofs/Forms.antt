@@ -1,5 +1,5 @@
 -- The forms that are performed: what their statements look like.
-use Rattle.std.proofs.Common.{◌≡◌, ◌⊎◌, ℕ, ◌<◌, ◌≤◌, true, false, IsTrue, [], length, Option, Some, refl, sym, ap, ◌∙◌, subst, ⊎_elim, inl, inr}
+use Rattle.std.proofs.Common.{◌≡◌, ◌⊎◌, ℕ, ◌<◌, ◌≤◌, true, false, IsTrue, [], length, Some, refl, sym, ap, subst, ⊎_elim, inl, inr}
 use Rattle.std.specs.Prelude.{slice_get}
 use Rattle.std.proofs.lemmas.Bool.{false≢true, cases_lt}
 use Rattle.std.proofs.lemmas.List.{get_or_past}
@@ -8,12 +8,12 @@ use Rattle.lapi_base.specs.declared.statement.Statement.{Statement}
 use Rattle.lapi_base.specs.declared.statement.Statement.TheVariants as statements
 use Rattle.lapi_base.specs.declared.script.Script.{Script}
 use Rattle.lapi_base.specs.Input.Built.{is_built_statement, IsBuiltList}
-use Rattle.lapi_base.specs.Record.Operations.{statement, is_am, has_join}
+use Rattle.lapi_base.specs.Record.Operations.{statement, has_join}
 use Rattle.lapi_base.specs.Record.Operations as operations
 use Rattle.lapi_base.proofs.ListLaws.{all-get, all-or, get-some}
 use Rattle.lapi_task.specs.Supported.{IsSupported}
 
--- none of these statements is a collective call,
+-- none of these statements is a collective call
 joins-none : (s : Statement) → is_built_statement s ≡ true → has_join s ≡ false
 unfolding is_built_statement
 joins-none (statements.Store at bytes) h = refl
@@ -22,24 +22,11 @@ joins-none (statements.Get target from to len tgt org) h = refl
 joins-none (statements.Putv target to from tgt org cmpl) h = refl
 joins-none (statements.Getv target from to tgt org) h = refl
 joins-none (statements.Rmw target op at in1 in2 prev org) h = refl
+joins-none (statements.Am target handler header from len tgt org cmpl) h = refl
 joins-none (statements.Wait counter value) h = refl
 joins-none (statements.Set counter value) h = refl
 joins-none (statements.Read counter) h = refl
 joins-none _ h = absurd (false≢true h)
-
--- and none sends an active message
-actives-none : (s : Statement) → is_built_statement s ≡ true → is_am s ≡ false
-unfolding is_built_statement
-actives-none (statements.Store at bytes) h = refl
-actives-none (statements.Put target to from len tgt org cmpl) h = refl
-actives-none (statements.Get target from to len tgt org) h = refl
-actives-none (statements.Putv target to from tgt org cmpl) h = refl
-actives-none (statements.Getv target from to tgt org) h = refl
-actives-none (statements.Rmw target op at in1 in2 prev org) h = refl
-actives-none (statements.Wait counter value) h = refl
-actives-none (statements.Set counter value) h = refl
-actives-none (statements.Read counter) h = refl
-actives-none _ h = absurd (false≢true h)
 
 pub statement-is : (script : Script) (a i : ℕ) (s : Statement) → slice_get (operations.statements script a) i ≡ Some s → statement script a i ≡ s
 unfolding statement
@@ -66,11 +53,4 @@ module _ (script : Script) (perf : IsSupported script) where
       ⊎_elim
       (λ (b : is_built_statement (statement script a i) ≡ true). joins-none (statement script a i) b)
       (λ (e : statement script a i ≡ statements.Fence). ap has_join e)
-      (forms a i)
-
-  pub no-am : (a i : ℕ) → is_am (statement script a i) ≡ false
-  no-am a i =
-      ⊎_elim
-      (λ (b : is_built_statement (statement script a i) ≡ true). actives-none (statement script a i) b)
-      (λ (e : statement script a i ≡ statements.Fence). ap is_am e)
       (forms a i)

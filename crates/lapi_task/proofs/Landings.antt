@@ -1,22 +1,24 @@
 -- The writes of a landing, in the memory as a list of bytes.
-use Rattle.std.proofs.Common.{◌≡◌, ℕ, ◌+◌, ◌≤◌, List, [], ◌∷◌, ◌++◌, map, length, drop, refl, sym, ap, ◌∙◌, arith}
+use Rattle.std.proofs.Common.{◌≡◌, ℕ, ◌+◌, ◌≤◌, true, List, [], ◌∷◌, ◌++◌, Option, map, length, drop, refl, sym, ap, ◌∙◌, arith}
 use Rattle.std.specs.List.{AllByRecursion, flat_map}
 use Rattle.std.proofs.lemmas.List.{append-nil, length-take}
 use Rattle.lapi_base.specs.declared.script.Script.{Script}
 use Rattle.lapi_base.specs.declared.rule.Rules.{Rules}
 use Rattle.lapi_base.specs.declared.event.Event.{Event}
+use Rattle.lapi_base.specs.declared.handler.HeaderOut.{HeaderOut}
 use Rattle.lapi_base.specs.declared.head.Head.{Head}
 use Rattle.lapi_base.specs.declared.head.Head.TheVariants as heads
 use Rattle.lapi_base.specs.declared.message.MsgName.{MsgName}
 use Rattle.lapi_base.specs.declared.span.Span.{Span}
-use Rattle.lapi_base.specs.Record.Handlers.{number_of, word_bytes}
-use Rattle.lapi_base.specs.Record.HeadSays.{asked_pieces, lands}
+use Rattle.lapi_base.specs.Record.Handlers.{number_of, word_bytes, buffer}
+use Rattle.lapi_base.specs.Record.HeadSays.{is_active, asked_pieces, lands}
 use Rattle.lapi_base.specs.Record.Operations.{numbers_below, one_span}
 use Rattle.lapi_base.specs.Record.Values.{Write, values, gathered, scattered, byte_after, memory_bytes, rmw_word}
 use Rattle.lapi_base.specs.Laws.Receiving.{SpansAreInMemory}
 use Rattle.lapi_memory.specs.TaskMemory.{bytes_at}
+use Rattle.lapi_task.specs.Answered.{kept_pieces}
 use Rattle.lapi_task.specs.Landed.{IsDirect, head_writes, after_writes}
-use Rattle.lapi_task.proofs.StepMemories.{read-over, written-over}
+use Rattle.lapi_task.proofs.StepMemories.{read-over, written-over, memory-length}
 
 -- each write lies within a memory of this size
 abbrev pub WritesWithin : (size : ℕ) → List Write → Type 0
@@ -44,11 +46,13 @@ module _ (script : Script) (rules : Rules) (J : List Event) (t : ℕ) where
       ap (λ (xs : List ℕ). xs ++ flat_map (λ q. bytes_at (memory_bytes script rules J t) q.at q.len) ps) own
       ∙ ap (λ (xs : List ℕ). map (λ k. f (p.at + k)) (numbers_below p.len) ++ xs) rest
 
-  -- the writes of a head are those of the record
-  pub writes-are : (m : MsgName) (h : Head) (bytes : List ℕ) → IsDirect h → SpansAreInMemory script (asked_pieces h) → head_writes h bytes (memory_bytes script rules J t) ≡ lands script rules (values script rules J).memory t m h (length bytes) bytes
+  -- the writes of a head are those of the record, where an active message is kept in its buffer
+  pub writes-are : (m : MsgName) (h : Head) (out : Option HeaderOut) (bytes : List ℕ) → IsDirect h → SpansAreInMemory script (asked_pieces h) → (is_active h ≡ true → buffer script rules m ≡ kept_pieces script.memory (length bytes) out) → head_writes h out bytes (memory_bytes script rules J t) ≡ lands script rules (values script rules J).memory t m h (length bytes) bytes
   unfolding scattered word_bytes
-  writes-are m (heads.RmwGo op at in1 in2 prev org) bytes k there =
+  writes-are m (heads.RmwGo op at in1 in2 prev org) out bytes k there keeps =
       let word = λ (old : List ℕ). word_bytes (rmw_word op (number_of old) in1 in2) in
       ap (λ (old : List ℕ). (at, word old) ∷ []) (sym (append-nil (bytes_at (memory_bytes script rules J t) at 4)) ∙ picked-is (one_span at 4) there)
-  writes-are m (heads.Am handler tgt cmpl header) bytes k there = absurd k
-  writes-are m _ bytes k there = refl
+  writes-are m (heads.Am handler tgt cmpl header) out bytes k there keeps =
+      ap (λ n. scattered (kept_pieces n (length bytes) out) bytes) (memory-length script rules J t)
+      ∙ ap (λ pieces. scattered pieces bytes) (sym (keeps refl))
+  writes-are m _ out bytes k there keeps = refl

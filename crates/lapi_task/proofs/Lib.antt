@@ -10,13 +10,15 @@ pub mod CopyParts
 pub mod CopySendable
 pub mod EffectLaws
 pub mod EndLaws
+pub mod EndNotes
 pub mod FollowerParts
 pub mod Followers
 pub mod Forms
+pub mod HeaderAnswers
 pub mod JobCounts
-pub mod Jobless
-pub mod JobNotes
+pub mod JobsLand
 pub mod JobsStay
+pub mod KeptAnswers
 pub mod Landings
 pub mod MessageCopies
 pub mod MessagePackets
@@ -38,5 +40,4 @@ pub mod StepLaws
 pub mod StepMemories
 pub mod StillLaws
 pub mod TickLaws
-mod Unanswered
 pub mod WorkStays

@@ -23,7 +23,7 @@ use Rattle.lapi_link.specs.Receiver.{IsNewReceiver}
 use Rattle.lapi_task.proofs.StepMemories.{memory-blank}
 use Rattle.lapi_base.proofs.BelowLaws.{below-none}
 use Rattle.lapi_base.proofs.ListLaws.{all-get, get-some}
-use Rattle.lapi_task.proofs.Unanswered.{new-unanswered}
+use Rattle.lapi_task.proofs.KeptAnswers.{new-kept}
 
 -- the task has happened nothing
 pub record IsNew (script : Script) (rules : Rules) (t : ℕ) (task : Task) : Type 0 where
@@ -83,5 +83,5 @@ module _ (script : Script) (rules : Rules) where
     receivers = λ a l.
         let x = get-some task.receivers.items a (let n = h.receivers.0 in omega (arith, l, n)) in
         let fresh = all-get (IsNewReceiver (window_of script) (unit_of script)) task.receivers.items a x.0 h.receivers.1 x.1 script refl refl in
-        subst (ReceiverAt script []) (sym x.1) (fresh, new-unanswered script x.0 fresh);
+        subst (ReceiverAt script rules []) (sym x.1) (fresh, new-kept script rules x.0 fresh);
   }

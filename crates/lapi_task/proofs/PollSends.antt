@@ -262,7 +262,7 @@ module _ (script : Script) (rules : Rules) (valid : ValidScript script) (t : ℕ
           sender_count = sends.size ∙ stands.sender_count;
           receiver_count = ap (λ (x : Task). length x.receivers.items) rest ∙ stands.receiver_count;
           senders = λ b l. subst (SenderAt script rules (poll script rules r t) t b) (sym (sends.done b l)) (sender-polled b (slice_get task.senders.items b) (stands.senders b l));
-          receivers = λ a l. subst (λ (x : Task). ReceiverAt script (r.handed a t) (slice_get x.receivers.items a)) (sym rest) (stands.receivers a l);
+          receivers = λ a l. subst (λ (x : Task). ReceiverAt script rules (r.handed a t) (slice_get x.receivers.items a)) (sym rest) (stands.receivers a l);
         };
         journal = sym h.copied;
         events_added = same ∙ h.added;

@@ -69,6 +69,7 @@ plain script (statements.Get target from to len tgt org) h = refl
 plain script (statements.Putv target to from tgt org cmpl) h = refl
 plain script (statements.Getv target from to tgt org) h = refl
 plain script (statements.Rmw target op at in1 in2 prev org) h = refl
+plain script (statements.Am target handler header from len tgt org cmpl) h = refl
 plain script (statements.Wait counter value) h = refl
 plain script (statements.Set counter value) h = refl
 plain script (statements.Read counter) h = refl

@@ -28,12 +28,15 @@ use Rattle.lapi_base.proofs.NameLaws.{happened-other}
 use Rattle.lapi_reassembly.specs.declared.message.Message.{Message}
 use Rattle.lapi_link.specs.declared.arrival.Arrival.TheVariants.{Repeat}
 use Rattle.lapi_link.specs.Receiver.{came, message_of, arrival_of}
-use Rattle.lapi_task.specs.Landed.{IsDirect, landed, events_of}
+use Rattle.lapi_task.specs.Answered.{completes_in}
+use Rattle.lapi_task.specs.Landed.{called, is_first, landed, events_of}
+use Rattle.lapi_task.proofs.HeaderAnswers.{follows-same}
+use Rattle.lapi_base.proofs.ListLaws.{all-append}
 use Rattle.lapi_task.specs.StandsFor.{is_uncopied}
 
 -- What lands with a packet that makes its message whole, and with another one.
-abbrev pub come : (whole : Bool) → MsgName → Head → List ℕ → Option Message
-come whole m h bytes = cond whole (Some (record { name = m; head = h; bytes = bytes; out = None })) None
+abbrev pub come : (whole : Bool) → MsgName → Head → List ℕ → Option HeaderOut → Option Message
+come whole m h bytes out = cond whole (Some (record { name = m; head = h; bytes = bytes; out = out })) None
 
 abbrev pub came_bytes : Script → List Packet → DataPacket → List ℕ
 came_bytes script ps p = assembled (count_of script p.length) (Data p ∷ ps) p.name
@@ -41,34 +44,67 @@ came_bytes script ps p = assembled (count_of script p.length) (Data p ∷ ps) p.
 abbrev pub is_all : Script → List Packet → DataPacket → Bool
 is_all script ps p = whole_by (count_of script p.length) (Data p ∷ ps) p.name
 
-landed-come : (known some whole : Bool) (m : Message) → landed (cond known Repeat (came some whole m)) ≡ come (not known && whole) m.name m.head m.bytes
-landed-come true some whole m = refl
-landed-come false true true m = refl
-landed-come false false true m = refl
-landed-come false true false m = refl
-landed-come false false false m = refl
+-- the packet has a new number, and is the first of its message
+abbrev pub is_opening : List Packet → DataPacket → Bool
+is_opening ps p = not (has_number ps p.seq) && not (has_some ps p.name)
 
-pub come-is : (script : Script) (ps : List Packet) (p : DataPacket) (out : Option HeaderOut) → landed (arrival_of script ps p out) ≡ come (not (has_number ps p.seq) && is_all script ps p) p.name p.head (came_bytes script ps p)
+landed-come : (known some whole : Bool) (m : MsgName) (h : Head) (bytes : List ℕ) (old now : Option HeaderOut) → landed now (cond known Repeat (came some whole (record { name = m; head = h; bytes = bytes; out = old }))) ≡ come (not known && whole) m h bytes (cond some old now)
+landed-come true some whole m h bytes old now = refl
+landed-come false true true m h bytes old now = refl
+landed-come false false true m h bytes old now = refl
+landed-come false true false m h bytes old now = refl
+landed-come false false false m h bytes old now = refl
+
+pub come-is : (script : Script) (ps : List Packet) (p : DataPacket) (old now : Option HeaderOut) → landed now (arrival_of script ps p old) ≡ come (not (has_number ps p.seq) && is_all script ps p) p.name p.head (came_bytes script ps p) (cond (has_some ps p.name) old now)
 unfolding arrival_of
-come-is script ps p out = landed-come (has_number ps p.seq) (has_some ps p.name) (is_all script ps p) (message_of script ps p out)
+come-is script ps p old now = landed-come (has_number ps p.seq) (has_some ps p.name) (is_all script ps p) p.name p.head (came_bytes script ps p) old now
 
-brings : (h : Head) → IsDirect h → (some whole completion : Bool) (m : MsgName) → cond (is_active h && some) (Event.Head m ∷ []) [] ++ cond whole (Land m ∷ follows h completion m) [] ≡ cond whole (Land m ∷ follows h false m) []
-unfolding follows
-brings (heads.Am handler tgt cmpl header) k some whole completion m = absurd k
-brings _ k some whole completion m = refl
+-- by the answer, where the number is new
+pub come-told : (script : Script) (ps : List Packet) (p : DataPacket) (o out : Option HeaderOut) → (has_number ps p.seq ≡ false → o ≡ out) → come (not (has_number ps p.seq) && is_all script ps p) p.name p.head (came_bytes script ps p) o ≡ come (not (has_number ps p.seq) && is_all script ps p) p.name p.head (came_bytes script ps p) out
+come-told script ps p o out same =
+    let lands = λ (known : Bool) (x : Option HeaderOut). come (not known && is_all script ps p) p.name p.head (came_bytes script ps p) x in
+    elim (has_number ps p.seq) as (λ b. has_number ps p.seq ≡ b → lands b o ≡ lands b out) [
+      | true ↦ λ e. refl
+      | false ↦ λ e. ap (lands false) (same e)
+    ] refl
+
+first-came : (known some whole : Bool) (m : Message) → is_first (cond known Repeat (came some whole m)) ≡ (not known && not some)
+first-came true some whole m = refl
+first-came false true true m = refl
+first-came false true false m = refl
+first-came false false true m = refl
+first-came false false false m = refl
+
+pub first-is : (script : Script) (ps : List Packet) (p : DataPacket) (old : Option HeaderOut) → is_first (arrival_of script ps p old) ≡ is_opening ps p
+unfolding arrival_of
+first-is script ps p old = first-came (has_number ps p.seq) (has_some ps p.name) (is_all script ps p) (message_of script ps p old)
+
+either-way : (x y : Bool) → (x && y) ≡ (y && x)
+either-way true true = refl
+either-way true false = refl
+either-way false true = refl
+either-way false false = refl
 
 -- its events
-pub come-events : (script : Script) (rules : Rules) (ps : List Packet) (p : DataPacket) → IsDirect p.head → (known : Bool) → cond known [] (comes script rules ps p) ≡ events_of (come (not known && is_all script ps p) p.name p.head (came_bytes script ps p))
+pub come-events : (script : Script) (rules : Rules) (ps : List Packet) (p : DataPacket) (out : Option HeaderOut) (count : ℕ) → (is_active p.head ≡ true → has_completion script rules p.name.origin p.name.statement ≡ completes_in count out) → (known : Bool) → cond known [] (comes script rules ps p) ≡ called (not known && not (has_some ps p.name)) p.name p.head ++ events_of count (come (not known && is_all script ps p) p.name p.head (came_bytes script ps p) out)
 unfolding comes
-come-events script rules ps p k true = refl
-come-events script rules ps p k false = brings p.head k (not (has_some ps p.name)) (is_all script ps p) (has_completion script rules p.name.origin p.name.statement) p.name ∙ one (is_all script ps p)
+come-events script rules ps p out count told true = refl
+come-events script rules ps p out count told false =
+    ap (λ b. cond b (Event.Head p.name ∷ []) [] ++ cond (is_all script ps p) (Land p.name ∷ follows p.head (has_completion script rules p.name.origin p.name.statement) p.name) []) (either-way (is_active p.head) (not (has_some ps p.name)))
+    ∙ ap (λ es. called (not (has_some ps p.name)) p.name p.head ++ es) (one (is_all script ps p))
   where
-    one : (whole : Bool) → cond whole (Land p.name ∷ follows p.head false p.name) [] ≡ events_of (come whole p.name p.head (came_bytes script ps p))
-    one true = refl
+    one : (whole : Bool) → cond whole (Land p.name ∷ follows p.head (has_completion script rules p.name.origin p.name.statement) p.name) [] ≡ events_of count (come whole p.name p.head (came_bytes script ps p) out)
+    one true = ap (λ es. Land p.name ∷ es) (follows-same p.head p.name (has_completion script rules p.name.origin p.name.statement) (completes_in count out) told)
     one false = refl
 
--- a landing, or a copy that the task's own statements did not make
+pub followed-append : (xs ys J : List Event) → followed J (xs ++ ys) ≡ followed (followed J xs) ys
+unfolding followed
+followed-append [] ys J = refl
+followed-append (x ∷ xs) ys J = followed-append xs ys (x ∷ J)
+
+-- the call of a header handler, a landing, or a copy that the task's own statements did not make
 abbrev pub IsMild : Event → Type 0
+IsMild (Event.Head m) = Unit {0}
 IsMild (Land m) = Unit {0}
 IsMild (Copy m) = leg_eq Go m.leg ≡ false
 IsMild _ = ⊥
@@ -77,19 +113,28 @@ mild-noted : (m : MsgName) (o : Option ℕ) → AllByRecursion IsMild (noted m o
 mild-noted m None = tt
 mild-noted m (Some c) = (refl, tt)
 
-mild-follows : (h : Head) (m : MsgName) → AllByRecursion IsMild (follows h false m)
+mild-follows : (h : Head) (completion : Bool) (m : MsgName) → AllByRecursion IsMild (follows h completion m)
 unfolding follows
-mild-follows (heads.Put at tgt cmpl) m = mild-noted m cmpl
-mild-follows (heads.Putv tgt cmpl pieces) m = mild-noted m cmpl
-mild-follows (heads.Am handler tgt cmpl header) m = mild-noted m cmpl
-mild-follows (heads.GetGo asked source dest tgt org) m = (refl, tt)
-mild-follows (heads.GetvGo tgt org source dest) m = (refl, tt)
-mild-follows (heads.RmwGo op at in1 in2 prev org) m = (refl, tt)
-mild-follows _ m = tt
+mild-follows (heads.Put at tgt cmpl) completion m = mild-noted m cmpl
+mild-follows (heads.Putv tgt cmpl pieces) completion m = mild-noted m cmpl
+mild-follows (heads.Am handler tgt cmpl header) true m = tt
+mild-follows (heads.Am handler tgt cmpl header) false m = mild-noted m cmpl
+mild-follows (heads.GetGo asked source dest tgt org) completion m = (refl, tt)
+mild-follows (heads.GetvGo tgt org source dest) completion m = (refl, tt)
+mild-follows (heads.RmwGo op at in1 in2 prev org) completion m = (refl, tt)
+mild-follows _ completion m = tt
 
-pub come-mild : (whole : Bool) (m : MsgName) (h : Head) (bytes : List ℕ) → AllByRecursion IsMild (events_of (come whole m h bytes))
-come-mild true m h bytes = (tt, mild-follows h m)
-come-mild false m h bytes = tt
+mild-called : (first active : Bool) (m : MsgName) → AllByRecursion IsMild (cond (first && active) (Event.Head m ∷ []) [])
+mild-called true true m = (tt, tt)
+mild-called true false m = tt
+mild-called false active m = tt
+
+mild-come : (count : ℕ) (whole : Bool) (m : MsgName) (h : Head) (bytes : List ℕ) (out : Option HeaderOut) → AllByRecursion IsMild (events_of count (come whole m h bytes out))
+mild-come count true m h bytes out = (tt, mild-follows h (completes_in count out) m)
+mild-come count false m h bytes out = tt
+
+pub come-mild : (count : ℕ) (first whole : Bool) (m : MsgName) (h : Head) (bytes : List ℕ) (out : Option HeaderOut) → AllByRecursion IsMild (called first m h ++ events_of count (come whole m h bytes out))
+come-mild count first whole m h bytes out = all-append IsMild (called first m h) (events_of count (come whole m h bytes out)) (mild-called first (is_active h) m) (mild-come count whole m h bytes out)
 
 module _ (script : Script) (rules : Rules) (t : ℕ) where
   -- what the task did is as it was
@@ -107,6 +152,14 @@ module _ (script : Script) (rules : Rules) (t : ℕ) where
 
   mild-one : (e : Event) (J : List Event) → IsMild e → DidSame J (e ∷ J)
   unfolding next reads refusals runs
+  mild-one (Event.Head m) J h = record {
+    next = refl;
+    issued = λ i. happened-other (Issued t i) (Event.Head m) J refl;
+    copied = λ i. happened-other (Copied (message t i Go)) (Event.Head m) J refl;
+    reads = refl;
+    refusals = refl;
+    running = λ w. refl;
+  }
   mild-one (Land m) J h = record {
     next = refl;
     issued = λ i. happened-other (Issued t i) (Land m) J refl;

@@ -1,4 +1,4 @@
--- The packets that come to a task: each message takes effect by its head alone, and its places are there.
+-- The packets that come to a task: what their heads may be, and that their places are there.
 use Rattle.std.proofs.Common.{◌≡◌, ℕ, Bool, true, false, refl, sym, ◌∙◌, subst, arith}
 use Rattle.std.specs.Prelude.{slice_get, Some}
 use Rattle.std.proofs.lemmas.Bool.{false≢true, and_parts}
@@ -14,8 +14,8 @@ use Rattle.lapi_base.specs.declared.message.MsgName.{MsgName}
 use Rattle.lapi_base.specs.declared.packet.Packet.TheVariants.{Data}
 use Rattle.lapi_base.specs.declared.packet.DataPacket.{DataPacket}
 use Rattle.lapi_base.specs.Record.Handlers.{answers}
-use Rattle.lapi_base.specs.Record.HeadSays.{announces, head_pieces, asked_pieces}
-use Rattle.lapi_base.specs.Record.Operations.{statement, has_leg, has_join, is_am, length_by, message_length}
+use Rattle.lapi_base.specs.Record.HeadSays.{is_active, announces, head_pieces, asked_pieces}
+use Rattle.lapi_base.specs.Record.Operations.{statement, has_leg, has_join, length_by, message_length}
 use Rattle.lapi_base.specs.Record.Packets.{head_by}
 use Rattle.lapi_base.specs.Record.Valid.{ValidRules}
 use Rattle.lapi_base.specs.Record.Wires.{Run}
@@ -26,13 +26,14 @@ use Rattle.lapi_parts.proofs.MessageHeads.{no-answers}
 use Rattle.lapi_parts.proofs.Receivable.{packets-fit}
 use Rattle.lapi_task.specs.Landed.{IsDirect}
 use Rattle.lapi_task.specs.Supported.{IsSupported}
-use Rattle.lapi_task.proofs.Forms.{no-am, no-join}
+use Rattle.lapi_task.proofs.Forms.{no-join}
 use Rattle.lapi_task.proofs.FollowerParts.{one-total}
 
--- The head of a message that takes effect by it alone, and the message's length where the head says nothing of it.
+-- The head of a message that is neither an answer of a completion handler nor joins tasks, and the message's length where the head says nothing of it.
 abbrev pub IsKind : Head → (len : ℕ) → Type 0
 IsKind (heads.Put at tgt cmpl) len = Unit {0}
 IsKind (heads.Putv tgt cmpl pieces) len = Unit {0}
+IsKind (heads.Am handler tgt cmpl header) len = Unit {0}
 IsKind (heads.GetBack dest org) len = Unit {0}
 IsKind (heads.GetvBack org dest) len = Unit {0}
 IsKind (heads.RmwBack dest org) len = len ≡ 4
@@ -43,7 +44,6 @@ IsKind (heads.Note op cmpl) len = len ≡ 0
 IsKind _ len = ⊥
 
 pub direct-is : (h : Head) (len : ℕ) → IsKind h len → IsDirect h
-direct-is (heads.Am handler tgt cmpl header) len k = k
 direct-is (heads.Echo dest cmpl) len k = k
 direct-is (heads.Gfence round) len k = k
 direct-is (heads.Addr round address) len k = k
@@ -53,36 +53,43 @@ module _ (script : Script) (rules : Rules) where
   -- Its places, the places that it asks for and its counter are there.
   pub record IsThere (h : Head) (len : ℕ) : Type 0 where
     pub pieces : SpansAreInMemory script (head_pieces h len)
-    pub total : bytes_in (head_pieces h len) ≡ len
+    pub total : is_active h ≡ false → bytes_in (head_pieces h len) ≡ len
     pub asked : SpansAreInMemory script (asked_pieces h)
     pub counter : NamesCounter script (announces h false)
 
   pub there-is : (h : Head) (len : ℕ) → IsKind h len → HeadFits script rules len h → IsThere h len
-  there-is (heads.Put at tgt cmpl) len k f = record { pieces = (f.0, tt); total = sym (one-total (record { at = at; len = len })); asked = tt; counter = f.1 }
-  there-is (heads.Putv tgt cmpl pieces) len k f = record { pieces = f.0; total = f.1; asked = tt; counter = f.2 }
-  there-is (heads.GetBack dest org) len k f = record { pieces = (f.0, tt); total = sym (one-total (record { at = dest; len = len })); asked = tt; counter = f.1 }
-  there-is (heads.GetvBack org dest) len k f = record { pieces = f.0; total = f.1; asked = tt; counter = f.2 }
-  there-is (heads.RmwBack dest org) len k f = record { pieces = ((let l = f.0.0 in omega (arith, l, k)), tt); total = sym (one-total (record { at = dest; len = len })); asked = tt; counter = f.1 }
-  there-is (heads.GetGo asked source dest tgt org) len k f = record { pieces = tt; total = sym k; asked = (f.0, tt); counter = f.2 }
-  there-is (heads.GetvGo tgt org source dest) len k f = record { pieces = tt; total = sym k; asked = f.0; counter = f.3 }
-  there-is (heads.RmwGo op at in1 in2 prev org) len k f = record { pieces = tt; total = sym k; asked = (f.0.0, tt); counter = tt }
-  there-is (heads.Note op cmpl) len k f = record { pieces = tt; total = sym k; asked = tt; counter = f }
+  there-is (heads.Put at tgt cmpl) len k f = record { pieces = (f.0, tt); total = λ _. sym (one-total (record { at = at; len = len })); asked = tt; counter = f.1 }
+  there-is (heads.Putv tgt cmpl pieces) len k f = record { pieces = f.0; total = λ _. f.1; asked = tt; counter = f.2 }
+  there-is (heads.GetBack dest org) len k f = record { pieces = (f.0, tt); total = λ _. sym (one-total (record { at = dest; len = len })); asked = tt; counter = f.1 }
+  there-is (heads.GetvBack org dest) len k f = record { pieces = f.0; total = λ _. f.1; asked = tt; counter = f.2 }
+  there-is (heads.RmwBack dest org) len k f = record { pieces = ((let l = f.0.0 in omega (arith, l, k)), tt); total = λ _. sym (one-total (record { at = dest; len = len })); asked = tt; counter = f.1 }
+  there-is (heads.GetGo asked source dest tgt org) len k f = record { pieces = tt; total = λ _. sym k; asked = (f.0, tt); counter = f.2 }
+  there-is (heads.GetvGo tgt org source dest) len k f = record { pieces = tt; total = λ _. sym k; asked = f.0; counter = f.3 }
+  there-is (heads.RmwGo op at in1 in2 prev org) len k f = record { pieces = tt; total = λ _. sym k; asked = (f.0.0, tt); counter = tt }
+  there-is (heads.Note op cmpl) len k f = record { pieces = tt; total = λ _. sym k; asked = tt; counter = f }
+  there-is (heads.Am handler tgt cmpl header) len k f = record { pieces = tt; total = λ e. absurd (false≢true (sym e)); asked = tt; counter = f.1 }
   there-is _ len k f = absurd k
 
-  kind-by : (answers : Bool) (m : MsgName) (leg : Leg) (s : Statement) → has_leg script answers m.origin leg s ≡ true → is_am s ≡ false → has_join s ≡ false → answers ≡ false → IsKind (head_by script m leg s) (length_by leg s)
-  kind-by ans m Go (statements.Put task to from len tgt org cmpl) g am join none = tt
-  kind-by ans m Go (statements.Get task from to len tgt org) g am join none = refl
-  kind-by ans m Go (statements.Putv task to from tgt org cmpl) g am join none = tt
-  kind-by ans m Go (statements.Getv task from to tgt org) g am join none = refl
-  kind-by ans m Go (statements.Rmw task op at in1 in2 prev org) g am join none = refl
-  kind-by ans m Go (statements.Am task handler header from len tgt org cmpl) g am join none = absurd (false≢true (sym am))
-  kind-by ans m Back (statements.Get task from to len tgt org) g am join none = tt
-  kind-by ans m Back (statements.Getv task from to tgt org) g am join none = tt
-  kind-by ans m Back (statements.Rmw task op at in1 in2 prev org) g am join none = refl
-  kind-by ans m Note s g am join none = refl
-  kind-by ans m Echo s g am join none = absurd (false≢true (sym none ∙ g))
-  kind-by ans m (Join d) s g am join none = absurd (false≢true (sym join ∙ (and_parts (has_join s) _ g).0))
-  kind-by ans m _ s g am join none = absurd (false≢true g)
+  -- a counter that its landing announces is there, with a completion or without
+  pub counter-later : (h : Head) (completion : Bool) → NamesCounter script (announces h false) → NamesCounter script (announces h completion)
+  counter-later (heads.Am handler tgt cmpl header) true f = tt
+  counter-later (heads.Am handler tgt cmpl header) false f = f
+  counter-later _ completion f = f
+
+  kind-by : (answers : Bool) (m : MsgName) (leg : Leg) (s : Statement) → has_leg script answers m.origin leg s ≡ true → has_join s ≡ false → answers ≡ false → IsKind (head_by script m leg s) (length_by leg s)
+  kind-by ans m Go (statements.Put task to from len tgt org cmpl) g join none = tt
+  kind-by ans m Go (statements.Get task from to len tgt org) g join none = refl
+  kind-by ans m Go (statements.Putv task to from tgt org cmpl) g join none = tt
+  kind-by ans m Go (statements.Getv task from to tgt org) g join none = refl
+  kind-by ans m Go (statements.Rmw task op at in1 in2 prev org) g join none = refl
+  kind-by ans m Go (statements.Am task handler header from len tgt org cmpl) g join none = tt
+  kind-by ans m Back (statements.Get task from to len tgt org) g join none = tt
+  kind-by ans m Back (statements.Getv task from to tgt org) g join none = tt
+  kind-by ans m Back (statements.Rmw task op at in1 in2 prev org) g join none = refl
+  kind-by ans m Note s g join none = refl
+  kind-by ans m Echo s g join none = absurd (false≢true (sym none ∙ g))
+  kind-by ans m (Join d) s g join none = absurd (false≢true (sym join ∙ (and_parts (has_join s) _ g).0))
+  kind-by ans m _ s g join none = absurd (false≢true g)
 
   -- A packet that comes: what the record says of it, and its head.
   pub record Comes (r : Run) (a t : ℕ) (p : DataPacket) : Type 0 where
@@ -96,7 +103,7 @@ module _ (script : Script) (rules : Rules) where
       let f = facts script rules r is a t k p at in
       let m = p.name in
       let s = statement script m.origin m.statement in
-      let kind = kind-by (answers script rules m.origin m.statement) m m.leg s f.leg (no-am script performed m.origin m.statement) (no-join script performed m.origin m.statement) (no-answers script rules performed.valid ok m) in
+      let kind = kind-by (answers script rules m.origin m.statement) m m.leg s f.leg (no-join script performed m.origin m.statement) (no-answers script rules performed.valid ok m) in
       record {
         facts = f;
         kind = subst (λ (h : Head). IsKind h p.length) (sym f.head) (subst (IsKind (head_by script m m.leg s)) (sym f.size) kind);

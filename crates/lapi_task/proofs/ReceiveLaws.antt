@@ -1,7 +1,8 @@
 -- What the delivery of a data packet makes of its task.
-use Rattle.std.proofs.Common.{◌≡◌, ◌+◌, ◌≤◌, ℕ, ◌<◌, ◌==◌, Bool, true, false, cond, ◌&&◌, ◌||◌, List, [], ◌∷◌, ◌++◌, map, length, slice_set, Option, Some, None, refl, sym, ap, ◌∙◌, subst, ⊎_elim, arith}
+use Rattle.std.proofs.Common.{◌≡◌, ◌+◌, ◌≤◌, ℕ, ◌<◌, ◌==◌, Bool, true, false, cond, ◌&&◌, ◌||◌, List, [], ◌∷◌, ◌++◌, map, length, slice_set, Option, Some, None, refl, sym, ap, ◌∙◌, subst, ⊎_elim, arith, append_assoc}
 use Rattle.std.specs.Prelude.{slice_get}
 use Rattle.std.specs.List.{list_any}
+use Rattle.std.specs.Option.{option_or}
 use Rattle.std.proofs.lemmas.Bool.{cond-true, cond-false, cond_both, cases_eq, and_from, and_left, and_right, and_parts, ne_eqb}
 use Rattle.std.proofs.lemmas.List.Elements.{All-from_recursion}
 use Rattle.std.specs.Vec.{with_items}
@@ -12,55 +13,57 @@ use Rattle.lapi_base.specs.declared.script.Script.{Script}
 use Rattle.lapi_base.specs.declared.rule.Rules.{Rules}
 use Rattle.lapi_base.specs.declared.event.Event.{Event}
 use Rattle.lapi_base.specs.declared.event.Event.TheVariants.{Land}
+use Rattle.lapi_base.specs.declared.handler.HeaderOut.{HeaderOut}
 use Rattle.lapi_base.specs.declared.head.Head.{Head}
 use Rattle.lapi_base.specs.declared.message.MsgName.{MsgName}
 use Rattle.lapi_base.specs.declared.packet.Packet.{Packet}
 use Rattle.lapi_base.specs.declared.packet.Packet.TheVariants.{Data}
 use Rattle.lapi_base.specs.declared.packet.DataPacket.{DataPacket}
 use Rattle.lapi_base.specs.declared.reply.Reply.TheVariants.{Did}
-use Rattle.lapi_base.specs.Record.Arrived.{ack_of}
+use Rattle.lapi_base.specs.Record.Arrived.{ack_of, has_some}
 use Rattle.lapi_base.specs.Record.Atomic.{Atomic}
 use Rattle.lapi_base.specs.Laws.Landing.{completes}
 use Rattle.lapi_base.specs.Record.HeadSays.{announces, head_pieces, asked_pieces}
 use Rattle.lapi_base.specs.Record.Values.{memory_bytes}
 use Rattle.lapi_base.specs.declared.span.Span.{Span}
 use Rattle.lapi_base.specs.Record.Wires.{Run, is_number, has_number, has_ack, is_delivered}
-use Rattle.lapi_base.specs.Record.Acts.{followed, first_delivery, hand_over, deliver_entry, deliver}
+use Rattle.lapi_base.specs.Record.Acts.{followed, hand_over, deliver_entry, deliver}
+use Rattle.lapi_base.specs.Record.Valid.{ValidScript}
+use Rattle.lapi_base.specs.declared.layout.TheConstants.{LONGEST_ACTIVE}
 use Rattle.lapi_base.specs.Laws.Receiving.{NamesCounter, SpansAreInMemory}
 use Rattle.lapi_base.specs.Packet.PacketBytes as written
 use Rattle.lapi_base.proofs.ListLaws.{get-set, get-set-other}
 use Rattle.lapi_base.proofs.TestLaws.{eqb-refl}
 use Rattle.lapi_laws.proofs.Lines.{deliver-sound}
 use Rattle.lapi_reassembly.specs.declared.message.Message.{Message}
-use Rattle.lapi_link.specs.declared.arrival.Arrival.{Arrival}
-use Rattle.lapi_link.specs.Receiver.{ReceivingEnd, ReceivesFor, MayArrive, answer_of, IsUnanswered, arrival_of}
+use Rattle.lapi_link.specs.Receiver.{ReceivingEnd, ReceivesFor, MayArrive, answer_of, arrival_of}
 use Rattle.lapi_link.specs.Sender.{entries_to}
 use Rattle.lapi_parts.proofs.ArrivingPackets.{arrivals-told, next-acks-told}
 use Rattle.lapi_parts.proofs.Records.{record-sound}
 use Rattle.lapi_vector.specs.Pieces.{AreWithin}
 use Rattle.lapi_task.specs.declared.outcome.Outcome.{Outcome}
 use Rattle.lapi_task.specs.declared.task.Task.{Task}
-use Rattle.lapi_task.specs.Acknowledging.{HasTaken, answer}
+use Rattle.lapi_task.specs.Acknowledging.{ReceivesAt, HasTaken, answer}
 use Rattle.lapi_task.specs.HasEffect.{IsAt, HasEffect, bytes_to}
-use Rattle.lapi_task.specs.Landed.{IsDirect, Follower, follower, MayLeave, ends_after, events_of, ArrivalMayLand, HasArrived, MayTake, HasCome, landed}
+use Rattle.lapi_task.specs.Landed.{IsDirect, Follower, follower, MayLeave, MayCall, called, is_first, kept_now, ends_after, events_of, ArrivalMayLand, HasArrived, MayTake, HasCome, landed}
+use Rattle.lapi_task.specs.Answered.{KeepsAnswers, completes_in}
 use Rattle.lapi_task.specs.declared.state.State.{State}
 use Rattle.lapi_task.specs.StandsFor.{task_unit}
 use Rattle.lapi_task.proofs.CopyLaws.{unit-is}
 use Rattle.lapi_task.proofs.ReceiveHolds.{Lands}
-use Rattle.lapi_base.specs.Packet.Layout.{layout_of, unit, unit_of}
+use Rattle.lapi_base.specs.Packet.Layout.{layout_of, unit, unit_of, longest_of, longest_active_of, longest_active as most_active}
 use Rattle.lapi_parts.proofs.FirstLayout.{first-unit}
 use Rattle.lapi_task.specs.StandsFor.{SenderAt, ReceiverAt}
 use Rattle.lapi_task.proofs.ArrivingFits.{arriving-fits}
-use Rattle.lapi_task.proofs.Jobless.{mild-leaves}
-use Rattle.lapi_task.proofs.JobsStay.{queue-followed}
-use Rattle.lapi_task.proofs.ReceiveEvents.{come, come-is, come-events, came_bytes, come-mild, mild-all}
-use Rattle.lapi_task.proofs.ReceiveHolds.{came-length, holds-arrived}
-use Rattle.lapi_task.proofs.ReceiveKinds.{Comes, comes as what-comes, IsThere, there-is, direct-is}
-use Rattle.lapi_task.proofs.Followers.{Follows, may-leave, copied-then, follower-is}
+use Rattle.lapi_task.proofs.HeaderAnswers.{is-told}
+use Rattle.lapi_task.proofs.ReceiveEvents.{come, come-is, come-told, come-events, first-is, is_opening, came_bytes}
+use Rattle.lapi_task.proofs.ReceiveHolds.{came-length, holds-arrived, answer_now, handlers_now, lands_now, events_now}
+use Rattle.lapi_task.proofs.ReceiveKinds.{Comes, comes as what-comes, IsThere, there-is, direct-is, counter-later}
+use Rattle.lapi_task.proofs.Followers.{Follows, follower-is, follower-leaves}
 use Rattle.lapi_task.proofs.FollowerParts.{total-is}
 use Rattle.lapi_task.proofs.ReceiveLinks.{told, Settled, ends-come, ends-length}
 use Rattle.lapi_task.proofs.SenderLaws.{bytes-here, bytes-there}
-use Rattle.lapi_task.proofs.Unanswered.{still-unanswered}
+use Rattle.lapi_task.proofs.KeptAnswers.{kept-by, kept-before, still-kept}
 use Rattle.lapi_task.proofs.StepMemories.{memory-length}
 use Rattle.lapi_parts.proofs.FirstLayout.{holds-nothing, told-at-once}
 
@@ -73,25 +76,22 @@ pub record KeepsRest (before after : Task) : Type 0 where
   pub senders : after.senders.items ≡ before.senders.items
 
 -- what the end of the link from task a did with the packet, and what came of it
-abbrev pub Takes : (a : ℕ) → DataPacket → (before after : List ReceivingEnd) → Type 0
-Takes a p before after = (end : ReceivingEnd) → slice_get before a ≡ Some end → HasCome before after a p end
+abbrev pub Takes : (a : ℕ) → DataPacket → (now : Option HeaderOut) → (came : Option Message) → (events events_then : List Event) → (before after : List ReceivingEnd) → Type 0
+Takes a p now came events events_then before after = (end : ReceivingEnd) → slice_get before a ≡ Some end → HasCome before after a p now came events events_then end
 
-abbrev pub Tells : (a : ℕ) → DataPacket → Arrival → List ReceivingEnd → Type 0
-Tells a p first_delivery ends = (end : ReceivingEnd) (script : Script) (ps : List Packet) → slice_get ends a ≡ Some end → ReceivesFor script end ps → MayArrive script ps p → first_delivery ≡ arrival_of script ps p (answer_of end p.name)
-
-pub takes-over : {Z : Type 0} (v : Vec ReceivingEnd Z) (a : ℕ) (p : DataPacket) (before after : List ReceivingEnd) → before ≡ v.items → Takes a p before after → Takes a p v.items (with_items v after).items
-takes-over v a p before after e h = λ end here.
+pub takes-over : {Z : Type 0} (v : Vec ReceivingEnd Z) (a : ℕ) (p : DataPacket) (now : Option HeaderOut) (came : Option Message) (events events_then : List Event) (before after : List ReceivingEnd) → before ≡ v.items → Takes a p now came events events_then before after → Takes a p now came events events_then v.items (with_items v after).items
+takes-over v a p now came events events_then before after e h = λ end here.
     let x = h end (ap (λ ends. slice_get ends a) e ∙ here) in
     let count = ap length x.ends ∙ length-set before a x.end ∙ ap length e ∙ sym v.ok.0 in
-    subst (λ ends. HasCome v.items ends a p end) (sym (with_items_is v after count)) (subst (λ ends. HasCome ends after a p end) e x)
+    subst (λ ends. HasCome v.items ends a p now came events events_then end) (sym (with_items_is v after count)) (subst (λ ends. HasCome ends after a p now came events events_then end) e x)
 
 or-none : (x : Bool) → (x || (false || false)) ≡ x
 or-none true = refl
 or-none false = refl
 
-receiver-there : (script : Script) (ps : List Packet) (o : Option ReceivingEnd) → ReceiverAt script ps o → (end : ReceivingEnd) × (o ≡ Some end) × (ReceivesFor script end ps × IsUnanswered end)
-receiver-there script ps None h = absurd h
-receiver-there script ps (Some end) h = (end, refl, h)
+receiver-there : (script : Script) (rules : Rules) (ps : List Packet) (o : Option ReceivingEnd) → ReceiverAt script rules ps o → (end : ReceivingEnd) × (o ≡ Some end) × (ReceivesFor script end ps × KeepsAnswers rules end)
+receiver-there script rules ps None h = absurd h
+receiver-there script rules ps (Some end) h = (end, refl, h)
 
 module _ (script : Script) (rules : Rules) where
   -- The record after a packet was handed over, but for its journal.
@@ -139,17 +139,17 @@ module _ (script : Script) (rules : Rules) where
       ∙ ap (λ xs. map written.packet old ++ xs) (sym (bytes-there a b bytes (ne_eqb a b (λ e. apart (sym e))))))
       (cases_eq b a)
 
-  handed-ends : (r : Run) (a t : ℕ) (p : DataPacket) (q : Packet) (ends after : List ReceivingEnd) (old new : ReceivingEnd) → slice_get ends a ≡ Some old → after ≡ slice_set ends a new → ReceivesFor script new (Data p ∷ r.handed a t) × IsUnanswered new → ((x : ℕ) → x < script.tasks → ReceiverAt script (r.handed x t) (slice_get ends x)) → (x : ℕ) → x < script.tasks → ReceiverAt script ((handed_on r a t p q).handed x t) (slice_get after x)
+  handed-ends : (r : Run) (a t : ℕ) (p : DataPacket) (q : Packet) (ends after : List ReceivingEnd) (old new : ReceivingEnd) → slice_get ends a ≡ Some old → after ≡ slice_set ends a new → ReceivesFor script new (Data p ∷ r.handed a t) × KeepsAnswers rules new → ((x : ℕ) → x < script.tasks → ReceiverAt script rules (r.handed x t) (slice_get ends x)) → (x : ℕ) → x < script.tasks → ReceiverAt script rules ((handed_on r a t p q).handed x t) (slice_get after x)
   handed-ends r a t p q ends after old new here set stands all x l =
-      subst (λ xs. ReceiverAt script ((handed_on r a t p q).handed x t) (slice_get xs x)) (sym set)
+      subst (λ xs. ReceiverAt script rules ((handed_on r a t p q).handed x t) (slice_get xs x)) (sym set)
       (⊎_elim
       (λ (same : x ≡ a).
-      subst (λ y. ReceiverAt script ((handed_on r a t p q).handed y t) (slice_get (slice_set ends a new) y)) (sym same)
-      (subst (λ ps. ReceiverAt script ps (slice_get (slice_set ends a new) a)) (sym (cond-true (a == a && t == t) (Data p ∷ r.handed a t) (r.handed a t) (and_from (a == a) (t == t) (eqb-refl a) (eqb-refl t))))
-      (subst (ReceiverAt script (Data p ∷ r.handed a t)) (sym (get-set ends a old new here)) stands)))
+      subst (λ y. ReceiverAt script rules ((handed_on r a t p q).handed y t) (slice_get (slice_set ends a new) y)) (sym same)
+      (subst (λ ps. ReceiverAt script rules ps (slice_get (slice_set ends a new) a)) (sym (cond-true (a == a && t == t) (Data p ∷ r.handed a t) (r.handed a t) (and_from (a == a) (t == t) (eqb-refl a) (eqb-refl t))))
+      (subst (ReceiverAt script rules (Data p ∷ r.handed a t)) (sym (get-set ends a old new here)) stands)))
       (λ (apart : x ≡ a → ⊥).
-      subst (λ ps. ReceiverAt script ps (slice_get (slice_set ends a new) x)) (sym (cond-false (x == a && t == t) (Data p ∷ r.handed x t) (r.handed x t) (and_left (x == a) (t == t) (ne_eqb x a apart))))
-      (subst (ReceiverAt script (r.handed x t)) (sym (get-set-other ends a x new apart)) (all x l)))
+      subst (λ ps. ReceiverAt script rules ps (slice_get (slice_set ends a new) x)) (sym (cond-false (x == a && t == t) (Data p ∷ r.handed x t) (r.handed x t) (and_left (x == a) (t == t) (ne_eqb x a apart))))
+      (subst (ReceiverAt script rules (r.handed x t)) (sym (get-set-other ends a x new apart)) (all x l)))
       (cases_eq x a))
 
   -- ---- what a message finds at its task
@@ -161,27 +161,34 @@ module _ (script : Script) (rules : Rules) where
   pieces-there : (pieces : List Span) (memory : List ℕ) → length memory ≡ script.memory → SpansAreInMemory script pieces → AreWithin pieces (length memory)
   pieces-there pieces memory e h = subst (AreWithin pieces) (sym e) (All-from_recursion (λ (p : Span). p.at + p.len ≤ script.memory) pieces h)
 
-  suits-come : (unit t a : ℕ) (whole : Bool) (m : MsgName) (h : Head) (len : ℕ) (bytes memory counters : List ℕ) → IsDirect h → IsThere script rules h len → (whole ≡ true → length bytes ≡ len) → length memory ≡ script.memory → length counters ≡ script.counters → (whole ≡ true → (x : Follower) → follower t a m h memory ≡ Some x → MayLeave unit x) → ArrivalMayLand unit t a (come whole m h bytes) memory counters
-  suits-come unit t a false m h len bytes memory counters direct there size places count leaves = tt
-  suits-come unit t a true m h len bytes memory counters direct there size places count leaves =
+  suits-come : (unit t a count : ℕ) (whole : Bool) (m : MsgName) (h : Head) (len : ℕ) (bytes : List ℕ) (out : Option HeaderOut) (memory counters : List ℕ) → IsDirect h → IsThere script rules h len → (whole ≡ true → length bytes ≡ len) → length memory ≡ script.memory → length counters ≡ script.counters → (whole ≡ true → (x : Follower) → follower t a m h (completes_in count out) memory ≡ Some x → MayLeave unit x) → ArrivalMayLand unit t a count (come whole m h bytes out) memory counters
+  suits-come unit t a count false m h len bytes out memory counters direct there size places known leaves = tt
+  suits-come unit t a count true m h len bytes out memory counters direct there size places known leaves =
       let own : IsThere script rules h (length bytes) = subst (IsThere script rules h) (sym (size refl)) there in
       record {
         direct = direct;
         pieces = pieces-there (head_pieces h (length bytes)) memory places own.pieces;
-        total = total-is (head_pieces h (length bytes)) ∙ own.total;
+        total = λ off. total-is (head_pieces h (length bytes)) ∙ own.total off;
         asked = pieces-there (asked_pieces h) memory places own.asked;
-        counter = counter-there (announces h false) counters own.counter count;
+        counter = counter-there (announces h (completes_in count out)) counters (counter-later script rules h (completes_in count out) own.counter) known;
         leaves = leaves refl;
       }
 
   -- ---- a delivery
 
+  first-active : ValidScript script → longest_active_of script ≡ LONGEST_ACTIVE
+  unfolding longest_active_of
+  first-active valid = ap (λ n. most_active (layout_of n)) valid.layout
+
   module _ (t : ℕ) (r : Run) (task : Task) (at : IsAt script rules t task r) (a k : ℕ) (known_task : a < script.tasks) (p : DataPacket) (entry : slice_get (r.wire a t) k ≡ Some (Data p)) where
     abbrev arrives : Option Message
-    arrives = come (completes script rules r a t p) p.name p.head (came_bytes script (r.handed a t) p)
+    arrives = lands_now script rules t r a p
+
+    abbrev happens : List Event
+    happens = events_now script rules t r a p
 
     abbrev then : List Event
-    then = followed r.journal (events_of arrives)
+    then = followed r.journal happens
 
     packet-comes : Comes script rules r a t p
     packet-comes = what-comes script rules at.stands.calls.supported at.stands.calls.rules_valid r a t k p at.recorded entry
@@ -189,11 +196,24 @@ module _ (script : Script) (rules : Rules) where
     direct : IsDirect p.head
     direct = direct-is p.head p.length packet-comes.kind
 
-    end-there : (end : ReceivingEnd) × (slice_get task.receivers.items a ≡ Some end) × (ReceivesFor script end (r.handed a t) × IsUnanswered end)
-    end-there = receiver-there script (r.handed a t) (slice_get task.receivers.items a) (at.stands.receivers a known_task)
+    fits : MayArrive script (r.handed a t) p
+    fits = arriving-fits script rules at.stands.calls.supported at.stands.calls.rules_valid r a t k p at.recorded entry
+
+    end-there : (end : ReceivingEnd) × (slice_get task.receivers.items a ≡ Some end) × (ReceivesFor script end (r.handed a t) × KeepsAnswers rules end)
+    end-there = receiver-there script rules (r.handed a t) (slice_get task.receivers.items a) (at.stands.receivers a known_task)
 
     pub may-take : MayTake task.receivers.items a p
-    may-take = record { end = end-there.0; there = end-there.1; script = script; packets = r.handed a t; stands = end-there.2.0; fits = arriving-fits script rules at.stands.calls.supported at.stands.calls.rules_valid r a t k p at.recorded entry }
+    may-take = record { end = end-there.0; there = end-there.1; script = script; packets = r.handed a t; stands = end-there.2.0; fits = fits }
+
+    pub may-call : MayCall p
+    may-call =
+        let valid = at.stands.calls.supported.valid in
+        let tasks : script.tasks ≤ 8 = valid.tasks.1 in
+        let own = packet-comes.fits.origin in
+        record {
+          origin = omega (arith, tasks, own);
+          length = λ on. subst (λ n. p.length ≤ n) (ap (λ b. cond b (longest_active_of script) (longest_of script)) on ∙ first-active valid) packet-comes.fits.short;
+        }
 
     abbrev next_run : Run
     next_run = told script rules (handed_on r a t p (ack_of script (Data p ∷ r.handed a t) a t)) then
@@ -202,7 +222,8 @@ module _ (script : Script) (rules : Rules) where
     unfolding deliver hand_over
     delivered =
         let q = next-acks-told script rules r at.recorded a t k p entry in
-        let es = ap (λ es. cond (is_delivered r a t p.seq) [] es) (arrivals-told script rules r at.recorded a t k p entry) ∙ come-events script rules (r.handed a t) p direct (is_delivered r a t p.seq) in
+        let answers = is-told script rules r at.recorded a t k p entry in
+        let es = ap (λ es. cond (is_delivered r a t p.seq) [] es) (arrivals-told script rules r at.recorded a t k p entry) ∙ come-events script rules (r.handed a t) p (answer_now script rules t p) (handlers_now script rules t) answers.completes (is_delivered r a t p.seq) in
         let held = holds-nothing script at.stands.calls.supported.valid in
         let once = λ (told : Packet). told-at-once script rules at.stands.calls.supported.valid told in
         ap (deliver_entry script rules r a t) entry
@@ -217,9 +238,6 @@ module _ (script : Script) (rules : Rules) where
     atomic : Atomic script rules then
     atomic = subst (λ (x : Run). Atomic script rules x.journal) delivered (deliver-sound script rules r a t k (record-sound script rules r at.recorded)).atomic
 
-    pub arrival-is : (first_delivery : Arrival) → Tells a p first_delivery task.receivers.items → landed first_delivery ≡ arrives
-    arrival-is first_delivery h = ap landed (h end-there.0 script (r.handed a t) end-there.1 end-there.2.0 (arriving-fits script rules at.stands.calls.supported at.stands.calls.rules_valid r a t k p at.recorded entry)) ∙ come-is script (r.handed a t) p (answer_of end-there.0 p.name)
-
     unit-then : (mid : Task) → KeepsRest task mid → task_unit mid ≡ unit_of script
     unit-then mid g = ap (λ (z : _). unit (layout_of z.layout)) g.sizes ∙ unit-is script rules t task at.stands.calls
 
@@ -227,30 +245,13 @@ module _ (script : Script) (rules : Rules) where
     memory-there : task.state.memory ≡ memory_bytes script rules r.journal t
     memory-there = at.stands.holds.memory
 
-    follows-then : completes script rules r a t p ≡ true → (x : Follower) → follower t a p.name p.head task.state.memory ≡ Some x → Follows script rules (Land p.name ∷ r.journal) t a x
-    follows-then whole x e = follower-is script rules r a t k p at.recorded entry packet-comes whole x (ap (follower t a p.name p.head) (sym memory-there) ∙ e)
+    follows-then : completes script rules r a t p ≡ true → (x : Follower) → follower t a p.name p.head (completes_in (handlers_now script rules t) (answer_now script rules t p)) task.state.memory ≡ Some x → Follows script rules (Land p.name ∷ followed r.journal (called (is_opening (r.handed a t) p) p.name p.head)) t a x
+    follows-then whole x e = follower-is script rules r a t k p at.recorded entry packet-comes whole x (ap (follower t a p.name p.head (completes_in (handlers_now script rules t) (answer_now script rules t p))) (sym memory-there) ∙ e)
 
-    leaves : completes script rules r a t p ≡ true → (x : Follower) → follower t a p.name p.head task.state.memory ≡ Some x → MayLeave (unit_of script) x
-    unfolding followed
-    leaves whole x e =
-        may-leave script rules at.stands.calls.supported at.stands.calls.rules_valid (Land p.name ∷ r.journal) t a x (follows-then whole x e)
-        (subst (Atomic script rules) (copied-then script rules r a t k p at.recorded entry packet-comes whole (Some x) (ap (follower t a p.name p.head) (sym memory-there) ∙ e)) atomic)
-
-    pub suits-arrival : (mid : Task) (first_delivery : Arrival) → KeepsRest task mid → landed first_delivery ≡ arrives → ArrivalMayLand (task_unit mid) mid.state.number a (landed first_delivery) mid.state.memory mid.state.counters
-    suits-arrival mid first_delivery g e =
-        let h = at.stands.holds in
-        let c = packet-comes in
-        subst (λ x. ArrivalMayLand (task_unit mid) mid.state.number a x mid.state.memory mid.state.counters) (sym e)
-        (subst (λ (x : State). ArrivalMayLand (task_unit mid) x.number a arrives x.memory x.counters) (sym g.state)
-        (subst (λ n. ArrivalMayLand (task_unit mid) n a arrives task.state.memory task.state.counters) (sym h.number)
-        (subst (λ u. ArrivalMayLand u t a arrives task.state.memory task.state.counters) (sym (unit-then mid g))
-        (suits-come (unit_of script) t a (completes script rules r a t p) p.name p.head p.length (came_bytes script (r.handed a t) p) task.state.memory task.state.counters
-        direct
-        (there-is script rules p.head p.length c.kind c.fits.head)
-        (λ whole. came-length script rules t r a p c (and_parts _ _ whole).1)
-        (ap length h.memory ∙ memory-length script rules r.journal t)
-        h.counter_count
-        leaves))))
+    leaves : (later : Bool) → completes script rules r a t p ≡ true → (x : Follower) → follower t a p.name p.head later task.state.memory ≡ Some x → MayLeave (unit_of script) x
+    leaves later whole x e =
+        follower-leaves script rules r a t k p at.recorded entry packet-comes whole at.stands.calls.supported at.stands.calls.rules_valid atomic later x
+        (ap (follower t a p.name p.head later) (sym memory-there) ∙ e)
 
     pub room-there : (mid : Task) → KeepsRest task mid → task_unit mid ≤ 256
     room-there mid g = let e = unit-then mid g in let u = first-unit script at.stands.calls.supported.valid in omega (arith, e, u)
@@ -258,56 +259,113 @@ module _ (script : Script) (rules : Rules) where
     pub link-there : (mid : Task) → KeepsRest task mid → a < length mid.senders.items
     link-there mid g = let n = ap length g.senders ∙ at.stands.sender_count in let l = known_task in omega (arith, n, l)
 
-    receives : (mid after : Task) → Takes a p task.receivers.items mid.receivers.items → after.receivers.items ≡ mid.receivers.items → (end : ReceivingEnd) × (after.receivers.items ≡ slice_set task.receivers.items a end) × (ReceivesFor script end (Data p ∷ r.handed a t) × IsUnanswered end)
-    receives mid after took same =
-        let x = took end-there.0 end-there.1 in
-        (x.end, same ∙ x.ends, (x.stands script (r.handed a t) end-there.2.0 (arriving-fits script rules at.stands.calls.supported at.stands.calls.rules_valid r a t k p at.recorded entry), still-unanswered end-there.0 x.end end-there.2.1 x.answers))
+    -- what the end of its link did with it
+    module _ (mid : Task) (g : KeepsRest task mid) (now : Option HeaderOut) (came : Option Message) (before during : List Event) (took : Takes a p now came before during task.receivers.items mid.receivers.items) where
+      own : HasCome task.receivers.items mid.receivers.items a p now came before during end-there.0
+      own = took end-there.0 end-there.1
 
-    pub has-taken : (mid after : Task) (first_delivery : Arrival) (old new : List Event) → KeepsRest task mid → Takes a p task.receivers.items mid.receivers.items → HasArrived a (landed first_delivery) mid after old new → HasTaken script t after a (Data p ∷ r.handed a t)
-    has-taken mid after first_delivery old new g took h =
-        let x = receives mid after took (ap (λ (x : Task). x.receivers.items) h.rest) in
-        record {
-          performed = at.stands.calls.supported;
-          number = ap (λ (x : Task). x.state.number) h.rest ∙ ap (λ (x : State). x.number) g.state ∙ at.stands.holds.number;
-          known = at.known;
-          from_known = known_task;
-          receiver = subst (ReceiverAt script (Data p ∷ r.handed a t)) (sym (ap (λ xs. slice_get xs a) x.1 ∙ get-set task.receivers.items a end-there.0 x.0 end-there.1)) x.2;
-        }
+      stands-mid : ReceivesFor script own.mid (Data p ∷ r.handed a t)
+      stands-mid = own.stands script (r.handed a t) end-there.2.0 fits
 
-    pub arrived-does : (mid after : Task) (first_delivery : Arrival) (old new : Outcome) → KeepsRest task mid → landed first_delivery ≡ arrives → Takes a p task.receivers.items mid.receivers.items → HasArrived a (landed first_delivery) mid after old.events new.events → new.entries ≡ old.entries ++ answer script (Data p ∷ r.handed a t) a t ∷ [] → HasEffect script rules t r (deliver script rules r a t k) after old new
-    arrived-does mid after first_delivery old new g e took h added =
-        let ps = Data p ∷ r.handed a t in
-        let q = ack_of script ps a t in
-        let whole = completes script rules r a t p in
-        let bytes = came_bytes script (r.handed a t) p in
-        let c = packet-comes in
-        let s = at.stands in
-        let own : HasArrived a arrives mid after old.events new.events = subst (λ x. HasArrived a x mid after old.events new.events) e h in
-        let same = mild-all script rules t (events_of arrives) r.journal (come-mild whole p.name p.head bytes) in
-        let ends : after.senders.items ≡ ends_after (unit_of script) t a arrives task.state.memory task.senders.items = own.senders ∙ (λ i. ends_after (unit-then mid g i) ((ap (λ (x : State). x.number) g.state ∙ s.holds.number) i) a arrives (g.state i).memory (g.senders i)) in
-        let lands : Lands arrives task.state after.state = subst (λ (x : State). Lands arrives x after.state) g.state (record { memory = own.memory; counters = own.counters; rest = ap (λ (x : Task). x.state) own.rest }) in
-        let x = receives mid after took (ap (λ (x : Task). x.receivers.items) h.rest) in
-        subst (λ y. HasEffect script rules t r y after old new) (sym delivered)
-        (record {
-          events = events_of arrives;
-          entries = answer script ps a t ∷ [];
-          stands = record {
-            calls = record {
-              supported = s.calls.supported;
-              rules_valid = s.calls.rules_valid;
-              sizes = ap (λ (y : Task). y.sizes) own.rest ∙ g.sizes ∙ s.calls.sizes;
-              statements = ap (λ (y : Task). y.statements) own.rest ∙ g.statements ∙ s.calls.statements;
-              limits = ap (λ (y : Task). y.limits) own.rest ∙ g.limits ∙ s.calls.limits;
-            };
-            holds = holds-arrived script rules t r a k p at.recorded entry c then (ap (λ (y : Run). y.journal) delivered) same (queue-followed script rules t (events_of arrives) r.journal (mild-leaves script rules s.calls.supported t (events_of arrives) (come-mild whole p.name p.head bytes))) task.state after.state s.holds lands;
-            sender_count = ap length ends ∙ ends-length script rules (unit_of script) t a whole p.name p.head bytes task.state.memory task.senders.items ∙ s.sender_count;
-            receiver_count = ap length x.1 ∙ length-set task.receivers.items a x.0 ∙ s.receiver_count;
-            senders = λ b l. subst (λ xs. SenderAt script rules next_run t b (slice_get xs b)) (sym ends) (ends-come script rules r (handed_on r a t p q) a t task.senders.items (λ y. settled r a t p ps y) known_task s.senders whole p.name p.head bytes task.state.memory follows-then atomic b l);
-            receivers = handed-ends r a t p q task.receivers.items after.receivers.items end-there.0 x.0 end-there.1 x.1 x.2 s.receivers;
-          };
-          journal = refl;
-          events_added = own.events;
-          put = λ b l. wires r a t p q b;
-          entries_added = added;
-          ends = (known_task, tt);
-        })
+      arrival-told : own.arrival ≡ arrival_of script (r.handed a t) p (answer_of end-there.0 p.name)
+      arrival-told = own.told script (r.handed a t) end-there.2.0 fits
+
+      abbrev given : Option HeaderOut
+      given = cond (has_some (r.handed a t) p.name) (answer_of end-there.0 p.name) now
+
+      came-some : came ≡ come (completes script rules r a t p) p.name p.head (came_bytes script (r.handed a t) p) given
+      came-some = own.whole ∙ ap (landed now) arrival-told ∙ come-is script (r.handed a t) p (answer_of end-there.0 p.name) now
+
+      -- it may land, whatever was answered
+      pub suits-arrival : (count : ℕ) → ArrivalMayLand (task_unit mid) mid.state.number a count came mid.state.memory mid.state.counters
+      suits-arrival count =
+          let h = at.stands.holds in
+          let c = packet-comes in
+          let some = come (completes script rules r a t p) p.name p.head (came_bytes script (r.handed a t) p) given in
+          subst (λ x. ArrivalMayLand (task_unit mid) mid.state.number a count x mid.state.memory mid.state.counters) (sym came-some)
+          (subst (λ (x : State). ArrivalMayLand (task_unit mid) x.number a count some x.memory x.counters) (sym g.state)
+          (subst (λ n. ArrivalMayLand (task_unit mid) n a count some task.state.memory task.state.counters) (sym h.number)
+          (subst (λ u. ArrivalMayLand u t a count some task.state.memory task.state.counters) (sym (unit-then mid g))
+          (suits-come (unit_of script) t a count (completes script rules r a t p) p.name p.head p.length (came_bytes script (r.handed a t) p) given task.state.memory task.state.counters
+          direct
+          (there-is script rules p.head p.length c.kind c.fits.head)
+          (λ whole. came-length script rules t r a p c (and_parts _ _ whole).1)
+          (ap length h.memory ∙ memory-length script rules r.journal t)
+          h.counter_count
+          (leaves (completes_in count given))))))
+
+      stands-end : ReceivesFor script own.end (Data p ∷ r.handed a t)
+      stands-end = own.keeps.stands script (Data p ∷ r.handed a t) stands-mid
+
+      pub has-taken : (count : ℕ) (after : Task) (new : List Event) → HasArrived a count came mid after during new → HasTaken script t after a (Data p ∷ r.handed a t)
+      has-taken count after new h =
+          let same = ap (λ (x : Task). x.receivers.items) h.rest ∙ own.ends in
+          record {
+            performed = at.stands.calls.supported;
+            number = ap (λ (x : Task). x.state.number) h.rest ∙ ap (λ (x : State). x.number) g.state ∙ at.stands.holds.number;
+            known = at.known;
+            from_known = known_task;
+            receiver = subst (ReceivesAt script (Data p ∷ r.handed a t)) (sym (ap (λ xs. slice_get xs a) same ∙ get-set task.receivers.items a end-there.0 own.end end-there.1)) stands-end;
+          }
+
+      -- where this is answered by the handlers of the record
+      module _ (answered : now ≡ answer_now script rules t p) where
+        given-is : has_number (r.handed a t) p.seq ≡ false → given ≡ answer_now script rules t p
+        given-is fresh =
+            elim (has_some (r.handed a t) p.name) as (λ b. has_some (r.handed a t) p.name ≡ b → cond b (answer_of end-there.0 p.name) now ≡ answer_now script rules t p) [
+              | true ↦ λ e. kept-by script rules (r.handed a t) end-there.0 end-there.2.0 end-there.2.1 p.name ∙ kept-before script rules (r.handed a t) p fits fresh e
+              | false ↦ λ e. answered
+            ] refl
+
+        came-now : came ≡ arrives
+        came-now = came-some ∙ come-told script (r.handed a t) p given (answer_now script rules t p) given-is
+
+        keeps-end : KeepsAnswers rules own.end
+        keeps-end =
+            still-kept script rules (r.handed a t) p fits end-there.0 own.mid own.end end-there.2.0 end-there.2.1 stands-mid own.answers own.arrival arrival-told stands-end
+            (own.keeps.own ∙ ap (λ x. option_or (kept_now own.arrival x) (answer_of own.mid p.name)) answered)
+            own.keeps.others
+
+        pub arrived-does : (after : Task) (old new : Outcome) → before ≡ old.events → HasArrived a (handlers_now script rules t) came mid after during new.events → new.entries ≡ old.entries ++ answer script (Data p ∷ r.handed a t) a t ∷ [] → HasEffect script rules t r (deliver script rules r a t k) after old new
+        arrived-does after old new began h added =
+            let ps = Data p ∷ r.handed a t in
+            let q = ack_of script ps a t in
+            let count = handlers_now script rules t in
+            let out = answer_now script rules t p in
+            let whole = completes script rules r a t p in
+            let first = is_opening (r.handed a t) p in
+            let bytes = came_bytes script (r.handed a t) p in
+            let c = packet-comes in
+            let s = at.stands in
+            let mine : HasArrived a count arrives mid after during new.events = subst (λ x. HasArrived a count x mid after during new.events) came-now h in
+            let ends : after.senders.items ≡ ends_after (unit_of script) t a count arrives task.state.memory task.senders.items = mine.senders ∙ (λ i. ends_after (unit-then mid g i) ((ap (λ (x : State). x.number) g.state ∙ s.holds.number) i) a count arrives (g.state i).memory (g.senders i)) in
+            let lands : Lands count arrives task.state after.state = subst (λ (x : State). Lands count arrives x after.state) g.state (record { memory = mine.memory; counters = mine.counters; jobs = mine.jobs; few = mine.few; rest = ap (λ (x : Task). x.state) mine.rest }) in
+            let receivers = ap (λ (x : Task). x.receivers.items) mine.rest ∙ own.ends in
+            subst (λ y. HasEffect script rules t r y after old new) (sym delivered)
+            (record {
+              events = happens;
+              entries = answer script ps a t ∷ [];
+              stands = record {
+                calls = record {
+                  supported = s.calls.supported;
+                  rules_valid = s.calls.rules_valid;
+                  sizes = ap (λ (y : Task). y.sizes) mine.rest ∙ g.sizes ∙ s.calls.sizes;
+                  statements = ap (λ (y : Task). y.statements) mine.rest ∙ g.statements ∙ s.calls.statements;
+                  limits = ap (λ (y : Task). y.limits) mine.rest ∙ g.limits ∙ s.calls.limits;
+                };
+                holds = holds-arrived script rules t r a k p at.recorded entry c (ap (λ (y : Run). y.journal) delivered) atomic task.state after.state s.holds lands;
+                sender_count = ap length ends ∙ ends-length script rules (unit_of script) t a count whole p.name p.head bytes out task.state.memory task.senders.items ∙ s.sender_count;
+                receiver_count = ap length receivers ∙ length-set task.receivers.items a own.end ∙ s.receiver_count;
+                senders = λ b l. subst (λ xs. SenderAt script rules next_run t b (slice_get xs b)) (sym ends) (ends-come script rules r (handed_on r a t p q) a t task.senders.items (λ y. settled r a t p ps y) known_task s.senders count first whole p.name p.head bytes out task.state.memory follows-then atomic b l);
+                receivers = handed-ends r a t p q task.receivers.items after.receivers.items end-there.0 own.end end-there.1 receivers (stands-end, keeps-end) s.receivers;
+              };
+              journal = refl;
+              events_added =
+                  mine.events
+                  ∙ ap (λ es. es ++ events_of count arrives) (own.calls ∙ ap (λ es. es ++ called (is_first own.arrival) p.name p.head) began)
+                  ∙ ap (λ b. (old.events ++ called b p.name p.head) ++ events_of count arrives) (ap is_first arrival-told ∙ first-is script (r.handed a t) p (answer_of end-there.0 p.name))
+                  ∙ append_assoc old.events (called first p.name p.head) (events_of count arrives);
+              put = λ b l. wires r a t p q b;
+              entries_added = added;
+              ends = (known_task, tt);
+            })

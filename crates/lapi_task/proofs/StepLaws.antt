@@ -163,6 +163,7 @@ module _ (script : Script) (rules : Rules) where
     issues r t i (statements.Putv target to from tgt org cmpl) b no-wait = refl
     issues r t i (statements.Getv target from to tgt org) b no-wait = refl
     issues r t i (statements.Rmw target op at in1 in2 prev org) b no-wait = refl
+    issues r t i (statements.Am target handler header from len tgt org cmpl) b no-wait = refl
     issues r t i (statements.Set counter value) b no-wait = refl
     issues r t i (statements.Read counter) b no-wait = refl
     issues r t i (statements.Wait counter value) b no-wait = absurd (no-wait counter value refl)

@@ -1,11 +1,14 @@
 -- What the arrival of a packet makes of a task.
-use Rattle.std.specs.Prelude.{◌≡◌, ℕ, ◌*◌, ◌<◌, ◌≤◌, true, false, List, [], ◌∷◌, ◌++◌, length, slice_get, slice_set, Option, Some, None, option_map}
+use Rattle.std.specs.Prelude.{◌≡◌, ◌≢◌, ℕ, ◌*◌, ◌^◌, ◌<◌, ◌≤◌, Bool, true, false, cond, ◌&&◌, List, [], ◌∷◌, ◌++◌, length, slice_get, slice_set, Option, Some, None, option_map}
 use Rattle.std.specs.Option.{option_or}
 use Rattle.std.specs.List.{flat_map, fold}
 use Rattle.lapi_base.specs.declared.event.Event.{Event}
 use Rattle.lapi_base.specs.declared.event.Event.TheVariants.{Land}
+use Rattle.lapi_base.specs.declared.handler.HeaderOut.{HeaderOut}
 use Rattle.lapi_base.specs.declared.head.Head.{Head}
 use Rattle.lapi_base.specs.declared.head.Head.TheVariants as heads
+use Rattle.lapi_base.specs.declared.head.NoteOp.{NoteOp}
+use Rattle.lapi_base.specs.declared.layout.TheConstants.{LONGEST_ACTIVE}
 use Rattle.lapi_base.specs.declared.message.Leg.{Leg}
 use Rattle.lapi_base.specs.declared.message.Leg.TheVariants.{Back, Note}
 use Rattle.lapi_base.specs.declared.message.MsgName.{MsgName}
@@ -16,41 +19,46 @@ use Rattle.lapi_base.specs.declared.script.Script.{Script}
 use Rattle.lapi_base.specs.declared.span.Span.{Span}
 use Rattle.lapi_base.specs.Laws.Receiving.{bytes_in}
 use Rattle.lapi_base.specs.Record.Handlers.{number_of, word_bytes}
-use Rattle.lapi_base.specs.Record.HeadSays.{announces, follows, head_pieces, back_head, asked_pieces, note_head}
+use Rattle.lapi_base.specs.Record.HeadSays.{is_active, announces, follows, head_pieces, back_head, asked_pieces, note_head}
 use Rattle.lapi_base.specs.Record.Names.{message}
 use Rattle.lapi_base.specs.Record.Values.{Write, rmw_word, scattered}
 use Rattle.lapi_memory.specs.TaskMemory.{bytes_at, written}
 use Rattle.lapi_vector.specs.Pieces.{AreWithin, total_of}
 use Rattle.lapi_reassembly.specs.declared.message.Message.{Message}
+use Rattle.lapi_jobs.specs.declared.pending.Pending.{Pending}
+use Rattle.lapi_jobs.specs.Jobs.{Works}
 use Rattle.lapi_link.specs.declared.arrival.Arrival.{Arrival}
 use Rattle.lapi_link.specs.declared.arrival.Arrival.TheVariants.{Whole, Repeat, First, More, FirstWhole}
-use Rattle.lapi_link.specs.Receiver.{ReceivingEnd, ReceivesFor, MayArrive, is_partial, answer_of}
+use Rattle.lapi_link.specs.Receiver.{ReceivingEnd, ReceivesFor, MayArrive, is_partial, answer_of, arrival_of}
 use Rattle.lapi_link.specs.Sender.{SendingEnd}
+use Rattle.lapi_task.specs.Answered.{completes_in, kept_pieces, job_in}
 use Rattle.lapi_task.specs.Outgoing.{with_message, AreSpelled}
 use Rattle.lapi_task.specs.StandsFor.{task_unit}
 use Rattle.lapi_task.specs.declared.task.Task.{Task}
 use Rattle.lapi_task.specs.Counting.{announced}
 
--- a message takes effect by its head alone: no handler takes it or sent it, and it joins no tasks
+-- no completion handler sent the message, and it joins no tasks
 abbrev pub IsDirect : Head → Type 0
-IsDirect (heads.Am handler tgt cmpl header) = ⊥
 IsDirect (heads.Echo dest cmpl) = ⊥
 IsDirect (heads.Gfence round) = ⊥
 IsDirect (heads.Addr round address) = ⊥
 IsDirect _ = Unit {0}
 
--- What its landing writes: the word that it makes of the one that stood there, or its bytes, piece by piece;
-abbrev pub head_writes : Head → (bytes memory : List ℕ) → List Write
-head_writes (heads.RmwGo op at in1 in2 prev org) bytes memory =
+-- What its landing writes: the word that it makes of the one that stood there; its bytes, where the answer to its header
+-- keeps them; or its bytes, piece by piece;
+abbrev pub head_writes : Head → Option HeaderOut → (bytes memory : List ℕ) → List Write
+head_writes (heads.RmwGo op at in1 in2 prev org) out bytes memory =
     (at, word_bytes (rmw_word op (number_of (bytes_at memory at 4)) in1 in2)) ∷ []
-head_writes head bytes memory = scattered (head_pieces head (length bytes)) bytes
+head_writes (heads.Am handler tgt cmpl header) out bytes memory =
+    scattered (kept_pieces (length memory) (length bytes) out) bytes
+head_writes head out bytes memory = scattered (head_pieces head (length bytes)) bytes
 
 -- and the memory after these writes, in order.
 abbrev pub after_writes : (memory : List ℕ) → List Write → List ℕ
 after_writes memory writes = fold (λ m w. written m w.0 w.1) memory writes
 
-abbrev pub head_memory : Head → (bytes memory : List ℕ) → List ℕ
-head_memory head bytes memory = after_writes memory (head_writes head bytes memory)
+abbrev pub head_memory : Head → Option HeaderOut → (bytes memory : List ℕ) → List ℕ
+head_memory head out bytes memory = after_writes memory (head_writes head out bytes memory)
 
 -- A message that follows a landing: what its packets have in common, and its bytes.
 pub record Follower : Type 0 where
@@ -81,11 +89,16 @@ back_of t a m pieces memory head = record {
   bytes = flat_map (λ p. bytes_at memory p.at p.len) pieces;
 }
 
+-- the head of the notice that goes out with the landing: an active message with a completion has its notice later
+abbrev pub note_now : Head → (completion : Bool) → Option Head
+note_now (heads.Am handler tgt cmpl header) completion = cond completion None (option_map (heads.Note NoteOp.Am) cmpl)
+note_now head completion = note_head head
+
 -- the message that follows the landing at task t of what came from task a, if one does
-abbrev pub follower : (t a : ℕ) → MsgName → Head → (memory : List ℕ) → Option Follower
-follower t a m head memory =
+abbrev pub follower : (t a : ℕ) → MsgName → Head → (completion : Bool) → (memory : List ℕ) → Option Follower
+follower t a m head completion memory =
     option_or (option_map (back_of t a m (asked_pieces head) memory) (back_head head))
-    (option_map (note_of t a m) (note_head head))
+    (option_map (note_of t a m) (note_now head completion))
 
 -- the sending ends with its packets more at the end of its link
 abbrev pub with_follower_at : (unit : ℕ) → Follower → Option SendingEnd → List SendingEnd → List SendingEnd
@@ -103,50 +116,95 @@ pub record MayLeave (unit : ℕ) (x : Follower) : Type 0 where
   pub spelled : AreSpelled unit x.packet x.bytes
 
 -- The message may land: its places, the places that it asks for and its counter are there, and what follows may leave.
-pub record HeadMayLand (unit t a : ℕ) (m : MsgName) (head : Head) (bytes memory counters : List ℕ) : Type 0 where
+pub record HeadMayLand (unit t a : ℕ) (m : MsgName) (head : Head) (completion : Bool) (bytes memory counters : List ℕ) : Type 0 where
   pub direct : IsDirect head
   pub pieces : AreWithin (head_pieces head (length bytes)) (length memory)
-  pub total : total_of (head_pieces head (length bytes)) ≡ length bytes
+  pub total : is_active head ≡ false → total_of (head_pieces head (length bytes)) ≡ length bytes
   pub asked : AreWithin (asked_pieces head) (length memory)
-  pub counter : (c : ℕ) → announces head false ≡ Some c → c < length counters
-  pub leaves : (x : Follower) → follower t a m head memory ≡ Some x → MayLeave unit x
+  pub counter : (c : ℕ) → announces head completion ≡ Some c → c < length counters
+  pub leaves : (x : Follower) → follower t a m head completion memory ≡ Some x → MayLeave unit x
 
--- the message that is whole with a packet, whatever was answered to its header
-abbrev pub landed : Arrival → Option Message
-landed (Whole m) = Some (record m { out = None })
-landed (FirstWhole m) = Some (record m { out = None })
-landed Repeat = None
-landed First = None
-landed More = None
+-- the first fragment of a message that has come
+abbrev pub is_first : Arrival → Bool
+is_first First = true
+is_first (FirstWhole m) = true
+is_first Repeat = false
+is_first More = false
+is_first (Whole m) = false
 
--- The same of the message that is whole with a packet, if one is.
+-- the header handler is called at the first fragment of an active message
+abbrev pub called : (first : Bool) → MsgName → Head → List Event
+called first m head = cond (first && is_active head) (Event.Head m ∷ []) []
+
+-- the message that is whole with a packet, with the answer that was kept, or that is given now to its first fragment
+abbrev pub landed : Option HeaderOut → Arrival → Option Message
+landed now (Whole m) = Some m
+landed now (FirstWhole m) = Some (record m { out = now })
+landed now Repeat = None
+landed now First = None
+landed now More = None
+
+-- The same of the message that is whole with a packet, if one is, where there are so many completion handlers.
 abbrev pub memory_after : Option Message → (memory : List ℕ) → List ℕ
-memory_after (Some m) memory = head_memory m.head m.bytes memory
+memory_after (Some m) memory = head_memory m.head m.out m.bytes memory
 memory_after None memory = memory
 
-abbrev pub counters_after : Option Message → (counters : List ℕ) → List ℕ
-counters_after (Some m) counters = announced counters (announces m.head false)
-counters_after None counters = counters
+abbrev pub counters_after : (count : ℕ) → Option Message → (counters : List ℕ) → List ℕ
+counters_after count (Some m) counters = announced counters (announces m.head (completes_in count m.out))
+counters_after count None counters = counters
 
-abbrev pub ends_after : (unit t a : ℕ) → Option Message → (memory : List ℕ) → (ends : List SendingEnd) → List SendingEnd
-ends_after unit t a (Some m) memory ends = with_follower unit (follower t a m.name m.head memory) ends
-ends_after unit t a None memory ends = ends
+abbrev pub ends_after : (unit t a count : ℕ) → Option Message → (memory : List ℕ) → (ends : List SendingEnd) → List SendingEnd
+ends_after unit t a count (Some m) memory ends =
+    with_follower unit (follower t a m.name m.head (completes_in count m.out) memory) ends
+ends_after unit t a count None memory ends = ends
 
-abbrev pub events_of : Option Message → List Event
-events_of (Some m) = Land m.name ∷ follows m.head false m.name
-events_of None = []
+-- the jobs with this one more that waits
+abbrev pub with_job : Works → Option Pending → Works
+with_job jobs None = jobs
+with_job jobs (Some job) = record jobs { waiting = jobs.waiting ++ job ∷ [] }
 
-abbrev pub ArrivalMayLand : (unit t a : ℕ) → Option Message → (memory counters : List ℕ) → Type 0
-ArrivalMayLand unit t a (Some m) memory counters = HeadMayLand unit t a m.name m.head m.bytes memory counters
-ArrivalMayLand unit t a None memory counters = Unit {0}
+abbrev pub jobs_after : (size count : ℕ) → Option Message → Works → Works
+jobs_after size count (Some m) jobs = with_job jobs (job_in size count m.name m.head (length m.bytes) m.out)
+jobs_after size count None jobs = jobs
 
--- What came from task a took effect at the task.
-pub record HasArrived (a : ℕ) (arrival : Option Message) (before after : Task) (old new : List Event) : Type 0 where
+abbrev pub events_of : (count : ℕ) → Option Message → List Event
+events_of count (Some m) = Land m.name ∷ follows m.head (completes_in count m.out) m.name
+events_of count None = []
+
+abbrev pub ArrivalMayLand : (unit t a count : ℕ) → Option Message → (memory counters : List ℕ) → Type 0
+ArrivalMayLand unit t a count (Some m) memory counters =
+    HeadMayLand unit t a m.name m.head (completes_in count m.out) m.bytes memory counters
+ArrivalMayLand unit t a count None memory counters = Unit {0}
+
+-- a number of 32 bits counts the jobs that wait
+abbrev pub FewWait : Works → Type 0
+FewWait jobs = length jobs.waiting < 2 ^ 32
+
+-- What came from task a took effect at the task, where there are so many completion handlers.
+pub record HasArrived (a count : ℕ) (arrival : Option Message) (before after : Task) (old new : List Event) : Type 0 where
   pub memory : after.state.memory ≡ memory_after arrival before.state.memory
-  pub counters : after.state.counters ≡ counters_after arrival before.state.counters
-  pub senders : after.senders.items ≡ ends_after (task_unit before) before.state.number a arrival before.state.memory before.senders.items
-  pub events : new ≡ old ++ events_of arrival
-  pub rest : after ≡ record before { senders = after.senders; state = record before.state { memory = after.state.memory; counters = after.state.counters } }
+  pub counters : after.state.counters ≡ counters_after count arrival before.state.counters
+  pub jobs : after.state.jobs ≡ jobs_after (length before.state.memory) count arrival before.state.jobs
+  pub few : FewWait before.state.jobs → FewWait after.state.jobs
+  pub senders : after.senders.items ≡ ends_after (task_unit before) before.state.number a count arrival before.state.memory before.senders.items
+  pub events : new ≡ old ++ events_of count arrival
+  pub rest : after ≡ record before { senders = after.senders; state = record before.state { memory = after.state.memory; counters = after.state.counters; jobs = after.state.jobs } }
+
+-- The header handler may be given the message.
+pub record MayCall (p : DataPacket) : Type 0 where
+  pub origin : p.name.origin < 8
+  pub length : is_active p.head ≡ true → p.length ≤ LONGEST_ACTIVE
+
+-- the answer that is kept from now on: that to the first fragment of a message of which others are missing
+abbrev pub kept_now : Arrival → Option HeaderOut → Option HeaderOut
+kept_now First now = now
+kept_now _ now = None
+
+-- The end keeps the answer, and is as before but for it.
+pub record KeepsAnswer (m : MsgName) (now : Option HeaderOut) (before after : ReceivingEnd) : Type 0 where
+  pub stands : (script : Script) (packets : List Packet) → ReceivesFor script before packets → ReceivesFor script after packets
+  pub own : answer_of after m ≡ option_or now (answer_of before m)
+  pub others : (k : MsgName) → k ≢ m → answer_of after k ≡ answer_of before k
 
 -- the packet may come to the end of the link from task a
 pub record MayTake (ends : List ReceivingEnd) (a : ℕ) (p : DataPacket) : Type 0 where
@@ -157,9 +215,16 @@ pub record MayTake (ends : List ReceivingEnd) (a : ℕ) (p : DataPacket) : Type 
   pub stands : ReceivesFor script end packets
   pub fits : MayArrive script packets p
 
--- the end of the link from task a took the packet, and is now this one
-pub record HasCome (before after : List ReceivingEnd) (a : ℕ) (p : DataPacket) (old : ReceivingEnd) : Type 0 where
+-- The end of the link from task a took the packet: what came of it, and what is answered now to an active message's
+-- first fragment, which is kept while others are missing.
+pub record HasCome (before after : List ReceivingEnd) (a : ℕ) (p : DataPacket) (now : Option HeaderOut) (came : Option Message) (events events_then : List Event) (old : ReceivingEnd) : Type 0 where
+  pub arrival : Arrival
+  pub mid : ReceivingEnd
   pub end : ReceivingEnd
   pub ends : after ≡ slice_set before a end
-  pub stands : (script : Script) (packets : List Packet) → ReceivesFor script old packets → MayArrive script packets p → ReceivesFor script end (Data p ∷ packets)
-  pub answers : (m : MsgName) → is_partial end m ≡ true → answer_of end m ≡ answer_of old m
+  pub stands : (script : Script) (packets : List Packet) → ReceivesFor script old packets → MayArrive script packets p → ReceivesFor script mid (Data p ∷ packets)
+  pub told : (script : Script) (packets : List Packet) → ReceivesFor script old packets → MayArrive script packets p → arrival ≡ arrival_of script packets p (answer_of old p.name)
+  pub answers : (m : MsgName) → is_partial mid m ≡ true → answer_of mid m ≡ answer_of old m
+  pub keeps : KeepsAnswer p.name (kept_now arrival now) mid end
+  pub whole : came ≡ landed now arrival
+  pub calls : events_then ≡ events ++ called (is_first arrival) p.name p.head

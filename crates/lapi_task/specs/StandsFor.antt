@@ -13,11 +13,12 @@ use Rattle.lapi_base.specs.Record.Counters.{count, reads}
 use Rattle.lapi_base.specs.Record.Wires.{Run}
 use Rattle.lapi_base.specs.Record.Refusals.{next, refusals}
 use Rattle.lapi_base.specs.Record.Values.{memory_bytes}
-use Rattle.lapi_link.specs.Receiver.{ReceivingEnd, ReceivesFor, IsUnanswered}
+use Rattle.lapi_link.specs.Receiver.{ReceivingEnd, ReceivesFor}
 use Rattle.lapi_calls.specs.Limits.{limits_of}
 use Rattle.lapi_link.specs.Sender.{SendingEnd}
 use Rattle.lapi_base.specs.Packet.Layout.{layout_of, unit, sizes_of}
 use Rattle.lapi_base.specs.Record.Valid.{ValidRules}
+use Rattle.lapi_task.specs.Answered.{KeepsAnswers}
 use Rattle.lapi_task.specs.HasJobs.{HasJobs}
 use Rattle.lapi_task.specs.Supported.{IsSupported}
 use Rattle.lapi_task.specs.declared.state.State.{State}
@@ -32,9 +33,9 @@ abbrev pub SenderAt : Script → Rules → Run → (from to : ℕ) → Option Se
 SenderAt script rules r a b None = ⊥
 SenderAt script rules r a b (Some s) = SendsFor script rules s r a b
 
-abbrev pub ReceiverAt : Script → List Packet → Option ReceivingEnd → Type 0
-ReceiverAt script ps None = ⊥
-ReceiverAt script ps (Some s) = ReceivesFor script s ps × IsUnanswered s
+abbrev pub ReceiverAt : Script → Rules → List Packet → Option ReceivingEnd → Type 0
+ReceiverAt script rules ps None = ⊥
+ReceiverAt script rules ps (Some s) = ReceivesFor script s ps × KeepsAnswers rules s
 
 -- what a task with these sizes holds before its first line
 pub record IsNewState (sizes : Sizes) (task : ℕ) (state : State) : Type 0 where
@@ -79,7 +80,7 @@ pub record StandsFor (script : Script) (rules : Rules) (t : ℕ) (task : Task) (
   pub sender_count : length task.senders.items ≡ script.tasks
   pub receiver_count : length task.receivers.items ≡ script.tasks
   pub senders : (b : ℕ) → b < script.tasks → SenderAt script rules r t b (slice_get task.senders.items b)
-  pub receivers : (a : ℕ) → a < script.tasks → ReceiverAt script (r.handed a t) (slice_get task.receivers.items a)
+  pub receivers : (a : ℕ) → a < script.tasks → ReceiverAt script rules (r.handed a t) (slice_get task.receivers.items a)
 
 -- This holds for each record that the task stands for; it holds for one of them.
 abbrev pub ForEachRecord : Task → (Script → Rules → ℕ → Run → Type 0) → Type 0

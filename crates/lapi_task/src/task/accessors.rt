@@ -1,5 +1,5 @@
 //! What a task tells of itself, and the parts that it lends.
-ghost use Rattle.std.specs.Prelude.{◌≡◌, ℕ, ◌<◌, ◌^◌, length, slice_index};
+ghost use Rattle.std.specs.Prelude.{◌≡◌, ℕ, ◌<◌, ◌^◌, length, slice_index, option_map};
 ghost use Rattle.lapi_base.specs.declared.script.Script.{Script};
 ghost use Rattle.lapi_base.specs.declared.message.MsgName.{MsgName};
 ghost use Rattle.lapi_base.specs.Record.Counters.{count, reads};
@@ -9,7 +9,7 @@ ghost use Rattle.lapi_base.specs.Record.Refusals.{next, refusals};
 ghost use Rattle.lapi_base.specs.Record.Values.{memory_bytes};
 ghost use Rattle.lapi_window.specs.RecvWindow.{is_taken};
 ghost use Rattle.lapi_reassembly.specs.Partials.{partial};
-ghost use Rattle.lapi_link.specs.Receiver.{partial_of};
+ghost use Rattle.lapi_link.specs.Receiver.{partial_of, unanswered};
 ghost use Rattle.lapi_task.specs.Sends.{HasNumbers};
 ghost use Rattle.lapi_task.specs.StandsFor.{ForEachRecord, ForSomeRecord};
 
@@ -88,11 +88,12 @@ impl Task {
         self.receivers[a as usize].window()
     }
 
-    /// The messages from task `a` of which some fragments have come and some are missing.
+    /// The messages from task `a` of which some fragments have come and some are missing, with the answers to
+    /// the headers of active messages.
     pub fn partials(&self, a: u32) -> &Partials
         requires { ForSomeRecord self.now (λ script rules t r. a < script.tasks) }
         ensures { ForEachRecord self.now (λ script rules t r. a < script.tasks → (m : MsgName)
-            → partial result.now m ≡ partial_of script (r.handed a t) m) }
+            → option_map unanswered (partial result.now m) ≡ partial_of script (r.handed a t) m) }
     {
         self.receivers[a as usize].partials()
     }

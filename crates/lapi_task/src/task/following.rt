@@ -1,5 +1,5 @@
 //! What follows a landing: a notice that the message is complete, or an answer with what stood at its target.
-ghost use Rattle.std.specs.Prelude.{◌≡◌, ℕ, ◌<◌, ◌≤◌, false, ◌∷◌, [], ◌++◌, length, OnOk, Some, option_map};
+ghost use Rattle.std.specs.Prelude.{◌≡◌, ℕ, ◌<◌, ◌≤◌, ◌∷◌, [], ◌++◌, length, OnOk, Some, option_map};
 ghost use Rattle.lapi_base.specs.declared.head.Head.TheVariants.{GetvBack, Note};
 ghost use Rattle.lapi_base.specs.declared.layout.TheConstants.{PAYLOAD_ROOM};
 ghost use Rattle.lapi_base.specs.Record.HeadSays.{noted, answered, follows, asked_pieces};
@@ -16,8 +16,8 @@ use lapi_vector::Pieces;
 use std::alloc::Global;
 
 impl Task {
-    /// Sends what follows the landing of a message from task `from`. An answer has the bytes as they stand now, so this
-    /// comes before the message writes.
+    /// Sends what follows the landing of a message from task `from`; an active message with a completion has its notice
+    /// later. An answer has the bytes as they stand now, so this comes before the message writes.
     #[tactic(auto, unfolding(lapi_base::specs::Record::HeadSays::follows))]
     pub(super) fn follow(
         &mut self,
@@ -25,21 +25,26 @@ impl Task {
         from: u32,
         name: MsgName,
         head: &Head,
+        completion: bool,
         events: &mut Events,
     ) -> Result<(), Memory>
         requires link { (from < length self.old.senders.items) × (task_unit self.old ≤ PAYLOAD_ROOM) }
         requires head { IsDirect head.now × AreWithin (asked_pieces head.now) (length self.old.state.memory) }
         requires allowed { (x : Follower)
-            → follower self.old.state.number from name head.now self.old.state.memory ≡ Some x
+            → follower self.old.state.number from name head.now completion self.old.state.memory ≡ Some x
             → MayLeave (task_unit self.old) x }
         ensures senders { OnOk result (self.new.senders.items ≡ with_follower (task_unit self.old)
-            (follower self.old.state.number from name head.now self.old.state.memory) self.old.senders.items) }
-        ensures events { OnOk result (events.new ≡ events.old ++ follows head.now false name) }
+            (follower self.old.state.number from name head.now completion self.old.state.memory)
+            self.old.senders.items) }
+        ensures events { OnOk result (events.new ≡ events.old ++ follows head.now completion name) }
         ensures rest { self.new ≡ record self.old { senders = self.new.senders } }
     {
         match head {
             Head::Put { cmpl, .. } => self.note(alloc, from, name, NoteOp::Put, *cmpl, events),
             Head::Putv { cmpl, .. } => self.note(alloc, from, name, NoteOp::Putv, *cmpl, events),
+            Head::Am { cmpl, .. } if !completion => {
+                self.note(alloc, from, name, NoteOp::Am, *cmpl, events)
+            }
             Head::GetGo {
                 asked,
                 source,
@@ -66,18 +71,17 @@ impl Task {
                 dest,
                 ..
             } => self.answer_vector(alloc, from, name, source, *org, dest, events),
-            Head::GetBack { .. }
+            Head::Am { .. }
+            | Head::GetBack { .. }
             | Head::GetvBack { .. }
             | Head::RmwBack { .. }
             | Head::Note { .. } => Ok(()),
-            Head::Am { .. } | Head::Echo { .. } | Head::Gfence { .. } | Head::Addr { .. } => {
-                unreachable!()
-            }
+            Head::Echo { .. } | Head::Gfence { .. } | Head::Addr { .. } => unreachable!(),
         }
     }
 
     /// Tells task `from` that the message is complete, where a counter is named for it.
-    fn note(
+    pub(super) fn note(
         &mut self,
         alloc: Global,
         from: u32,

@@ -9,21 +9,23 @@ ghost use Rattle.lapi_base.specs.Record.Wires.{Run};
 ghost use Rattle.lapi_base.specs.Record.Acts.{deliver};
 ghost use Rattle.lapi_base.specs.Packet.Spelling.{Spells, decoded};
 ghost use Rattle.lapi_handlers.specs.Handlers.{rules_of};
-ghost use Rattle.lapi_link.specs.declared.arrival.Arrival.TheVariants as arrivals;
-ghost use Rattle.lapi_link.specs.Receiver.{ReceivingEnd, ReceivesFor, MayArrive, arrival_of, answer_of};
+ghost use Rattle.lapi_link.specs.Receiver.{ReceivingEnd};
+ghost use Rattle.lapi_task.specs.Answered.{answer_to};
 ghost use Rattle.lapi_task.specs.HasEffect.{IsAt, HasEffect, IsOnWire, received_as};
-ghost use Rattle.lapi_task.specs.Landed.{ArrivalMayLand, HeadMayLand, HasArrived, MayTake, HasCome, landed};
+ghost use Rattle.lapi_task.specs.Landed.{ArrivalMayLand, HasArrived, MayTake, MayCall, HasCome};
 ghost use Rattle.lapi_task.specs.StandsFor.{task_unit};
 ghost use Rattle.lapi_base.specs.declared.layout.TheConstants.{PAYLOAD_ROOM};
 
 use crate::counting::announce;
+use crate::header::answer;
 use crate::landing::{announced_by, write};
 use crate::outcome::Outcome;
+use crate::queueing::{completion, job, queue};
 use crate::received::Received;
 use crate::task::Task;
 use lapi_base::{DataPacket, Event, Events, Memory, Packet};
 use lapi_handlers::Handlers;
-use lapi_link::{Arrival, Receiver};
+use lapi_link::Receiver;
 use lapi_packet::decode;
 use lapi_reassembly::Message;
 use std::alloc::Global;
@@ -54,7 +56,7 @@ impl Task {
                 Ok(Received::Ack)
             }
             Ok(Packet::Data(packet)) => {
-                self.arrive(alloc, from, &packet, out)?;
+                self.arrive(alloc, from, &packet, handlers, out)?;
                 Ok(Received::Data)
             }
         }
@@ -66,37 +68,45 @@ impl Task {
         alloc: Global,
         from: u32,
         packet: &DataPacket,
+        handlers: &Handlers,
         out: &mut Outcome,
     ) -> Result<(), Memory>
         requires { IsOnWire self.old from (Data packet.now) }
-        ensures { OnOk result ((script : Script) (rules : Rules) (t k : ℕ) (r : Run)
-            → IsAt script rules t self.old r → from < script.tasks
+        ensures { OnOk result ((script : Script) (t k : ℕ) (r : Run)
+            → let rules = rules_of handlers.now in IsAt script rules t self.old r → from < script.tasks
             → slice_get (r.wire from t) k ≡ Some (Data packet.now)
             → HasEffect script rules t r (deliver script rules r from t k) self.new out.old out.new) }
     {
-        let arrival = take(&mut self.receivers, alloc, from, packet)?;
-        self.take_effect(alloc, from, &arrival, &mut out.events)?;
+        let message = take(
+            &mut self.receivers,
+            alloc,
+            from,
+            packet,
+            handlers,
+            &mut out.events,
+        )?;
+        self.take_effect(alloc, from, message, handlers, &mut out.events)?;
         self.acknowledge(alloc, from, &mut out.entries)
     }
 
-    /// What came from task `from` takes effect.
+    /// What came whole from task `from` takes effect, if a message did.
     fn take_effect(
         &mut self,
         alloc: Global,
         from: u32,
-        arrival: &Arrival,
+        message: Option<Message>,
+        handlers: &Handlers,
         events: &mut Events,
     ) -> Result<(), Memory>
         requires link { (from < length self.old.senders.items) × (task_unit self.old ≤ PAYLOAD_ROOM) }
-        requires allowed { ArrivalMayLand (task_unit self.old) self.old.state.number from (landed arrival.now)
-            self.old.state.memory self.old.state.counters }
-        ensures { OnOk result (HasArrived from (landed arrival.now) self.old self.new events.old events.new) }
+        requires allowed { ArrivalMayLand (task_unit self.old) self.old.state.number from
+            (length (rules_of handlers.now).completions) message self.old.state.memory self.old.state.counters }
+        ensures { OnOk result (HasArrived from (length (rules_of handlers.now).completions) message self.old self.new
+            events.old events.new) }
     {
-        match arrival {
-            Arrival::Whole(message) | Arrival::FirstWhole(message) => {
-                self.land(alloc, from, message, events)
-            }
-            Arrival::Repeat | Arrival::First | Arrival::More => Ok(()),
+        match message {
+            Some(message) => self.land(alloc, from, &message, handlers, events),
+            None => Ok(()),
         }
     }
 
@@ -106,42 +116,52 @@ impl Task {
         alloc: Global,
         from: u32,
         message: &Message,
+        handlers: &Handlers,
         events: &mut Events,
     ) -> Result<(), Memory>
         requires link { (from < length self.old.senders.items) × (task_unit self.old ≤ PAYLOAD_ROOM) }
-        requires allowed { HeadMayLand (task_unit self.old)
-            self.old.state.number from message.now.name message.now.head message.now.bytes
+        requires allowed { ArrivalMayLand (task_unit self.old) self.old.state.number from
+            (length (rules_of handlers.now).completions) (Some message.now)
             self.old.state.memory self.old.state.counters }
-        ensures { OnOk result (HasArrived from (landed (arrivals.Whole message.now)) self.old
+        ensures { OnOk result (HasArrived from (length (rules_of handlers.now).completions) (Some message.now) self.old
             self.new events.old events.new) }
     {
         let Message {
             name,
             head,
             bytes,
-            ..
+            out,
         } = message;
+        let completion = completion(handlers, *out);
+        let job = job(message, &self.state.memory, completion);
         events.push(Event::Land(*name))?;
-        self.follow(alloc, from, *name, head, events)?;
-        write(&mut self.state.memory, head, bytes.as_slice())?;
-        announce(&mut self.state.counters, announced_by(head))
+        self.follow(alloc, from, *name, head, completion.is_some(), events)?;
+        write(&mut self.state.memory, head, *out, bytes.as_slice())?;
+        queue(&mut self.state.jobs, job)?;
+        announce(
+            &mut self.state.counters,
+            announced_by(head, completion.is_some()),
+        )
     }
 }
 
-/// The end of the link from task `from` takes a packet.
+/// The end of the link from task `from` takes a packet; the header handler is called at the first fragment of an active
+/// message. The message, if it is whole now.
 fn take(
     receivers: &mut [Receiver],
     alloc: Global,
     from: u32,
     packet: &DataPacket,
-) -> Result<Arrival, Memory>
-    requires { MayTake receivers.old from packet.now }
-    ensures taken { OnOk result ((end : ReceivingEnd) → slice_get receivers.old from ≡ Some end
-        → HasCome receivers.old receivers.new from packet.now end) }
-    ensures arrival { IfOk result (λ arrival. (end : ReceivingEnd) (script : Script) (packets : List ThePacket)
-        → slice_get receivers.old from ≡ Some end → ReceivesFor script end packets
-        → MayArrive script packets packet.now
-        → arrival ≡ arrival_of script packets packet.now (answer_of end packet.now.name)) }
+    handlers: &Handlers,
+    events: &mut Events,
+) -> Result<Option<Message>, Memory>
+    requires take { MayTake receivers.old from packet.now }
+    requires call { MayCall packet.now }
+    ensures { IfOk result (λ message. (end : ReceivingEnd) → slice_get receivers.old from ≡ Some end
+        → HasCome receivers.old receivers.new from packet.now (answer_to (rules_of handlers.now) packet.now.name
+        packet.now.head packet.now.length) message events.old events.new end) }
 {
-    receivers[from as usize].arrive(alloc, packet)
+    let receiver = &mut receivers[from as usize];
+    let arrival = receiver.arrive(alloc, packet)?;
+    answer(receiver, packet, arrival, handlers, events)
 }

@@ -1,23 +1,17 @@
 //! How a task's workers begin and end its jobs.
-ghost use Rattle.std.specs.Prelude.{◌≡◌, ℕ, ◌<◌, ◌≤◌, ◌++◌, [], length, IfOk, OnOk, Some};
-ghost use Rattle.lapi_base.specs.declared.layout.TheConstants.{PAYLOAD_ROOM};
+ghost use Rattle.std.specs.Prelude.{◌≡◌, ℕ, ◌<◌, ◌≤◌, ◌++◌, IfOk, OnOk};
 ghost use Rattle.lapi_base.specs.declared.rule.Rules.{Rules};
 ghost use Rattle.lapi_base.specs.declared.script.Script.{Script};
 ghost use Rattle.lapi_base.specs.Record.Acts.{begin};
-ghost use Rattle.lapi_base.specs.Record.HeadSays.{noted};
 ghost use Rattle.lapi_base.specs.Record.Wires.{Run};
-ghost use Rattle.lapi_task.specs.Effects.{job_note, with_job_note};
 ghost use Rattle.lapi_task.specs.HasEffect.{IsAt, IsAtSome, Performs};
-ghost use Rattle.lapi_task.specs.Outgoing.{AreSpelled};
-ghost use Rattle.lapi_task.specs.StandsFor.{task_unit};
 ghost use Rattle.lapi_task.specs.Working.{IsBegun, MayEnd, Ends};
 
 use crate::counting::announce;
 use crate::effect::{held, take_effect};
 use crate::outcome::Outcome;
-use crate::packet::append_message;
 use crate::task::Task;
-use lapi_base::{DataPacket, Event, Events, Head, Leg, Memory, MsgName, NoteOp, Payload};
+use lapi_base::{Event, Memory, NoteOp};
 use lapi_handlers::{Begun, Finished, Job};
 use lapi_jobs::Began;
 use std::alloc::Global;
@@ -71,59 +65,20 @@ impl Task {
             task: self.state.number,
             worker: finished.worker,
         })?;
-        let memory = &mut self.state.memory;
-        take_effect(alloc, memory, finished.effect, &finished.buffer)?;
+        take_effect(
+            alloc,
+            &mut self.state.memory,
+            finished.effect,
+            &finished.buffer,
+        )?;
         announce(&mut self.state.counters, job.target_counter)?;
-        self.tell_origin(alloc, job.name, job.completion_counter, &mut out.events)
-    }
-
-    /// Tells the origin of a message that its job has ended, where a counter is named for it.
-    fn tell_origin(
-        &mut self,
-        alloc: Global,
-        name: MsgName,
-        counter: Option<u32>,
-        events: &mut Events,
-    ) -> Result<(), Memory>
-        requires link { (name.origin < length self.old.senders.items) × (task_unit self.old ≤ PAYLOAD_ROOM) }
-        requires spelled { (c : ℕ) → counter ≡ Some c
-            → AreSpelled (task_unit self.old) (job_note self.old.state.number name c) [] }
-        ensures senders { OnOk result (self.new.senders.items ≡ with_job_note (task_unit self.old)
-            self.old.state.number name counter self.old.senders.items) }
-        ensures events { OnOk result (events.new ≡ events.old ++ noted name counter) }
-        ensures rest { self.new ≡ record self.old { senders = self.new.senders } }
-    {
-        let Some(counter) = counter else {
-            return Ok(());
-        };
-        let note = job_note(self.state.number, name, counter);
-        let sender = &mut self.senders[name.origin as usize];
-        append_message(alloc, sender, self.sizes.unit(), note, &[])?;
-        events.push(Event::Copy(MsgName {
-            leg: Leg::Note,
-            ..name
-        }))
-    }
-}
-
-/// The notice by which task `from` tells the origin that the message's job has ended.
-fn job_note(from: u32, name: MsgName, counter: u32) -> DataPacket
-    ensures { result ≡ job_note from name counter }
-{
-    DataPacket {
-        from,
-        to: name.origin,
-        seq: 0,
-        name: MsgName {
-            leg: Leg::Note,
-            ..name
-        },
-        head: Head::Note {
-            op: NoteOp::Am,
-            cmpl: counter,
-        },
-        length: 0,
-        fragment: 0,
-        payload: Payload::new(),
+        self.note(
+            alloc,
+            job.name.origin,
+            job.name,
+            NoteOp::Am,
+            job.completion_counter,
+            &mut out.events,
+        )
     }
 }

@@ -1,32 +1,42 @@
-use Rattle.std.proofs.Common.{◌≡◌, refl, sym, subst}
+use Rattle.std.proofs.Common.{refl, sym, subst}
 use Rattle.std.proofs.lemmas.Option.{get_or_from_slice_get}
-use Rattle.lapi_base.proofs.Results.{on-oks, if-ok}
-use Rattle.lapi_link.specs.Receiver.{ReceivingEnd, ReceivesFor, MayTake, arrival_of, answer_of}
+use Rattle.std.specs.Prelude.{Result, Ok, Err, OnOk, IfOk}
+use Rattle.lapi_link.specs.Receiver.{ReceivingEnd, MayTake}
 use Rattle.lapi_link.proofs.ArrivalLaws.{may-take}
+use Rattle.lapi_handlers.specs.Handlers.{rules_of}
+use Rattle.lapi_task.specs.Answered.{answer_to}
 use Rattle.lapi_task.specs.Landed.{HasCome}
 use Rattle.lapi_task.proofs.task.receiving.take.Goals as goal
 
+-- what follows from a fact of what an Ok holds and from two facts of the answer Ok
+if-ons : {A B : Type 0} (P : A → Type 0) (Q R : Type 0) (S : A → Type 0) (result : Result A B) → ((x : A) → P x → Q → R → S x) → IfOk result P → OnOk result Q → OnOk result R → IfOk result S
+if-ons P Q R S (Ok x) f p q r = f x p q r
+if-ons P Q R S (Err e) f p q r = p
+
 -- by the law of what arrives, the end may take it
 pub arrive-requires : goal.arrive-requires
-arrive-requires c =
-    let x = c.requires in
+arrive-requires g c =
+    let x = c.requires.take in
     let same = get_or_from_slice_get c.args.receivers.now c.args.from x.end c.index-receivers-from.result x.there in
     subst (λ (end : ReceivingEnd). MayTake end c.args.packet.now) (sym same) (may-take x.script x.end x.packets c.args.packet.now x.stands x.fits)
 
-pub returns-clause-taken : goal.returns-clause-taken
-returns-clause-taken c =
-    on-oks _ _ _ c.arrive.result
-    (λ kept answers end there.
+pub returns : goal.returns
+returns g c =
+    if-ons _ _ _ _ c.answer.result
+    (λ message whole calls keeps end there.
     let same = get_or_from_slice_get c.args.receivers.now c.args.from end c.index-receivers-from.result there in
-    subst (HasCome c.args.receivers.now _ c.args.from c.args.packet.now) same
-    (record { end = c.arrive.new.self; ends = refl; stands = kept; answers = answers }))
-    c.arrive.ensures.kept c.arrive.ensures.answers
-
-pub returns-clause-arrival : goal.returns-clause-arrival
-returns-clause-arrival c =
-    if-ok _ _ c.arrive.result
-    (λ arrival told end script packets there receives fits.
-    let same = get_or_from_slice_get c.args.receivers.now c.args.from end c.index-receivers-from.result there in
-    subst (λ (x : ReceivingEnd). arrival ≡ arrival_of script packets c.args.packet.now (answer_of x c.args.packet.now.name)) same
-    (told script packets (subst (λ (x : ReceivingEnd). ReceivesFor script x packets) (sym same) receives) fits))
-    c.arrive.ensures.arrival
+    let p = c.args.packet.now in
+    subst (HasCome c.args.receivers.now _ c.args.from p (answer_to (rules_of c.args.handlers.now) p.name p.head p.length) message c.args.events.now _) same
+    (record {
+      arrival = c.in_ok-arrival.arrival;
+      mid = c.arrive.new.self;
+      end = c.answer.new.receiver;
+      ends = refl;
+      stands = c.in_ok-arrival.ensures.kept;
+      told = c.in_ok-arrival.ensures.arrival;
+      answers = c.in_ok-arrival.ensures.answers;
+      keeps = keeps;
+      whole = whole;
+      calls = calls;
+    }))
+    c.answer.ensures.message c.answer.ensures.events c.answer.ensures.kept
