@@ -30,6 +30,7 @@ use Rattle.lapi_task.specs.declared.task.Task.{Task}
 use Rattle.lapi_task.specs.Apart.{TasksStayApart, StandsByPart}
 use Rattle.lapi_task.specs.Sends.{SendsFor, packet_at, spelled}
 use Rattle.lapi_task.specs.StandsFor.{is_uncopied, SenderAt, ReceiverAt, HoldsFor, StandsFor}
+use Rattle.lapi_task.proofs.Tags.{tags-same}
 
 module _ (script : Script) (rules : Rules) (t : ℕ) where
   -- Two records with the same part at the task.
@@ -89,6 +90,7 @@ module _ (script : Script) (rules : Rules) (t : ℕ) where
       whole = h.whole;
       kept = λ n lt left. h.kept n lt left ∙ packet-same b n;
       waiting = λ i. h.waiting i ∙ packet-same b _;
+      tags = tags-same script end r.journal s.journal t b (sym (links.numbers b)) h.tags;
     }
 
     sender-same : (b : ℕ) (o : Option SendingEnd) → SenderAt script rules r t b o → SenderAt script rules s t b o

@@ -29,6 +29,7 @@ use Rattle.lapi_task.specs.declared.task.Task.{Task}
 use Rattle.lapi_task.specs.HasEffect.{IsAt, HasEffect}
 use Rattle.lapi_task.specs.Sends.{SendsFor, packet_at}
 use Rattle.lapi_task.specs.StandsFor.{SenderAt, ReceiverAt, StandsFor}
+use Rattle.lapi_task.proofs.Tags.{tags-acked}
 
 module _ (script : Script) (ps : List Packet) (x y base bits : ℕ) where
   -- Among packets that were handed over, an acknowledgement tells of no number and of no fragment,
@@ -88,6 +89,7 @@ module _ (script : Script) (rules : Rules) (r : Run) (from t k x y base bits : �
     whole = (λ i. g.sent i + length (g.waiting i)) ∙ h.whole ∙ sym g.numbers;
     kept = λ n lt left. g.bytes n left ∙ h.kept n (subst (λ m. n < m) g.sent lt) (or_parts (window.is_acked old.window n) (is_covered base bits n) (sym (g.acked n) ∙ left)).0;
     waiting = λ i. ap (λ (ws : List (List ℕ)). slice_get ws i) g.waiting ∙ h.waiting i ∙ ap (λ m. packet_at script rules r.journal t from (m + i)) (sym g.sent);
+    tags = tags-acked script old new base bits r.journal t from g h.tags;
   }
 
   sends-other : (b : ℕ) → (b == from) ≡ false → (s : SendingEnd) → SendsFor script rules s r t b → SendsFor script rules s noted t b
@@ -101,6 +103,7 @@ module _ (script : Script) (rules : Rules) (r : Run) (from t k x y base bits : �
     whole = h.whole;
     kept = h.kept;
     waiting = h.waiting;
+    tags = h.tags;
   }
 
   sender-other : (b : ℕ) → (b == from) ≡ false → (o : Option SendingEnd) → SenderAt script rules r t b o → SenderAt script rules noted t b o

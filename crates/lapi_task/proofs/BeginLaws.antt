@@ -1,8 +1,8 @@
 -- What comes of telling a worker to begin.
 use Rattle.std.proofs.Common.{◌≡◌, ◌⊎◌, ℕ, ◌+◌, ◌<◌, ◌≤◌, ◌==◌, true, false, cond, ◌&&◌, List, [], ◌∷◌, ◌++◌, length, map, Option, Some, None, refl, sym, ap, ◌∙◌, subst, ⊎_elim, inl, inr, arith, add-zero}
-use Rattle.std.specs.Prelude.{slice_get, slice_index, option_map, unwrap_or, is_some, nat_le, nat_lt}
+use Rattle.std.specs.Prelude.{slice_get, option_map, unwrap_or, is_some, nat_le, nat_lt}
 use Rattle.std.specs.List.{AllByRecursion}
-use Rattle.std.proofs.lemmas.Bool.{false≢true, cond-true, cond-false, and_parts, leb-true, ltb-true}
+use Rattle.std.proofs.lemmas.Bool.{false≢true, cond-true, and_parts, leb-true, ltb-true}
 use Rattle.std.proofs.lemmas.List.{append-nil}
 use Rattle.lapi_base.specs.declared.layout.TheConstants.{LONGEST_ACTIVE}
 use Rattle.lapi_base.specs.declared.script.Script.{Script}
@@ -14,18 +14,16 @@ use Rattle.lapi_base.specs.declared.message.Leg.TheVariants.{Go}
 use Rattle.lapi_base.specs.declared.message.MsgName.{MsgName}
 use Rattle.lapi_base.specs.declared.reply.Reply.TheVariants.{Did, Idle, Busy}
 use Rattle.lapi_base.specs.Laws.Working.{IsWaiting}
-use Rattle.lapi_base.specs.Packet.Layout.{longest_of}
-use Rattle.lapi_base.specs.Record.Acts.{begin, begin_at, begin_first, reply_with, with_events, followed}
+use Rattle.lapi_base.specs.Record.Acts.{begin, begin_at, begin_first, reply_with, followed}
 use Rattle.lapi_base.specs.Record.Counters.{count, tells}
 use Rattle.lapi_base.specs.Record.Handlers.{buffer, completion, has_completion, user, header_out, kept_place, kept_choice}
 use Rattle.lapi_base.specs.Record.Jobs.{is_job, queue, runs}
-use Rattle.lapi_base.specs.Record.Names.{message, leg_eq, name_eq, Landed, happened}
+use Rattle.lapi_base.specs.Record.Names.{message, leg_eq, name_eq}
 use Rattle.lapi_base.specs.Record.Operations.{numbers_below, message_length, receiver, is_am, statement}
 use Rattle.lapi_base.specs.Record.Values.{values, memory_bytes, gathered}
 use Rattle.lapi_base.specs.Record.Wires.{Run}
 use Rattle.lapi_base.proofs.NameLaws.{name_eq-refl, leg_eq-true}
 use Rattle.lapi_base.proofs.UptoLaws.{length-over}
-use Rattle.lapi_handlers.specs.declared.job.Job.{Job}
 use Rattle.lapi_jobs.specs.declared.pending.Pending.{Pending}
 use Rattle.lapi_jobs.specs.Jobs.{Works, run_by, with_run}
 use Rattle.lapi_laws.proofs.Shorts.{copied-short}
@@ -34,12 +32,10 @@ use Rattle.lapi_parts.proofs.FirstLayout.{first-longest}
 use Rattle.lapi_parts.proofs.QueuedJobs.{queued-waiting}
 use Rattle.lapi_parts.proofs.Records.{record-sound}
 use Rattle.lapi_task.specs.declared.outcome.Outcome.{Outcome}
-use Rattle.lapi_task.specs.declared.state.State.{State}
 use Rattle.lapi_task.specs.declared.task.Task.{Task}
 use Rattle.lapi_task.specs.Effects.{bytes_held}
 use Rattle.lapi_task.specs.HasEffect.{IsAt, HasEffect}
 use Rattle.lapi_task.specs.HasJobs.{pending}
-use Rattle.lapi_task.specs.StandsFor.{StandsFor}
 use Rattle.lapi_task.specs.Working.{IsFirstJob}
 use Rattle.lapi_task.proofs.QueueLaws.{jobs-begun}
 use Rattle.lapi_task.proofs.StepLaws.{stepped, stands-on, does-nothing}

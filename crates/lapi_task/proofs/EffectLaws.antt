@@ -1,5 +1,5 @@
 -- The memory and the counters of a task after the end of a job.
-use Rattle.std.proofs.Common.{◌≡◌, ℕ, ◌+◌, ◌<◌, ◌≤◌, ◌==◌, Bool, true, false, cond, ◌&&◌, List, [], ◌∷◌, filter, map, length, Option, Some, None, refl, sym, ap, ◌∙◌, subst, arith}
+use Rattle.std.proofs.Common.{◌≡◌, ℕ, ◌+◌, ◌<◌, ◌==◌, true, false, cond, ◌&&◌, List, [], ◌∷◌, filter, map, length, Option, Some, None, refl, sym, ap, ◌∙◌}
 use Rattle.std.specs.Prelude.{slice_index, nat_le}
 use Rattle.std.proofs.lemmas.Bool.{leb-true}
 use Rattle.lapi_base.specs.declared.script.Script.{Script}
@@ -18,7 +18,7 @@ use Rattle.lapi_base.proofs.UptoLaws.{length-over, over-same}
 use Rattle.lapi_memory.specs.TaskMemory.{written}
 use Rattle.lapi_parts.proofs.WrittenMemory.{ends-write}
 use Rattle.lapi_task.specs.Counting.{announced}
-use Rattle.lapi_task.specs.Effects.{written_within, all_written}
+use Rattle.lapi_task.specs.Effects.{all_written}
 use Rattle.lapi_task.proofs.ReceiveCounts.{announced-at}
 use Rattle.lapi_task.proofs.StepMemories.{written-over}
 

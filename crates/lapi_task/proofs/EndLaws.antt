@@ -1,6 +1,6 @@
 -- What the end of a job makes of its task.
-use Rattle.std.proofs.Common.{◌≡◌, ℕ, ◌+◌, ◌<◌, ◌≤◌, true, false, cond, ◌&&◌, List, [], ◌∷◌, ◌++◌, length, Option, Some, None, refl, sym, ap, ◌∙◌, subst, arith, append_assoc}
-use Rattle.std.specs.Prelude.{slice_get, slice_index, option_map, is_some}
+use Rattle.std.proofs.Common.{◌≡◌, ℕ, ◌<◌, ◌≤◌, true, List, [], ◌∷◌, ◌++◌, length, Option, Some, None, refl, sym, ap, ◌∙◌, subst, arith, append_assoc}
+use Rattle.std.specs.Prelude.{slice_get, slice_index, option_map}
 use Rattle.std.proofs.lemmas.Bool.{and_parts, ltb-true, cond-false}
 use Rattle.std.proofs.lemmas.List.{append-nil}
 use Rattle.lapi_base.specs.declared.script.Script.{Script}
@@ -13,22 +13,21 @@ use Rattle.lapi_base.specs.declared.message.MsgName.{MsgName}
 use Rattle.lapi_base.specs.declared.reply.Reply.TheVariants.{Did}
 use Rattle.lapi_base.specs.Laws.Headline.{Happened}
 use Rattle.lapi_base.specs.Laws.Receiving.{NamesCounter}
-use Rattle.lapi_base.specs.Packet.Layout.{layout_of, unit, unit_of}
+use Rattle.lapi_base.specs.Packet.Layout.{unit_of}
 use Rattle.lapi_base.specs.Record.Acts.{end, end_at, after_end, reply_with, with_events, followed}
 use Rattle.lapi_base.specs.Record.Atomic.{Atomic, needs}
 use Rattle.lapi_base.specs.Record.Handlers.{effect_of}
 use Rattle.lapi_base.specs.Record.Handlers as handlers
 use Rattle.lapi_base.specs.Record.HeadSays.{noted}
-use Rattle.lapi_base.specs.Record.Jobs.{is_job, runs}
-use Rattle.lapi_base.specs.Record.Names.{message, Landed, Begun, Copied, happened}
-use Rattle.lapi_base.specs.Record.Operations.{statement, tgt_counter, cmpl_counter, target}
-use Rattle.lapi_base.specs.Record.Values.{Write, values}
+use Rattle.lapi_base.specs.Record.Jobs.{is_job}
+use Rattle.lapi_base.specs.Record.Names.{message, Begun, Copied, happened}
+use Rattle.lapi_base.specs.Record.Operations.{statement, tgt_counter, cmpl_counter}
+use Rattle.lapi_base.specs.Record.Values.{values}
 use Rattle.lapi_base.specs.Record.Wires.{Run}
 use Rattle.lapi_handlers.specs.declared.finished.Finished.{Finished}
 use Rattle.lapi_jobs.specs.declared.pending.Pending.{Pending}
 use Rattle.lapi_jobs.specs.Jobs.{Works, run_by, with_run}
 use Rattle.lapi_laws.proofs.Backward.{Atomic-tail, closed, there}
-use Rattle.lapi_laws.proofs.Once.{atomic-end}
 use Rattle.lapi_laws.proofs.Sound.{landed-copied}
 use Rattle.lapi_laws.proofs.Turns.{end-sound}
 use Rattle.lapi_link.specs.Sender.{SendingEnd}
@@ -49,7 +48,7 @@ use Rattle.lapi_task.specs.StandsFor.{task_unit, SenderAt, HoldsFor, StandsFor}
 use Rattle.lapi_task.specs.Working.{IsFinished}
 use Rattle.lapi_task.proofs.CopyLaws.{unit-is}
 use Rattle.lapi_task.proofs.EffectLaws.{memory-ended, counter-ended}
-use Rattle.lapi_task.proofs.JobNotes.{notice, notice-spelled, notice-ends, noted-length, count-noted}
+use Rattle.lapi_task.proofs.JobNotes.{notice-spelled, notice-ends, noted-length, count-noted}
 use Rattle.lapi_task.proofs.JobsStay.{jobs-stay}
 use Rattle.lapi_task.proofs.QueueLaws.{jobs-ended}
 use Rattle.lapi_task.proofs.ReceiveCounts.{announced-length}

@@ -1,18 +1,16 @@
 -- How many jobs wait and run.
-use Rattle.std.proofs.Common.{◌≡◌, ◌+◌, ◌<◌, ◌≤◌, ◌^◌, ◌==◌, ℕ, zero, suc, Bool, true, false, cond, not, ◌&&◌, List, [], ◌∷◌, ◌++◌, filter, map, length, Option, Some, None, refl, sym, ap, ◌∙◌, arith}
+use Rattle.std.proofs.Common.{◌≡◌, ◌+◌, ◌<◌, ◌≤◌, ◌^◌, ◌==◌, ℕ, zero, suc, Bool, true, false, cond, not, ◌&&◌, List, [], ◌∷◌, ◌++◌, filter, length, Option, Some, None, refl, sym, ap, ◌∙◌, arith}
 use Rattle.std.specs.Prelude.{option_map, is_some, slice_index_or}
 use Rattle.std.proofs.lemmas.Bool.{cond-true, cond-false, and_right, ne_eqb}
 use Rattle.std.proofs.lemmas.List.{length-map}
-use Rattle.lapi_base.proofs.BelowLaws.{length-below-suc, below-same, every_below-same}
+use Rattle.lapi_base.proofs.BelowLaws.{length-below-suc, below-same}
 use Rattle.lapi_base.specs.declared.script.Script.{Script}
 use Rattle.lapi_base.specs.declared.rule.Rules.{Rules}
 use Rattle.lapi_base.specs.declared.event.Event.{Event}
-use Rattle.lapi_base.specs.declared.message.MsgName.{MsgName}
 use Rattle.lapi_base.specs.Record.Below.{below, every_below}
 use Rattle.lapi_base.specs.Record.Final.{is_empty}
 use Rattle.lapi_base.specs.Record.Jobs.{queue, runs, busy}
 use Rattle.lapi_base.specs.Record.Valid.{ValidScript}
-use Rattle.lapi_jobs.specs.declared.pending.Pending.{Pending}
 use Rattle.lapi_jobs.specs.Jobs.{Works, run_by, count_running}
 use Rattle.lapi_task.specs.HasJobs.{pending, HasJobs}
 

@@ -37,6 +37,7 @@ pub mod StepFields
 pub mod StepLaws
 pub mod StepMemories
 pub mod StillLaws
+pub mod Tags
 pub mod TickLaws
 mod Unanswered
 pub mod WorkStays

@@ -23,6 +23,7 @@ use Rattle.lapi_link.specs.Receiver.{IsNewReceiver}
 use Rattle.lapi_task.proofs.StepMemories.{memory-blank}
 use Rattle.lapi_base.proofs.BelowLaws.{below-none}
 use Rattle.lapi_base.proofs.ListLaws.{all-get, get-some}
+use Rattle.lapi_task.proofs.Tags.{tags-new}
 use Rattle.lapi_task.proofs.Unanswered.{new-unanswered}
 
 -- the task has happened nothing
@@ -69,6 +70,7 @@ module _ (script : Script) (rules : Rules) where
     whole = let sent = h.sent in let none = ap length h.waiting in let numbers = h.numbers in omega (arith, sent, none, numbers);
     kept = λ n l u. let sent = h.sent in absurd (omega (arith, l, sent));
     waiting = λ i. ap (λ xs. slice_get xs i) h.waiting;
+    tags = tags-new script (window_of script) s a b h;
   }
 
   pub new-stands : (t : ℕ) (task : Task) → IsNew script rules t task → StandsFor script rules t task start

@@ -39,6 +39,7 @@ use Rattle.lapi_base.proofs.ListLaws.{flat_map-push, get-after, get-before, get-
 use Rattle.lapi_base.proofs.TestLaws.{eqb-refl}
 use Rattle.lapi_base.proofs.UptoLaws.{numbers_below-more}
 use Rattle.lapi_parts.proofs.FirstLayout.{sends-data}
+use Rattle.lapi_task.proofs.Tags.{tags-sent}
 
 -- Lists by their places.
 get-take : {X : Type 0} (xs : List X) (k i : ℕ) → i < k → slice_get (take k xs) i ≡ slice_get xs i
@@ -215,6 +216,7 @@ module _ (script : Script) (rules : Rules) (valid : ValidScript script) (t : ℕ
       whole = (let w = h.whole in let c = count-now in let d = length-drop count s.waiting in let f = count-fits in omega (arith, w, c, d, f));
       kept = λ n l u. bytes-now n (subst (λ m. n < m) count-now l) u;
       waiting = λ i. get-drop s.waiting count i ∙ h.waiting (count + i) ∙ ap (packet_at script rules J t b) (let c = count-now in omega (arith, c));
+      tags = tags-sent script s count J t b h.tags;
     }
 
 -- ---- all links of a task

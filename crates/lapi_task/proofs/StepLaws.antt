@@ -40,6 +40,7 @@ use Rattle.lapi_task.specs.Steps.{MayStep, Advances, IsRefused, IsIssued, Passes
 use Rattle.lapi_task.proofs.Forms.{statement-is, statement-built}
 use Rattle.lapi_task.proofs.ReasonForms.{suits, none-passed, few-statements}
 use Rattle.lapi_task.proofs.StepMemories.{memory-length}
+use Rattle.lapi_task.proofs.Tags.{tags-same}
 use Rattle.lapi_task.proofs.StepFields.{refused-holds, passed-holds, issued-holds}
 
 -- why a task without addresses refuses a statement, if it does
@@ -75,6 +76,7 @@ module _ (script : Script) (rules : Rules) where
     whole = h.whole;
     kept = λ n l u. h.kept n l u ∙ sym (q.packets a b n);
     waiting = λ i. h.waiting i ∙ sym (q.packets a b _);
+    tags = tags-same script s r.journal (e ∷ r.journal) a b (q.numbers a b) h.tags;
   }
 
   sender-on : (r : Run) (e : Event) (a b : ℕ) (o : Option SendingEnd) → IsQuiet e r.journal → SenderAt script rules r a b o → SenderAt script rules (stepped r e) a b o
@@ -118,6 +120,7 @@ module _ (script : Script) (rules : Rules) where
         whole = x.whole;
         kept = x.kept;
         waiting = x.waiting;
+        tags = x.tags;
       }
 
   pub does-nothing : (t : ℕ) (r : Run) (reply : Reply) (task : Task) (o : Outcome) → StandsFor script rules t task r → HasEffect script rules t r (reply_with script rules r reply) task o o

@@ -107,6 +107,7 @@ module _ (script : Script) (rules : Rules) where
       whole = h.whole;
       kept = h.kept;
       waiting = h.waiting;
+      tags = h.tags;
     }
 
     sender-after : (b : ℕ) (o : Option SendingEnd) → SenderAt script rules r t b o → SenderAt script rules (tick script rules r t) t b o

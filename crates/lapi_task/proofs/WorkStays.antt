@@ -1,5 +1,5 @@
 -- What the begin and the end of a job, and a notice, leave of what a task did and of its links.
-use Rattle.std.proofs.Common.{◌≡◌, ℕ, ◌<◌, ◌≤◌, ◌==◌, false, not, ◌&&◌, List, [], ◌∷◌, length, Option, Some, None, refl, sym, ap, ◌∙◌, subst}
+use Rattle.std.proofs.Common.{◌≡◌, ℕ, ◌<◌, ◌≤◌, ◌==◌, false, not, ◌&&◌, List, ◌∷◌, length, Option, Some, None, refl, sym, ap, ◌∙◌, subst}
 use Rattle.std.specs.Prelude.{slice_get, slice_index}
 use Rattle.std.proofs.lemmas.Bool.{and_right}
 use Rattle.lapi_base.specs.declared.script.Script.{Script}
@@ -23,6 +23,7 @@ use Rattle.lapi_task.specs.HasJobs.{HasJobs}
 use Rattle.lapi_task.specs.Sends.{packet_at}
 use Rattle.lapi_task.specs.StandsFor.{is_uncopied, SenderAt, HoldsFor, StandsFor}
 use Rattle.lapi_task.proofs.StepLaws.{IsQuiet}
+use Rattle.lapi_task.proofs.Tags.{tags-same}
 
 -- the begin or the end of a job, or the copy of a notice
 abbrev pub IsWork : Event → Type 0
@@ -95,6 +96,7 @@ module _ (script : Script) (rules : Rules) (t : ℕ) where
     whole = h.whole;
     kept = λ n l u. h.kept n l u ∙ sym (q.packets t b n);
     waiting = λ i. h.waiting i ∙ sym (q.packets t b _);
+    tags = tags-same script s r.journal (e ∷ r.journal) t b (q.numbers t b) h.tags;
   }
 
   pub work-stands : (r : Run) (e : Event) (before : Task) (after : State) → IsWork e → IsQuiet script rules e r.journal → StandsFor script rules t before r → Made e r.journal before.state after → StandsFor script rules t (record before { state = after }) (with_event r e)
