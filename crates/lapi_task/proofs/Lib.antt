@@ -39,5 +39,7 @@ pub mod StepMemories
 pub mod StillLaws
 pub mod Tags
 pub mod TickLaws
+pub mod TimesLaws
+pub mod UnfinishedLaws
 mod Unanswered
 pub mod WorkStays
