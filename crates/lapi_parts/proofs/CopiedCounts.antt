@@ -51,7 +51,7 @@ below-every (suc n) p h =
 
 module _ (script : Script) (m : MsgName) where
   -- the numbers of the message in a list of pairs that pass
-  pub count_in : List (MsgName × ℕ) → (ℕ → Bool) → ℕ
+  unfoldable pub count_in : List (MsgName × ℕ) → (ℕ → Bool) → ℕ
   count_in pairs passes = length (below (length pairs) (λ n. is_of script m (slice_get pairs n) && passes n))
 
   count-append : (xs ys : List (MsgName × ℕ)) (passes : ℕ → Bool) → count_in (xs ++ ys) passes ≡ count_in xs passes + count_in ys (λ n. passes (length xs + n))

@@ -40,6 +40,7 @@ pub mod StillLaws
 pub mod Tags
 pub mod TickLaws
 pub mod TimesLaws
+pub mod UnfinishedAcks
 pub mod UnfinishedLaws
 mod Unanswered
 pub mod WorkStays
