@@ -1,7 +1,9 @@
+pub mod AckTracks
 pub mod AnswerLaws
 pub mod AnswerSpelled
 pub mod Apart
 pub mod ArrivingAcks
+pub mod ArrivingData
 pub mod ArrivingFits
 pub mod BeginLaws
 pub mod CopyLaws
@@ -10,6 +12,8 @@ pub mod CopyParts
 pub mod CopySendable
 pub mod EffectLaws
 pub mod EndLaws
+pub mod FenceLaws
+pub mod FenceSteps
 pub mod FollowerParts
 pub mod Followers
 pub mod Forms

@@ -1,8 +1,8 @@
 -- What an acknowledgement makes of the data operations that are not done.
-use Rattle.std.proofs.Common.{◌≡◌, ℕ, zero, suc, ◌+◌, ◌-◌, ◌<◌, ◌≤◌, ◌==◌, Bool, true, false, cond, ◌&&◌, ◌||◌, not, List, [], ◌∷◌, ◌++◌, length, Option, Some, None, refl, sym, ap, ◌∙◌, subst, ⊎_elim, arith}
-use Rattle.std.specs.Prelude.{slice_get, slice_index, nat_lt, is_some}
+use Rattle.std.proofs.Common.{◌≡◌, ℕ, zero, suc, ◌+◌, ◌<◌, ◌==◌, Bool, true, false, cond, ◌&&◌, not, List, [], ◌∷◌, ◌++◌, length, Option, Some, None, refl, sym, ap, ◌∙◌, subst, ⊎_elim, arith}
+use Rattle.std.specs.Prelude.{slice_get, is_some}
 use Rattle.std.specs.List.{AllByRecursion, filter_map, cons_option}
-use Rattle.std.proofs.lemmas.Bool.{cond-true, cond-false, cases_eq, cases_lt, eq-eqb, ne_eqb, eqb-true, and_from, and_left, and_right, and_parts, lt-ltb, ltb-true, not-true, false≢true, false_from_ne_true, both_ways}
+use Rattle.std.proofs.lemmas.Bool.{cases_eq, eq-eqb, ne_eqb, and_from, and_left, and_right, and_parts, lt-ltb, ltb-true, not-true, false≢true, false_from_ne_true, both_ways}
 use Rattle.std.proofs.lemmas.List.Elements.{filter_map-append}
 use Rattle.lapi_base.specs.declared.script.Script.{Script}
 use Rattle.lapi_base.specs.declared.rule.Rules.{Rules}
@@ -18,10 +18,10 @@ use Rattle.lapi_base.specs.Record.Names.{message, name_eq, leg_eq, happened, Cop
 use Rattle.lapi_base.specs.Record.Atomic.{Atomic}
 use Rattle.lapi_base.specs.Record.Operations.{statements, statement, has_back, target, sender, receiver, from_by}
 use Rattle.lapi_base.specs.Record.Packets.{head_by}
-use Rattle.lapi_base.specs.Record.Wires.{Run, numbered, is_of}
+use Rattle.lapi_base.specs.Record.Wires.{numbered, is_of}
 use Rattle.lapi_base.proofs.BelowLaws.{below-all, below-same, length-below-none, length-below-suc}
 use Rattle.lapi_base.proofs.ListLaws.{get-some}
-use Rattle.lapi_base.proofs.NameLaws.{name_eq-true, name_eq-refl}
+use Rattle.lapi_base.proofs.NameLaws.{name_eq-true}
 use Rattle.lapi_laws.proofs.Backward.{there}
 use Rattle.lapi_laws.proofs.Out.{numbered-copied}
 use Rattle.lapi_link.specs.Sender.{SendingEnd, covered_tag, newly_acked}

@@ -1,25 +1,26 @@
 -- What a record's growth leaves of the data operations that are not done.
-use Rattle.std.proofs.Common.{◌≡◌, ℕ, ◌+◌, ◌<◌, ◌≤◌, ◌==◌, max, Bool, true, false, cond, ◌&&◌, not, List, [], ◌∷◌, length, refl, sym, ap, ◌∙◌, subst, ⊎_elim, arith}
-use Rattle.std.specs.Prelude.{slice_get, slice_index, slice_set}
-use Rattle.std.proofs.lemmas.Bool.{cond-true, cond-false, cond_both, cases_eq, ne_eqb, and_left, and_right, false_from_ne_true, both_ways}
+use Rattle.std.proofs.Common.{◌≡◌, ℕ, ◌<◌, ◌≤◌, ◌==◌, max, Bool, true, false, cond, ◌&&◌, not, List, ◌∷◌, length, refl, sym, ap, ◌∙◌, subst, ⊎_elim, arith}
+use Rattle.std.specs.Prelude.{slice_index, slice_set}
+use Rattle.std.proofs.lemmas.Bool.{cond-true, cond_both, cases_eq, ne_eqb, and_left, and_right, false_from_ne_true, both_ways}
 use Rattle.std.proofs.lemmas.List.{length-set}
 use Rattle.lapi_base.specs.declared.script.Script.{Script}
 use Rattle.lapi_base.specs.declared.rule.Rules.{Rules}
 use Rattle.lapi_base.specs.declared.event.Event.{Event}
 use Rattle.lapi_base.specs.declared.event.Event.TheVariants.{Issue, Copy, Land}
-use Rattle.lapi_base.specs.declared.message.Leg.TheVariants.{Go, Back}
+use Rattle.lapi_base.specs.declared.message.Leg.{Leg}
+use Rattle.lapi_base.specs.declared.message.Leg.TheVariants.{Go, Back, Note, Echo, Join}
 use Rattle.lapi_base.specs.declared.message.MsgName.{MsgName}
 use Rattle.lapi_base.specs.Laws.Copying.{unacknowledged}
 use Rattle.lapi_base.specs.Record.Atomic.{Atomic}
 use Rattle.lapi_base.specs.Record.Names.{message, name_eq, leg_eq, happened, key_of, key_eq, Issued, Copied, Landed}
 use Rattle.lapi_base.specs.Record.Operations.{statements, statement, is_data, has_back, receiver, fragment_count}
-use Rattle.lapi_base.specs.Record.Wires.{Run, numbered, is_acked, all_numbers, data_done}
-use Rattle.lapi_base.proofs.NameLaws.{happened-head, happened-other, name_eq-refl}
+use Rattle.lapi_base.specs.Record.Wires.{Run, numbered, is_acked, data_done}
+use Rattle.lapi_base.proofs.NameLaws.{happened-head, happened-other}
 use Rattle.lapi_collect.specs.Outstanding.{is_open}
 use Rattle.lapi_parts.proofs.CopiedCounts.{count_in, step-count, own-copy, uncopied-count, count-is, counted-same}
 use Rattle.lapi_parts.proofs.UnackedCounts.{done-is}
 use Rattle.lapi_task.specs.declared.unfinished.Unfinished.{Unfinished}
-use Rattle.lapi_task.specs.Unfinished.{is_unfinished, Tracks}
+use Rattle.lapi_task.specs.Unfinished.{is_unfinished, flags_issued, flags_closed, Tracks}
 use Rattle.lapi_task.proofs.CopyLists.{other-message}
 use Rattle.lapi_task.proofs.TimesLaws.{number-here, number-there, flag-here, flag-there}
 
@@ -42,7 +43,7 @@ module _ (script : Script) (rules : Rules) (t : ℕ) where
     pub landed : happened (Landed (message t i Back)) w.journal ≡ happened (Landed (message t i Back)) r.journal
     pub count : happened (Copied (message t i Go)) r.journal ≡ true → unacknowledged script rules w t i ≡ unacknowledged script rules r t i
 
-  done-back : (r : Run) (i : ℕ) → has_back (statement script t i) ≡ true → data_done script r t i ≡ happened (Landed (message t i Back)) r.journal
+  pub done-back : (r : Run) (i : ℕ) → has_back (statement script t i) ≡ true → data_done script r t i ≡ happened (Landed (message t i Back)) r.journal
   unfolding data_done
   done-back r i h = cond-true (has_back (statement script t i)) (happened (Landed (message t i Back)) r.journal) _ h
 
@@ -100,6 +101,29 @@ module _ (script : Script) (rules : Rules) (t : ℕ) where
         ∙ sym (count-is script rules r t i);
   }
 
+  pub quiet-stays : (r : Run) (e : Event) (i : ℕ) → ((b : ℕ) → numbered script (e ∷ r.journal) t b ≡ numbered script r.journal t b) → key_eq (Issued t i) (key_of e) ≡ false → key_eq (Copied (message t i Go)) (key_of e) ≡ false → key_eq (Landed (message t i Back)) (key_of e) ≡ false → StaysAt r (with_event r e) i
+  quiet-stays r e i numbers issue copy land = record {
+    issued = happened-other (Issued t i) e r.journal issue;
+    copied = happened-other (Copied (message t i Go)) e r.journal copy;
+    landed = happened-other (Landed (message t i Back)) e r.journal land;
+    count = λ d.
+        let b = receiver script (go i) in
+        count-is script rules (with_event r e) t i
+        ∙ ap (λ (ps : List (MsgName × ℕ)). count_in script (go i) ps (λ n. not (is_acked r t b n))) (numbers b)
+        ∙ sym (count-is script rules r t i);
+  }
+
+  pub tracks-told : (u : Unfinished) (r w : Run) → w.journal ≡ r.journal → ((b n : ℕ) → is_acked w t b n ≡ is_acked r t b n) → Tracks script rules t u r → Tracks script rules t u w
+  tracks-told u r w same told = tracks-stay u r w (same-told r w same told)
+
+  issue-numbers : (i : ℕ) (J : List Event) (b : ℕ) → numbered script (Issue t i ∷ J) t b ≡ numbered script J t b
+  unfolding numbered
+  issue-numbers i J b = refl
+
+  land-numbers : (m : MsgName) (J : List Event) (b : ℕ) → numbered script (Land m ∷ J) t b ≡ numbered script J t b
+  unfolding numbered
+  land-numbers m J b = refl
+
   apart-names : (i j : ℕ) → (i ≡ j → ⊥) → (t == t && i == j) ≡ false
   apart-names i j apart = and_right (t == t) (i == j) (ne_eqb i j apart)
 
@@ -116,15 +140,11 @@ module _ (script : Script) (rules : Rules) (t : ℕ) where
         | false ↦ λ e. done-is script rules r t i e ∙ and_left (happened (Copied (go i)) r.journal) _ copied
       ] refl
 
-  -- the statement is open where it has data
-  abbrev pub issued_flags : Bool → ℕ → List Bool → List Bool
-  issued_flags has j flags = cond has (slice_set flags j true) flags
-
-  pub tracks-issued : (u : Unfinished) (r : Run) (j : ℕ) → Atomic script rules (Issue t j ∷ r.journal) → j < length (statements script t) → happened (Copied (message t j Go)) r.journal ≡ false → happened (Landed (message t j Back)) r.journal ≡ false → Tracks script rules t u r → Tracks script rules t (record u { undone = issued_flags (is_data (statement script t j)) j u.undone }) (with_event r (Issue t j))
-  tracks-issued u r j atomic within copied landed h =
+  pub tracks-issued : (u : Unfinished) (r : Run) (j : ℕ) → j < length (statements script t) → happened (Copied (message t j Go)) r.journal ≡ false → happened (Landed (message t j Back)) r.journal ≡ false → Tracks script rules t u r → Tracks script rules t (record u { undone = flags_issued (is_data (statement script t j)) j u.undone }) (with_event r (Issue t j))
+  tracks-issued u r j within copied landed h =
       let w = with_event r (Issue t j) in
       let has = is_data (statement script t j) in
-      let flags = issued_flags has j u.undone in
+      let flags = flags_issued has j u.undone in
       record {
         size = (cond_both has (slice_set u.undone j true) u.undone (λ xs. length xs ≡ length (statements script t)) (λ _. length-set u.undone j true ∙ h.size.0) (λ _. h.size.0), h.size.1);
         undone = λ i.
@@ -140,13 +160,13 @@ module _ (script : Script) (rules : Rules) (t : ℕ) where
       }
     where
       stays : (i : ℕ) → (i ≡ j → ⊥) → StaysAt r (with_event r (Issue t j)) i
-      stays i apart = event-stays r (Issue t j) i atomic (apart-names i j apart) refl refl
+      stays i apart = quiet-stays r (Issue t j) i (issue-numbers j r.journal) (apart-names i j apart) refl refl
 
-      other : (b : Bool) (i : ℕ) → (i ≡ j → ⊥) → is_open (issued_flags b j u.undone) i ≡ is_open u.undone i
+      other : (b : Bool) (i : ℕ) → (i ≡ j → ⊥) → is_open (flags_issued b j u.undone) i ≡ is_open u.undone i
       other true i apart = flag-there u.undone j true i apart
       other false i apart = refl
 
-      opened : (w : Run) (b : Bool) → is_data (statement script t j) ≡ b → is_open (issued_flags b j u.undone) j ≡ is_unfinished script (with_event r (Issue t j)) t j
+      opened : (w : Run) (b : Bool) → is_data (statement script t j) ≡ b → is_open (flags_issued b j u.undone) j ≡ is_unfinished script (with_event r (Issue t j)) t j
       opened w true e =
           flag-here u.undone j true (let s = h.size.0 in let l = within in omega (arith, s, l))
           ∙ sym (λ k. e k && (happened-head (Issue t j) r.journal k && not (not-done (with_event r (Issue t j)) j (happened-other (Copied (message t j Go)) (Issue t j) r.journal refl ∙ copied) (happened-other (Landed (message t j Back)) (Issue t j) r.journal refl ∙ landed) k)))
@@ -197,8 +217,8 @@ module _ (script : Script) (rules : Rules) (t : ℕ) where
 
   -- ---- the landing of an answer
 
-  pub tracks-answered : (u : Unfinished) (r : Run) (j : ℕ) → Atomic script rules (Land (message t j Back) ∷ r.journal) → j < length (statements script t) → has_back (statement script t j) ≡ true → Tracks script rules t u r → Tracks script rules t (record u { undone = slice_set u.undone j false }) (with_event r (Land (message t j Back)))
-  tracks-answered u r j atomic within back h =
+  pub tracks-answered : (u : Unfinished) (r : Run) (j : ℕ) → j < length (statements script t) → has_back (statement script t j) ≡ true → Tracks script rules t u r → Tracks script rules t (record u { undone = slice_set u.undone j false }) (with_event r (Land (message t j Back)))
+  tracks-answered u r j within back h =
       let w = with_event r (Land (message t j Back)) in
       let flags = slice_set u.undone j false in
       record {
@@ -216,9 +236,46 @@ module _ (script : Script) (rules : Rules) (t : ℕ) where
       }
     where
       stays : (i : ℕ) → (i ≡ j → ⊥) → StaysAt r (with_event r (Land (message t j Back))) i
-      stays i apart = event-stays r (Land (message t j Back)) i atomic refl refl (other-back i j apart)
+      stays i apart = quiet-stays r (Land (message t j Back)) i (land-numbers (message t j Back) r.journal) refl refl (other-back i j apart)
 
       closed : is_unfinished script (with_event r (Land (message t j Back))) t j ≡ false
       closed =
           and_right (is_data (statement script t j)) _ (and_right (happened (Issued t j) (Land (message t j Back) ∷ r.journal)) _
           (ap not (done-back (with_event r (Land (message t j Back))) j back ∙ happened-head (Land (message t j Back)) r.journal)))
+
+  -- ---- the landing of a message that comes to the task
+
+  other-leg : (i : ℕ) (m : MsgName) → leg_eq m.leg Back ≡ false → name_eq (message t i Back) m ≡ false
+  unfolding name_eq
+  other-leg i m h = and_right (t == m.origin && i == m.statement) (leg_eq Back m.leg) (turned m.leg h)
+    where
+      turned : (l : Leg) → leg_eq l Back ≡ false → leg_eq Back l ≡ false
+      turned Back h = h
+      turned _ h = refl
+
+  pub tracks-landed : (u : Unfinished) (r : Run) (m : MsgName) → (m.leg ≡ Back → (m.origin ≡ t) × (m.statement < length (statements script t)) × (has_back (statement script t m.statement) ≡ true)) → Tracks script rules t u r → Tracks script rules t (record u { undone = flags_closed m u.undone }) (with_event r (Land m))
+  tracks-landed u r m back h = by m.leg refl
+    where
+      other : leg_eq m.leg Back ≡ false → Tracks script rules t (record u { undone = flags_closed m u.undone }) (with_event r (Land m))
+      other e =
+          subst (λ b. Tracks script rules t (record u { undone = cond b (slice_set u.undone m.statement false) u.undone }) (with_event r (Land m))) (sym e)
+          (tracks-stay u r (with_event r (Land m)) (λ i. quiet-stays r (Land m) i (land-numbers m r.journal) refl refl (other-leg i m e)) h)
+
+      by : (l : Leg) → m.leg ≡ l → Tracks script rules t (record u { undone = flags_closed m u.undone }) (with_event r (Land m))
+      by Back e =
+          let known = back e in
+          let same : message t m.statement Back ≡ m = (λ k. record { origin = sym known.0 k; statement = m.statement; leg = sym e k }) in
+          subst (λ (x : MsgName). Tracks script rules t (record u { undone = flags_closed x u.undone }) (with_event r (Land x))) same
+          (tracks-answered u r m.statement known.1 known.2 h)
+      by Go e = other (ap (λ l. leg_eq l Back) e)
+      by Note e = other (ap (λ l. leg_eq l Back) e)
+      by Echo e = other (ap (λ l. leg_eq l Back) e)
+      by (Join d) e = other (ap (λ l. leg_eq l Back) e)
+
+  not-go : (i : ℕ) (m : MsgName) → leg_eq Go m.leg ≡ false → name_eq (message t i Go) m ≡ false
+  unfolding name_eq
+  not-go i m other = and_right (t == m.origin && i == m.statement) (leg_eq Go m.leg) other
+
+  -- a message that follows is no data of the task's own
+  pub tracks-followed : (u : Unfinished) (r : Run) (m : MsgName) → leg_eq Go m.leg ≡ false → Atomic script rules (Copy m ∷ r.journal) → Tracks script rules t u r → Tracks script rules t u (with_event r (Copy m))
+  tracks-followed u r m other atomic h = tracks-stay u r (with_event r (Copy m)) (λ i. event-stays r (Copy m) i atomic refl (not-go i m other) refl) h

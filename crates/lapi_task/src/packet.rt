@@ -1,7 +1,7 @@
 //! Packets that leave the task.
 ghost use Rattle.std.specs.Prelude.{◌≡◌, ◌*◌, ◌≤◌, length, IfOk, OnOk};
 ghost use Rattle.lapi_base.specs.declared.packet.Packet.TheVariants.{Data};
-ghost use Rattle.lapi_base.specs.Record.Fragments.{fragment_bytes};
+ghost use Rattle.lapi_base.specs.Record.Fragments.{fragments_in, fragment_bytes};
 ghost use Rattle.lapi_base.specs.Packet.Spelling.{HasSpelling};
 ghost use Rattle.lapi_base.specs.Packet.PacketBytes as written;
 ghost use Rattle.lapi_reassembly.specs.Partial.{IsUnit};
@@ -97,6 +97,14 @@ pub fn append_message(
         append(alloc, sender, &packet, tag)?;
     }
     Ok(())
+}
+
+/// How many fragments a message of this length has, where each but the last has `unit` bytes. An empty one has one.
+pub fn fragment_count(unit: u32, length: u32) -> u32
+    requires { IsUnit unit }
+    ensures { result ≡ fragments_in unit length }
+{
+    length.div_ceil(unit).max(1)
 }
 
 /// The bytes of one fragment, where each but the last has `unit`.

@@ -1,10 +1,15 @@
 ghost use Rattle.std.specs.Prelude.{◌≡◌, ℕ, ◌-◌, ◌<◌, ◌≤◌, ◌&&◌, ◌==◌, not, nat_lt, IsTrue, ◌↔◌, true, false, IfOk, length, replicate, slice_index, slice_set};
 ghost use Rattle.std.specs.List.{AllByRecursion};
 ghost use Rattle.lapi_collect.specs.Outstanding.{is_open};
-ghost use Rattle.lapi_task.specs.Unfinished.{times};
+ghost use Rattle.lapi_base.specs.declared.message.Leg.TheVariants.{Back};
+ghost use Rattle.lapi_base.specs.Record.Operations.{is_data};
+ghost use Rattle.lapi_task.specs.Landed.{landed};
+ghost use Rattle.lapi_task.specs.Unfinished.{times, flags_issued, flags_closed, flags_landed, IsOfStatement};
 
-use lapi_base::Memory;
+use lapi_base::{Leg, Memory, MsgName, Statement};
+use lapi_calls::is_data;
 use lapi_collect::{Outstanding, Unacknowledged};
+use lapi_link::Arrival;
 use std::alloc::Global;
 
 /// The data operations of a task that were issued and whose data are not done, and how many numbers of each message
@@ -25,12 +30,14 @@ impl Unfinished {
         Ok(Unfinished { undone, left })
     }
 
-    /// The data operation was issued.
-    pub fn issued(&mut self, statement: u32)
-        requires { statement < length self.old.undone }
-        ensures { self.new ≡ record self.old { undone = slice_set self.old.undone statement true } }
+    /// Statement `i` was issued: it is open where it has data.
+    pub fn issued(&mut self, i: u32, statement: &Statement)
+        requires { i < length self.old.undone }
+        ensures { self.new ≡ record self.old { undone = flags_issued (is_data statement.now) i self.old.undone } }
     {
-        self.undone.begin(statement);
+        if is_data(statement) {
+            self.undone.begin(i);
+        }
     }
 
     /// Its data were copied, and have so many numbers.
@@ -41,12 +48,26 @@ impl Unfinished {
         self.left.begin(statement, count);
     }
 
-    /// Its answer has landed.
-    pub fn answered(&mut self, statement: u32)
-        requires { statement < length self.old.undone }
-        ensures { self.new ≡ record self.old { undone = slice_set self.old.undone statement false } }
+    /// What arrived took effect: where it is an answer, the data of its operation are done.
+    pub fn arrived(&mut self, arrival: &Arrival)
+        requires { IsOfStatement (landed arrival.now) (length self.old.undone) }
+        ensures { self.new ≡ record self.old { undone = flags_landed (landed arrival.now) self.old.undone } }
     {
-        self.undone.done(statement);
+        match arrival {
+            Arrival::Whole(message) | Arrival::FirstWhole(message) => self.landed(message.name),
+            Arrival::Repeat | Arrival::First | Arrival::More => {}
+        }
+    }
+
+    /// A message has landed.
+    fn landed(&mut self, name: MsgName)
+        requires { name.leg ≡ Back → name.statement < length self.old.undone }
+        ensures { self.new ≡ record self.old { undone = flags_closed name self.old.undone } }
+    {
+        match name.leg {
+            Leg::Back => self.undone.done(name.statement),
+            Leg::Go | Leg::Note | Leg::Echo | Leg::Join(_) => {}
+        }
     }
 
     /// For each time that a statement is named, one number of its message was acknowledged. Its data are done with
