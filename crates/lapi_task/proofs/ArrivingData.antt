@@ -32,10 +32,11 @@ module _ (script : Script) (rules : Rules) (t : ℕ) where
   pub own-answer : (m : MsgName) (J : List Event) → Atomic script rules J → happened (Copied m) J ≡ true → has_leg script (answers script rules m.origin m.statement) m.origin m.leg (statement script m.origin m.statement) ≡ true → receiver script m ≡ t → IsOwnAnswer m
   own-answer m J atomic copied leg place = λ e.
       let own : m.origin ≡ t = ap (λ l. to_by m.origin (target script m.origin m.statement) l) (sym e) ∙ place in
-      let known = (and_parts _ _ (there script rules (Copied m) J atomic copied)).0 in
-      (own,
-      subst (λ a. m.statement < length (statements script a)) own (ltb-true m.statement (length (statements script m.origin)) (and_parts _ _ known).1),
-      subst (λ a. has_back (statement script a m.statement) ≡ true) own (ap (λ l. has_leg script (answers script rules m.origin m.statement) m.origin l (statement script m.origin m.statement)) (sym e) ∙ leg))
+      let known = (and_parts _ _ (there script rules (Copied m) J atomic copied)).0 in (
+        own,
+        subst (λ a. m.statement < length (statements script a)) own (ltb-true m.statement (length (statements script m.origin)) (and_parts _ _ known).1),
+        subst (λ a. has_back (statement script a m.statement) ≡ true) own (ap (λ l. has_leg script (answers script rules m.origin m.statement) m.origin l (statement script m.origin m.statement)) (sym e) ∙ leg),
+      )
 
   pub come-of : (whole : Bool) (m : MsgName) (h : Head) (bytes : List ℕ) (count : ℕ) → count ≡ length (statements script t) → IsOwnAnswer m → IsOfStatement (come whole m h bytes) count
   come-of false m h bytes count size own = tt
