@@ -43,15 +43,14 @@ pub(crate) fn is_built_statement(statement: &Statement) -> bool
         Statement::Store { .. }
         | Statement::Wait { .. }
         | Statement::Set { .. }
-        | Statement::Read { .. } => true,
+        | Statement::Read { .. }
+        | Statement::Fence => true,
         Statement::Put { to, .. } => is_plain(*to),
         Statement::Get { from, .. } => is_plain(*from),
         Statement::Putv { to, from, .. } => is_plain_vector(to) && is_plain_vector(from),
         Statement::Getv { from, to, .. } => is_plain_vector(from) && is_plain_vector(to),
         Statement::Rmw { at, .. } => is_plain(*at),
-        Statement::Am { .. } | Statement::Fence | Statement::Gfence | Statement::Addr { .. } => {
-            false
-        }
+        Statement::Am { .. } | Statement::Gfence | Statement::Addr { .. } => false,
     }
 }
 

@@ -1,5 +1,5 @@
 -- The forms that are performed: what their statements look like.
-use Rattle.std.proofs.Common.{◌≡◌, ◌⊎◌, ℕ, ◌<◌, ◌≤◌, true, false, IsTrue, [], length, Option, Some, refl, sym, ap, ◌∙◌, subst, ⊎_elim, inl, inr}
+use Rattle.std.proofs.Common.{◌≡◌, ◌⊎◌, ℕ, ◌<◌, ◌≤◌, true, false, IsTrue, [], length, Some, refl, sym, ap, subst, ⊎_elim, inl, inr}
 use Rattle.std.specs.Prelude.{slice_get}
 use Rattle.std.proofs.lemmas.Bool.{false≢true, cases_lt}
 use Rattle.std.proofs.lemmas.List.{get_or_past}
@@ -25,6 +25,7 @@ joins-none (statements.Rmw target op at in1 in2 prev org) h = refl
 joins-none (statements.Wait counter value) h = refl
 joins-none (statements.Set counter value) h = refl
 joins-none (statements.Read counter) h = refl
+joins-none statements.Fence h = refl
 joins-none _ h = absurd (false≢true h)
 
 -- and none sends an active message
@@ -39,6 +40,7 @@ actives-none (statements.Rmw target op at in1 in2 prev org) h = refl
 actives-none (statements.Wait counter value) h = refl
 actives-none (statements.Set counter value) h = refl
 actives-none (statements.Read counter) h = refl
+actives-none statements.Fence h = refl
 actives-none _ h = absurd (false≢true h)
 
 pub statement-is : (script : Script) (a i : ℕ) (s : Statement) → slice_get (operations.statements script a) i ≡ Some s → statement script a i ≡ s

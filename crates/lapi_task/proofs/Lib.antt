@@ -1,7 +1,9 @@
+pub mod AckTracks
 pub mod AnswerLaws
 pub mod AnswerSpelled
 pub mod Apart
 pub mod ArrivingAcks
+pub mod ArrivingData
 pub mod ArrivingFits
 pub mod BeginLaws
 pub mod CopyLaws
@@ -10,6 +12,8 @@ pub mod CopyParts
 pub mod CopySendable
 pub mod EffectLaws
 pub mod EndLaws
+pub mod FenceLaws
+pub mod FenceSteps
 pub mod FollowerParts
 pub mod Followers
 pub mod Forms
@@ -37,6 +41,10 @@ pub mod StepFields
 pub mod StepLaws
 pub mod StepMemories
 pub mod StillLaws
+pub mod Tags
 pub mod TickLaws
+pub mod TimesLaws
+pub mod UnfinishedAcks
+pub mod UnfinishedLaws
 mod Unanswered
 pub mod WorkStays

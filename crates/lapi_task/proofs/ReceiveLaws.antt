@@ -63,6 +63,9 @@ use Rattle.lapi_task.proofs.SenderLaws.{bytes-here, bytes-there}
 use Rattle.lapi_task.proofs.Unanswered.{still-unanswered}
 use Rattle.lapi_task.proofs.StepMemories.{memory-length}
 use Rattle.lapi_parts.proofs.FirstLayout.{holds-nothing, told-at-once}
+use Rattle.lapi_task.specs.declared.unfinished.Unfinished.{Unfinished}
+use Rattle.lapi_task.specs.Unfinished.{flags_landed, IsOfStatement, Tracks}
+use Rattle.lapi_task.proofs.ArrivingData.{IsOwnAnswer, own-answer, come-of, tracks-come}
 
 -- What has changed only in its receiving ends.
 pub record KeepsRest (before after : Task) : Type 0 where
@@ -70,6 +73,7 @@ pub record KeepsRest (before after : Task) : Type 0 where
   pub statements : after.statements ≡ before.statements
   pub limits : after.limits ≡ before.limits
   pub state : after.state ≡ before.state
+  pub unfinished : after.unfinished ≡ before.unfinished
   pub senders : after.senders.items ≡ before.senders.items
 
 -- what the end of the link from task a did with the packet, and what came of it
@@ -274,8 +278,28 @@ module _ (script : Script) (rules : Rules) where
           receiver = subst (ReceiverAt script (Data p ∷ r.handed a t)) (sym (ap (λ xs. slice_get xs a) x.1 ∙ get-set task.receivers.items a end-there.0 x.0 end-there.1)) x.2;
         }
 
-    pub arrived-does : (mid after : Task) (first_delivery : Arrival) (old new : Outcome) → KeepsRest task mid → landed first_delivery ≡ arrives → Takes a p task.receivers.items mid.receivers.items → HasArrived a (landed first_delivery) mid after old.events new.events → new.entries ≡ old.entries ++ answer script (Data p ∷ r.handed a t) a t ∷ [] → HasEffect script rules t r (deliver script rules r a t k) after old new
-    arrived-does mid after first_delivery old new g e took h added =
+    -- an answer is of the task's own statement
+    own-answers : IsOwnAnswer script rules t p.name
+    own-answers = let f = packet-comes.facts in own-answer script rules t p.name r.journal f.atomic f.copied f.leg f.place
+
+    unfinished-same : (mid after : Task) (first_delivery : Arrival) (old new : List Event) → KeepsRest task mid → HasArrived a (landed first_delivery) mid after old new → after.unfinished ≡ task.unfinished
+    unfinished-same mid after first_delivery old new g h = ap (λ (x : Task). x.unfinished) h.rest ∙ g.unfinished
+
+    pub is-of-statement : (mid after : Task) (first_delivery : Arrival) (old new : List Event) → KeepsRest task mid → landed first_delivery ≡ arrives → HasArrived a (landed first_delivery) mid after old new → IsOfStatement (landed first_delivery) (length after.unfinished.undone)
+    is-of-statement mid after first_delivery old new g e h =
+        let same = unfinished-same mid after first_delivery old new g h in
+        subst (λ o. IsOfStatement o (length after.unfinished.undone)) (sym e)
+        (come-of script rules t (completes script rules r a t p) p.name p.head (came_bytes script (r.handed a t) p) (length after.unfinished.undone) (ap (λ (x : Unfinished). length x.undone) same ∙ at.stands.unfinished.size.0) own-answers)
+
+    -- the task with what is not done then
+    abbrev pub with_unfinished : Task → Unfinished → Task
+    with_unfinished after u = record after { unfinished = u }
+
+    pub has-taken-still : (after : Task) (u : Unfinished) → HasTaken script t after a (Data p ∷ r.handed a t) → HasTaken script t (with_unfinished after u) a (Data p ∷ r.handed a t)
+    has-taken-still after u h = record { performed = h.performed; number = h.number; known = h.known; from_known = h.from_known; receiver = h.receiver }
+
+    pub arrived-does : (mid after : Task) (u : Unfinished) (first_delivery : Arrival) (old new : Outcome) → u ≡ record after.unfinished { undone = flags_landed (landed first_delivery) after.unfinished.undone } → KeepsRest task mid → landed first_delivery ≡ arrives → Takes a p task.receivers.items mid.receivers.items → HasArrived a (landed first_delivery) mid after old.events new.events → new.entries ≡ old.entries ++ answer script (Data p ∷ r.handed a t) a t ∷ [] → HasEffect script rules t r (deliver script rules r a t k) (with_unfinished after u) old new
+    arrived-does mid after u first_delivery old new closed g e took h added =
         let ps = Data p ∷ r.handed a t in
         let q = ack_of script ps a t in
         let whole = completes script rules r a t p in
@@ -287,7 +311,8 @@ module _ (script : Script) (rules : Rules) where
         let ends : after.senders.items ≡ ends_after (unit_of script) t a arrives task.state.memory task.senders.items = own.senders ∙ (λ i. ends_after (unit-then mid g i) ((ap (λ (x : State). x.number) g.state ∙ s.holds.number) i) a arrives (g.state i).memory (g.senders i)) in
         let lands : Lands arrives task.state after.state = subst (λ (x : State). Lands arrives x after.state) g.state (record { memory = own.memory; counters = own.counters; rest = ap (λ (x : Task). x.state) own.rest }) in
         let x = receives mid after took (ap (λ (x : Task). x.receivers.items) h.rest) in
-        subst (λ y. HasEffect script rules t r y after old new) (sym delivered)
+        let undone = unfinished-same mid after first_delivery old.events new.events g h in
+        subst (λ y. HasEffect script rules t r y (with_unfinished after u) old new) (sym delivered)
         (record {
           events = events_of arrives;
           entries = answer script ps a t ∷ [];
@@ -300,6 +325,8 @@ module _ (script : Script) (rules : Rules) where
               limits = ap (λ (y : Task). y.limits) own.rest ∙ g.limits ∙ s.calls.limits;
             };
             holds = holds-arrived script rules t r a k p at.recorded entry c then (ap (λ (y : Run). y.journal) delivered) same (queue-followed script rules t (events_of arrives) r.journal (mild-leaves script rules s.calls.supported t (events_of arrives) (come-mild whole p.name p.head bytes))) task.state after.state s.holds lands;
+            unfinished = subst (λ (x : Unfinished). Tracks script rules t x next_run) (sym (closed ∙ (λ i. record { undone = flags_landed (e i) (undone i).undone; left = (undone i).left })))
+                (tracks-come script rules t r task.unfinished s.unfinished whole p.name p.head bytes task.state.memory a next_run refl (λ b n. (settled r a t p ps b).acked n) atomic own-answers);
             sender_count = ap length ends ∙ ends-length script rules (unit_of script) t a whole p.name p.head bytes task.state.memory task.senders.items ∙ s.sender_count;
             receiver_count = ap length x.1 ∙ length-set task.receivers.items a x.0 ∙ s.receiver_count;
             senders = λ b l. subst (λ xs. SenderAt script rules next_run t b (slice_get xs b)) (sym ends) (ends-come script rules r (handed_on r a t p q) a t task.senders.items (λ y. settled r a t p ps y) known_task s.senders whole p.name p.head bytes task.state.memory follows-then atomic b l);

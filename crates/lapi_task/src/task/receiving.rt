@@ -76,6 +76,7 @@ impl Task {
     {
         let arrival = take(&mut self.receivers, alloc, from, packet)?;
         self.take_effect(alloc, from, &arrival, &mut out.events)?;
+        self.unfinished.arrived(&arrival);
         self.acknowledge(alloc, from, &mut out.entries)
     }
 
