@@ -1,10 +1,10 @@
 -- Laws of what the sending end of a link stands for.
-use Rattle.std.proofs.Common.{◌≡◌, ℕ, suc, ◌+◌, ◌-◌, ◌<◌, ◌≤◌, nat_lt, Bool, true, false, cond, not, ◌&&◌, List, [], ◌∷◌, ◌++◌, take, drop, Option, Some, None, slice_get, refl, sym, ap, ◌∙◌, ⊎_elim, arith, append_assoc, append-nil}
+use Rattle.std.proofs.Common.{◌≡◌, ℕ, suc, ◌+◌, ◌-◌, ◌<◌, ◌≤◌, nat_lt, Bool, true, false, cond, not, ◌&&◌, List, [], ◌∷◌, ◌++◌, take, drop, Option, Some, None, slice_get, length, refl, sym, ap, ◌∙◌, ⊎_elim, arith, append_assoc, append-nil}
 use Rattle.std.specs.Prelude.{slice_index_or}
 use Rattle.std.specs.List.{AllByRecursion, filter_map, cons_option}
 use Rattle.std.proofs.lemmas.Bool.{cases_lt, both_ways, and_parts, or_left, and_left, and_right, not-true, cond-true, cond-false, false_from_ne_true, lt-ltb, le-ltb}
 use Rattle.std.proofs.Math.Seq.{take-add}
-use Rattle.std.proofs.lemmas.List.{drop-drop, map-append, take_more, get_or-drop}
+use Rattle.std.proofs.lemmas.List.{drop-drop, length-drop, map-append, take_more, get_or-drop}
 use Rattle.std.proofs.lemmas.List.Elements.{filter_map-append}
 use Rattle.std.proofs.lemmas.Option.{slice_get_within, get_or_from_slice_get}
 use Rattle.lapi_base.specs.declared.wire.WireEntry.{WireEntry}
@@ -13,7 +13,7 @@ use Rattle.lapi_base.proofs.BelowLaws.{below-all, below-none, below-cut}
 use Rattle.lapi_base.proofs.ListLaws.{all-weaker}
 use Rattle.lapi_window.specs.NumberSet.{Members, flag_at, is_in, is_covered}
 use Rattle.lapi_window.specs.SendWindow.{Sending, sent_count, is_sent, is_acked, is_unacked, bytes_of, unacked, packet_of}
-use Rattle.lapi_link.specs.Sender.{SendingEnd, sent, entries_to, tag_of, covered_tag, newly_acked}
+use Rattle.lapi_link.specs.Sender.{SendingEnd, IsSendingEnd, sent, entries_to, tag_of, covered_tag, newly_acked}
 
 -- `send`
 pub sent_one_more : (s : SendingEnd) (i : ℕ) → sent (sent s i) 1 ≡ sent s (i + 1)
@@ -106,6 +106,14 @@ tags-stay old new grows dropped n absent =
     ∙ get_or-drop (b - a) old.tags (n - b) None
     ∙ ap (λ k. slice_index_or old.tags k None) place
     ∙ sym (cond-false (nat_lt n a) None (slice_index_or old.tags (n - a) None) (le-ltb n a low))
+
+-- and each has its own
+pub tagged-still : (old new : SendingEnd) → IsSendingEnd old → old.window.acked.base ≤ new.window.acked.base → sent_count new.window ≡ sent_count old.window → new.window.numbers ≡ old.window.numbers → new.tags ≡ drop (new.window.acked.base - old.window.acked.base) old.tags → new.window.acked.base + length new.tags ≡ new.window.numbers
+tagged-still old new h grows sent numbers dropped =
+    let whole = h.whole in
+    let tagged = h.tagged in
+    let left = ap length dropped ∙ length-drop (new.window.acked.base - old.window.acked.base) old.tags in
+    omega (arith, whole, tagged, left, grows, sent, numbers)
 
 -- the tag at its place
 pub covered-at : (s : SendingEnd) (base bits n : ℕ) → is_covered base bits n ≡ true → s.window.acked.base ≤ n → slice_index_or s.tags (n - s.window.acked.base) None ≡ covered_tag s base bits n

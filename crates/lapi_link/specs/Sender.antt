@@ -65,7 +65,8 @@ newly_covered_tag s base bits n = cond (is_unacked s.window n) (covered_tag s ba
 abbrev pub newly_acked : SendingEnd → (base bits : ℕ) → List ℕ
 newly_acked s base bits = filter_map (covered_tag s base bits) (unacked s.window)
 
--- an acknowledgement came: what it covers is acknowledged too, and all else is as before
+-- an acknowledgement came: what it covers is acknowledged too, and all else is as before; each number that may have
+-- to be acknowledged has its tag
 pub record IsAcked (old new : SendingEnd) (base bits : ℕ) : Type 0 where
   pub acked : (n : ℕ) → is_acked new.window n ≡ (is_acked old.window n || is_covered base bits n)
   pub bytes : (n : ℕ) → is_acked new.window n ≡ false → bytes_of new.window n ≡ bytes_of old.window n
@@ -74,3 +75,4 @@ pub record IsAcked (old new : SendingEnd) (base bits : ℕ) : Type 0 where
   pub size : new.window.window ≡ old.window.window
   pub waiting : new.waiting ≡ old.waiting
   pub tags : (n : ℕ) → is_acked new.window n ≡ false → tag_of new n ≡ tag_of old n
+  pub tagged : new.window.acked.base + length new.tags ≡ new.window.numbers

@@ -51,7 +51,7 @@ below-every (suc n) p h =
 
 module _ (script : Script) (m : MsgName) where
   -- the numbers of the message in a list of pairs that pass
-  count_in : List (MsgName × ℕ) → (ℕ → Bool) → ℕ
+  unfoldable pub count_in : List (MsgName × ℕ) → (ℕ → Bool) → ℕ
   count_in pairs passes = length (below (length pairs) (λ n. is_of script m (slice_get pairs n) && passes n))
 
   count-append : (xs ys : List (MsgName × ℕ)) (passes : ℕ → Bool) → count_in (xs ++ ys) passes ≡ count_in xs passes + count_in ys (λ n. passes (length xs + n))
@@ -94,14 +94,14 @@ module _ (script : Script) (m : MsgName) where
         | false ↦ refl
       ]
 
-  own-copy : (J : List Event) (passes : ℕ → Bool) → count_in (link J) passes ≡ 0 → ((n : ℕ) → length (link J) ≤ n → passes n ≡ true) → count_in (link (Copy m ∷ J)) passes ≡ fragment_count script m
+  pub own-copy : (J : List Event) (passes : ℕ → Bool) → count_in (link J) passes ≡ 0 → ((n : ℕ) → length (link J) ≤ n → passes n ≡ true) → count_in (link (Copy m ∷ J)) passes ≡ fragment_count script m
   own-copy J passes none all =
       ap (λ ps. count_in ps passes) (numbered-copy script m J (sender script m) (receiver script m) ∙ cond-true _ (link J ++ fragments script m) (link J) here)
       ∙ count-append (link J) (fragments script m) passes
       ∙ (let own = own-count (λ n. passes (length (link J) + n)) (λ n. all (length (link J) + n) (omega arith)) in let q : count_in (link J) passes + count_in (fragments script m) (λ n. passes (length (link J) + n)) ≡ fragment_count script m = omega arith in q)
 
   -- no number is of a message that wasn't copied
-  uncopied-count : (J : List Event) (passes : ℕ → Bool) → happened (Copied m) J ≡ false → count_in (link J) passes ≡ 0
+  pub uncopied-count : (J : List Event) (passes : ℕ → Bool) → happened (Copied m) J ≡ false → count_in (link J) passes ≡ 0
   unfolding count_in
   uncopied-count J passes new =
       length-below-none (length (link J)) (λ n. is_of script m (slice_get (link J) n) && passes n) (λ n l.
@@ -111,7 +111,7 @@ module _ (script : Script) (m : MsgName) where
 
   module _ (rules : Rules) (passes : ℕ → Bool) where
     -- one event more
-    step-count : (e : Event) (J : List Event) → Atomic script rules (e ∷ J) → happened (Copied m) J ≡ true → count_in (link (e ∷ J)) passes ≡ count_in (link J) passes
+    pub step-count : (e : Event) (J : List Event) → Atomic script rules (e ∷ J) → happened (Copied m) J ≡ true → count_in (link (e ∷ J)) passes ≡ count_in (link J) passes
     unfolding numbered
     step-count (Copy x) J h d = other-copy x J passes (false_from_ne_true (name_eq m x) (λ same. both_ways _ (Atomic-head script rules (Copy x) J h).once (subst (λ (k : MsgName). happened (Copied k) J ≡ true) (name_eq-true m x same) d)))
     step-count (Issue a i) J h d = refl
@@ -162,11 +162,11 @@ module _ (script : Script) (m : MsgName) where
 
 -- the laws
 module _ (script : Script) (rules : Rules) where
-  count-is : (r : Run) (a i : ℕ) → unacknowledged script rules r a i ≡ count_in script (message a i Go) (numbered script r.journal a (receiver script (message a i Go))) (λ n. not (is_acked r a (receiver script (message a i Go)) n))
+  pub count-is : (r : Run) (a i : ℕ) → unacknowledged script rules r a i ≡ count_in script (message a i Go) (numbered script r.journal a (receiver script (message a i Go))) (λ n. not (is_acked r a (receiver script (message a i Go)) n))
   unfolding numbers_that count_in
   count-is r a i = refl
 
-  counted-same : (s : Run) (a i : ℕ) (told : ℕ → Bool) → ((n : ℕ) → is_acked s a (receiver script (message a i Go)) n ≡ told n) → unacknowledged script rules s a i ≡ count_in script (message a i Go) (numbered script s.journal a (receiver script (message a i Go))) (λ n. not (told n))
+  pub counted-same : (s : Run) (a i : ℕ) (told : ℕ → Bool) → ((n : ℕ) → is_acked s a (receiver script (message a i Go)) n ≡ told n) → unacknowledged script rules s a i ≡ count_in script (message a i Go) (numbered script s.journal a (receiver script (message a i Go))) (λ n. not (told n))
   counted-same s a i told same = count-is s a i ∙ ap (count_in script (message a i Go) (numbered script s.journal a (receiver script (message a i Go)))) (by_points _ _ (λ n. ap not (same n)))
 
 pub counts-stay : HoldsOfRecords CountsStay

@@ -65,7 +65,7 @@ one-of true false true = refl
 one-of true false false = refl
 
 module _ (script : Script) (rules : Rules) where
-  done-is : (r : Run) (a i : ℕ) → has_back (statement script a i) ≡ false → data_done script r a i ≡ (happened (Copied (message a i Go)) r.journal && unacknowledged script rules r a i == 0)
+  pub done-is : (r : Run) (a i : ℕ) → has_back (statement script a i) ≡ false → data_done script r a i ≡ (happened (Copied (message a i Go)) r.journal && unacknowledged script rules r a i == 0)
   unfolding data_done all_numbers numbers_that
   done-is r a i h =
       let m = message a i Go in

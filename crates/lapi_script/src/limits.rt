@@ -44,13 +44,14 @@ pub(crate) fn is_built_statement(statement: &Statement) -> bool
         | Statement::Am { .. }
         | Statement::Wait { .. }
         | Statement::Set { .. }
-        | Statement::Read { .. } => true,
+        | Statement::Read { .. }
+        | Statement::Fence => true,
         Statement::Put { to, .. } => is_plain(*to),
         Statement::Get { from, .. } => is_plain(*from),
         Statement::Putv { to, from, .. } => is_plain_vector(to) && is_plain_vector(from),
         Statement::Getv { from, to, .. } => is_plain_vector(from) && is_plain_vector(to),
         Statement::Rmw { at, .. } => is_plain(*at),
-        Statement::Fence | Statement::Gfence | Statement::Addr { .. } => false,
+        Statement::Gfence | Statement::Addr { .. } => false,
     }
 }
 

@@ -11,7 +11,7 @@ use Rattle.lapi_base.specs.Laws.Locality.{SameStatements, SameLinks}
 use Rattle.lapi_base.specs.Record.Names.{Issued, Copied, happened, message}
 use Rattle.lapi_base.specs.Record.Operations.{numbers_below, statements, statement, is_data}
 use Rattle.lapi_base.specs.Record.Packets.{data_packet}
-use Rattle.lapi_base.specs.Record.Wires.{Run, numbered, has_number, has_ack}
+use Rattle.lapi_base.specs.Record.Wires.{Run, numbered, is_acked, has_number, has_ack}
 use Rattle.lapi_base.specs.Record.WorldView.{performed, IsRecord}
 use Rattle.lapi_base.specs.Record.TaskPart.{part_at}
 use Rattle.lapi_base.specs.Record.Values.{values, memory_bytes}
@@ -30,6 +30,12 @@ use Rattle.lapi_task.specs.declared.task.Task.{Task}
 use Rattle.lapi_task.specs.Apart.{TasksStayApart, StandsByPart}
 use Rattle.lapi_task.specs.Sends.{SendsFor, packet_at, spelled}
 use Rattle.lapi_task.specs.StandsFor.{is_uncopied, SenderAt, ReceiverAt, HoldsFor, StandsFor}
+use Rattle.lapi_task.proofs.Tags.{tags-same}
+use Rattle.lapi_parts.proofs.CopiedCounts.{count_in, count-is, counted-same}
+use Rattle.lapi_task.proofs.UnfinishedLaws.{StaysAt, tracks-stay}
+use Rattle.lapi_base.specs.Record.Operations.{receiver}
+use Rattle.lapi_base.specs.Record.Names.{Landed}
+use Rattle.lapi_base.specs.declared.message.Leg.TheVariants.{Back}
 
 module _ (script : Script) (rules : Rules) (t : ℕ) where
   -- Two records with the same part at the task.
@@ -89,7 +95,22 @@ module _ (script : Script) (rules : Rules) (t : ℕ) where
       whole = h.whole;
       kept = λ n lt left. h.kept n lt left ∙ packet-same b n;
       waiting = λ i. h.waiting i ∙ packet-same b _;
+      tags = tags-same script end r.journal s.journal t b (sym (links.numbers b)) h.tags;
     }
+
+    data-same : (i : ℕ) → StaysAt script rules t r s i
+    data-same i =
+        let b = receiver script (message t i Go) in
+        let told = λ (n : ℕ). ap (λ (ps : List Packet). has_ack ps n) (sym (same.handed b)) in
+        record {
+          issued = sym (acts.same_events (Issued t i) refl);
+          copied = sym (acts.same_events (Copied (message t i Go)) refl);
+          landed = sym (acts.same_events (Landed (message t i Back)) refl);
+          count = λ d.
+              counted-same script rules s t i (is_acked r t b) told
+              ∙ ap (λ (ps : List (MsgName × ℕ)). count_in script (message t i Go) ps (λ n. not (is_acked r t b n))) (sym (links.numbers b))
+              ∙ sym (count-is script rules r t i);
+        }
 
     sender-same : (b : ℕ) (o : Option SendingEnd) → SenderAt script rules r t b o → SenderAt script rules s t b o
     sender-same b None h = absurd h
@@ -99,6 +120,7 @@ module _ (script : Script) (rules : Rules) (t : ℕ) where
     stands-same task h = record {
       calls = h.calls;
       holds = holds-same task.state h.holds;
+      unfinished = tracks-stay script rules t task.unfinished r s data-same h.unfinished;
       sender_count = h.sender_count;
       receiver_count = h.receiver_count;
       senders = λ b lt. sender-same b (slice_get task.senders.items b) (h.senders b lt);

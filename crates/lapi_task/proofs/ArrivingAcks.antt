@@ -29,6 +29,9 @@ use Rattle.lapi_task.specs.declared.task.Task.{Task}
 use Rattle.lapi_task.specs.HasEffect.{IsAt, HasEffect}
 use Rattle.lapi_task.specs.Sends.{SendsFor, packet_at}
 use Rattle.lapi_task.specs.StandsFor.{SenderAt, ReceiverAt, StandsFor}
+use Rattle.lapi_task.proofs.Tags.{tags-acked}
+use Rattle.lapi_task.specs.declared.unfinished.Unfinished.{Unfinished}
+use Rattle.lapi_task.specs.Unfinished.{Tracks}
 
 module _ (script : Script) (ps : List Packet) (x y base bits : ℕ) where
   -- Among packets that were handed over, an acknowledgement tells of no number and of no fragment,
@@ -58,17 +61,17 @@ module _ (script : Script) (ps : List Packet) (x y base bits : ℕ) where
 
 module _ (script : Script) (rules : Rules) (r : Run) (from t k x y base bits : ℕ) where
   -- the record with the acknowledgement handed over
-  abbrev noted : Run
+  abbrev pub noted : Run
   noted = reply_with script rules (with_handed script rules r from t (Ack x y base bits)) Did
 
-  delivered : slice_get (r.wire from t) k ≡ Some (Ack x y base bits) → deliver script rules r from t k ≡ noted
+  pub delivered : slice_get (r.wire from t) k ≡ Some (Ack x y base bits) → deliver script rules r from t k ≡ noted
   unfolding deliver hand_over
   delivered entry = ap (deliver_entry script rules r from t) entry
 
-  handed-own : noted.handed from t ≡ Ack x y base bits ∷ r.handed from t
+  pub handed-own : noted.handed from t ≡ Ack x y base bits ∷ r.handed from t
   handed-own = cond-true (from == from && t == t) (Ack x y base bits ∷ r.handed from t) (r.handed from t) (and_from _ _ (eqb-refl from) (eqb-refl t))
 
-  handed-other : (b : ℕ) → (b == from) ≡ false → noted.handed b t ≡ r.handed b t
+  pub handed-other : (b : ℕ) → (b == from) ≡ false → noted.handed b t ≡ r.handed b t
   handed-other b apart = ap (λ c. cond (c && t == t) (Ack x y base bits ∷ r.handed b t) (r.handed b t)) apart
 
   -- Its own link has what it covers acknowledged too, and other links stay.
@@ -88,6 +91,7 @@ module _ (script : Script) (rules : Rules) (r : Run) (from t k x y base bits : �
     whole = (λ i. g.sent i + length (g.waiting i)) ∙ h.whole ∙ sym g.numbers;
     kept = λ n lt left. g.bytes n left ∙ h.kept n (subst (λ m. n < m) g.sent lt) (or_parts (window.is_acked old.window n) (is_covered base bits n) (sym (g.acked n) ∙ left)).0;
     waiting = λ i. ap (λ (ws : List (List ℕ)). slice_get ws i) g.waiting ∙ h.waiting i ∙ ap (λ m. packet_at script rules r.journal t from (m + i)) (sym g.sent);
+    tags = tags-acked script old new base bits r.journal t from g h.tags;
   }
 
   sends-other : (b : ℕ) → (b == from) ≡ false → (s : SendingEnd) → SendsFor script rules s r t b → SendsFor script rules s noted t b
@@ -101,6 +105,7 @@ module _ (script : Script) (rules : Rules) (r : Run) (from t k x y base bits : �
     whole = h.whole;
     kept = h.kept;
     waiting = h.waiting;
+    tags = h.tags;
   }
 
   sender-other : (b : ℕ) → (b == from) ≡ false → (o : Option SendingEnd) → SenderAt script rules r t b o → SenderAt script rules noted t b o
@@ -114,16 +119,17 @@ module _ (script : Script) (rules : Rules) (r : Run) (from t k x y base bits : �
         | false ↦ λ e. subst (λ ps. ReceiverAt script rules ps o) (sym (handed-other a e)) h
       ] refl
 
-  -- the task with another end of the link
-  abbrev with_sender : Task → SendingEnd → Task
-  with_sender task new = record task { senders = with_item task.senders from new }
+  -- the task with another end of the link, and with what is not done then
+  abbrev pub with_sender : Task → SendingEnd → Unfinished → Task
+  with_sender task new u = record task { senders = with_item task.senders from new; unfinished = u }
 
-  stands-after : (task : Task) (old new : SendingEnd) → slice_get task.senders.items from ≡ Some old → IsAcked old new base bits → SendsFor script rules old r t from → StandsFor script rules t task r → StandsFor script rules t (with_sender task new) noted
-  stands-after task old new there g own h =
+  stands-after : (task : Task) (old new : SendingEnd) (u : Unfinished) → Tracks script rules t u noted → slice_get task.senders.items from ≡ Some old → IsAcked old new base bits → SendsFor script rules old r t from → StandsFor script rules t task r → StandsFor script rules t (with_sender task new u) noted
+  stands-after task old new u tracks there g own h =
       let ends = task.senders.items in
       record {
         calls = record { supported = h.calls.supported; rules_valid = h.calls.rules_valid; sizes = h.calls.sizes; statements = h.calls.statements; limits = h.calls.limits };
         holds = h.holds;
+        unfinished = tracks;
         sender_count = length-set ends from new ∙ h.sender_count;
         receiver_count = h.receiver_count;
         senders = λ b lt.
@@ -153,7 +159,7 @@ module _ (script : Script) (rules : Rules) (r : Run) (from t k x y base bits : �
   }
 
   module _ (task : Task) (at : IsAt script rules t task r) (known : from < script.tasks) (entry : slice_get (r.wire from t) k ≡ Some (Ack x y base bits)) (end : SendingEnd) (read : end ≡ get_or task.senders.items from end) where
-    here : (slice_get task.senders.items from ≡ Some end) × SendsFor script rules end r t from
+    pub here : (slice_get task.senders.items from ≡ Some end) × SendsFor script rules end r t from
     here =
         let ends = task.senders.items in
         elim (slice_get ends from) as (λ o. slice_get ends from ≡ o → SenderAt script rules r t from o → (o ≡ Some end) × SendsFor script rules end r t from) [
@@ -167,7 +173,7 @@ module _ (script : Script) (rules : Rules) (r : Run) (from t k x y base bits : �
     covers-sent n covered = ltb-true n (sent_count end.window) (sym (here.1.numbers.sent n) ∙ acks-cover-sent script rules r at.recorded from t k n (Ack x y base bits) entry covered)
 
     -- and so the task is told of it.
-    pub acked-does : (new : SendingEnd) → IsAcked end new base bits → (out : Outcome) → HasEffect script rules t r (deliver script rules r from t k) (with_sender task new) out out
-    acked-does new g out =
-        subst (λ s. HasEffect script rules t r s (with_sender task new) out out) (sym (delivered entry))
-        (noted-does (with_sender task new) out (stands-after task end new here.0 g here.1 at.stands))
+    pub acked-does : (new : SendingEnd) (u : Unfinished) → Tracks script rules t u noted → IsAcked end new base bits → (out : Outcome) → HasEffect script rules t r (deliver script rules r from t k) (with_sender task new u) out out
+    acked-does new u tracks g out =
+        subst (λ s. HasEffect script rules t r s (with_sender task new u) out out) (sym (delivered entry))
+        (noted-does (with_sender task new u) out (stands-after task end new u tracks here.0 g here.1 at.stands))

@@ -1,8 +1,8 @@
 -- The copy of a statement's data: what its task and its record have then.
 use Rattle.std.proofs.Common.{◌≡◌, ℕ, ◌+◌, ◌*◌, ◌<◌, ◌≤◌, ◌==◌, Bool, true, false, cond, not, ◌&&◌, List, [], ◌∷◌, ◌++◌, map, length, set, Option, Some, None, refl, sym, ap, ◌∙◌, subst, arith, inl}
-use Rattle.std.specs.Prelude.{slice_get, slice_index, option_to_list}
+use Rattle.std.specs.Prelude.{slice_get, slice_index, slice_set, option_to_list}
 use Rattle.std.specs.List.{AllByRecursion, flat_map}
-use Rattle.std.proofs.lemmas.Bool.{cond-true, and_parts, and_right}
+use Rattle.std.proofs.lemmas.Bool.{cond-true, and_parts, and_right, not-true}
 use Rattle.std.proofs.lemmas.List.Elements.{All-from_recursion}
 use Rattle.std.proofs.Math.ListN.{length-set}
 use Rattle.lapi_base.specs.declared.piece.Piece.{Piece}
@@ -50,7 +50,7 @@ use Rattle.lapi_task.specs.declared.task.Task.{Task}
 use Rattle.lapi_task.specs.Copies.{copy_of, source, IsCopyable, IsCopied, CopiesNext}
 use Rattle.lapi_task.specs.Counting.{announced}
 use Rattle.lapi_task.specs.Outgoing.{with_message, AreSpelled}
-use Rattle.lapi_task.specs.StandsFor.{is_uncopied, task_unit, ReceiverAt, HasCalls, HoldsFor, StandsFor}
+use Rattle.lapi_task.specs.StandsFor.{is_uncopied, task_unit, SenderAt, ReceiverAt, HasCalls, HoldsFor, StandsFor}
 use Rattle.lapi_task.proofs.CopyLists.{below-less, other-message}
 use Rattle.lapi_task.proofs.CopySendable.{no_round, no_entry, may-send}
 use Rattle.lapi_task.proofs.Forms.{statement-is}
@@ -58,6 +58,10 @@ use Rattle.lapi_task.proofs.JobsStay.{jobs-stay}
 use Rattle.lapi_task.proofs.MessageCopies.{packet-is, count-is, copied-ends}
 use Rattle.lapi_task.proofs.ReceiveCounts.{announced-length, announced-at}
 use Rattle.lapi_task.proofs.StepMemories.{read-over, memory-none, memory-length}
+use Rattle.lapi_base.specs.Record.Fragments.{fragments_in}
+use Rattle.lapi_task.specs.declared.unfinished.Unfinished.{Unfinished}
+use Rattle.lapi_task.specs.Unfinished.{Tracks}
+use Rattle.lapi_task.proofs.UnfinishedLaws.{tracks-copied}
 
 -- the unit of a task is its script's
 pub unit-is : (script : Script) (rules : Rules) (t : ℕ) (task : Task) → HasCalls script rules t task → task_unit task ≡ unit_of script
@@ -115,6 +119,15 @@ first-of n i p rest e = (subst (AllByRecursion (λ k. (k < n) × (p k ≡ true))
 pub record IsPopped (before after : Task) (rest : List ℕ) : Type 0 where
   pub list : after.state.uncopied.items ≡ rest
   pub others : after ≡ record before { state = record before.state { uncopied = after.state.uncopied } }
+
+-- what a task has but for its data that are not done
+record StandsBut (script : Script) (rules : Rules) (t : ℕ) (task : Task) (r : Run) : Type 0 where
+  pub calls : HasCalls script rules t task
+  pub holds : HoldsFor script rules t task.state r.journal
+  pub sender_count : length task.senders.items ≡ script.tasks
+  pub receiver_count : length task.receivers.items ≡ script.tasks
+  pub senders : (b : ℕ) → b < script.tasks → SenderAt script rules r t b (slice_get task.senders.items b)
+  pub receivers : (a : ℕ) → a < script.tasks → ReceiverAt script (r.handed a t) (slice_get task.receivers.items a)
 
 module _ (script : Script) (rules : Rules) (t : ℕ) (task : Task) (r : Run) (i : ℕ) (rest : List ℕ) (h : CopiesNext script rules t task r i rest) where
   abbrev go : MsgName
@@ -228,7 +241,17 @@ module _ (script : Script) (rules : Rules) (t : ℕ) (task : Task) (r : Run) (i 
         jobs = jobs-stay script rules t (Copy go) r.journal task.state.jobs after.jobs tt (ap (λ (x : State). x.jobs) same) g.jobs;
       }
 
-  pub copied-stands : (popped after : Task) → IsPopped task popped rest → IsCopied (task_unit popped) copy popped after → StandsFor script rules t after (record r { journal = L })
+  uncopied-yet : happened (Copied go) r.journal ≡ false
+  uncopied-yet = not-true _ (and_parts (happened (Issued t i) r.journal) _ (and_parts (is_data (statement script t i)) _ first-is.1).1).1
+
+  tracks-then : Tracks script rules t (record task.unfinished { left = slice_set task.unfinished.left i (fragment_count script go) }) (record r { journal = L })
+  tracks-then = tracks-copied script rules t task.unfinished r i h.atomic within-list uncopied-yet h.told h.stands.unfinished
+
+  -- there is a count for it
+  pub has-count : i < length task.unfinished.left
+  has-count = let l = within-list in let n = h.stands.unfinished.size.1 in omega (arith, l, n)
+
+  copied-stands : (popped after : Task) → IsPopped task popped rest → IsCopied (task_unit popped) copy popped after → StandsBut script rules t after (record r { journal = L })
   copied-stands popped after p g =
       let to = target script t i in
       let unit-then : task_unit popped ≡ unit_of script = ap task_unit p.others ∙ unit-here in
@@ -256,6 +279,22 @@ module _ (script : Script) (rules : Rules) (t : ℕ) (task : Task) (r : Run) (i 
             ∙ (λ k. with_message (unit-then k) copy.message (source (p.others k).state.memory copy) s))
             h.stands.senders;
         receivers = λ a l. subst (λ (xs : List _). ReceiverAt script rules (r.handed a t) (slice_get xs a)) (sym receivers) (h.stands.receivers a l);
+      }
+
+  -- after its fragments were counted
+  pub copied-counted : (popped after : Task) (count : ℕ) → IsPopped task popped rest → IsCopied (task_unit popped) copy popped after → count ≡ fragments_in (task_unit popped) copy.message.length → StandsFor script rules t (record after { unfinished = record after.unfinished { left = slice_set after.unfinished.left i count } }) (record r { journal = L })
+  copied-counted popped after count p g counted =
+      let same : after.unfinished ≡ task.unfinished = ap (λ (x : Task). x.unfinished) g.rest ∙ ap (λ (x : Task). x.unfinished) p.others in
+      let size : count ≡ fragment_count script go = counted ∙ ap (λ (u : ℕ). fragments_in u copy.message.length) (ap task_unit p.others ∙ unit-here) ∙ sym (count-is script rules go) in
+      let s = copied-stands popped after p g in
+      record {
+        calls = record { supported = s.calls.supported; rules_valid = s.calls.rules_valid; sizes = s.calls.sizes; statements = s.calls.statements; limits = s.calls.limits };
+        holds = s.holds;
+        unfinished = subst (λ (u : Unfinished). Tracks script rules t u (record r { journal = L })) (λ k. record { undone = (sym same k).undone; left = slice_set (sym same k).left i (sym size k) }) tracks-then;
+        sender_count = s.sender_count;
+        receiver_count = s.receiver_count;
+        senders = s.senders;
+        receivers = s.receivers;
       }
 
 -- ---- the first number, taken off its list

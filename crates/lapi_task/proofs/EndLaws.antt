@@ -57,6 +57,8 @@ use Rattle.lapi_task.proofs.ReceiveCounts.{announced-length}
 use Rattle.lapi_task.proofs.StepLaws.{stands-on}
 use Rattle.lapi_task.proofs.StepMemories.{memory-none}
 use Rattle.lapi_task.proofs.WorkStays.{Made, end-quiet, with_event, work-holds, work-stands}
+use Rattle.lapi_task.specs.Unfinished.{Tracks}
+use Rattle.lapi_task.proofs.UnfinishedLaws.{tracks-followed}
 
 module _ (script : Script) (rules : Rules) (t : ℕ) (before : Task) (r : Run) (at : IsAt script rules t before r) (f : Finished) (fin : IsFinished script rules t r f) where
   abbrev J : List Event
@@ -175,12 +177,13 @@ module _ (script : Script) (rules : Rules) (t : ℕ) (before : Task) (r : Run) (
     stands-mid = work-stands script rules t r ended before (mid jobs memory counters) tt (end-quiet script rules t m f.worker J) at.stands (made jobs memory counters free wrote told)
 
     -- and with the sending ends changed
-    stands-from : (L : List Event) (after : Task) → after ≡ record task { senders = after.senders } → HoldsFor script rules t (mid jobs memory counters) L → length after.senders.items ≡ script.tasks → ((b : ℕ) → b < script.tasks → SenderAt script rules (record r { journal = L }) t b (slice_get after.senders.items b)) → StandsFor script rules t after (record r { journal = L })
-    stands-from L after same holds count links =
+    stands-from : (L : List Event) (after : Task) → after ≡ record task { senders = after.senders } → HoldsFor script rules t (mid jobs memory counters) L → Tracks script rules t before.unfinished (record r { journal = L }) → length after.senders.items ≡ script.tasks → ((b : ℕ) → b < script.tasks → SenderAt script rules (record r { journal = L }) t b (slice_get after.senders.items b)) → StandsFor script rules t after (record r { journal = L })
+    stands-from L after same holds tracks count links =
         let h = at.stands in
         subst (λ (x : Task). StandsFor script rules t x (record r { journal = L })) (sym same) (record {
           calls = record { supported = h.calls.supported; rules_valid = h.calls.rules_valid; sizes = h.calls.sizes; statements = h.calls.statements; limits = h.calls.limits };
           holds = holds;
+          unfinished = tracks;
           sender_count = count;
           receiver_count = h.receiver_count;
           senders = links;
@@ -206,6 +209,7 @@ module _ (script : Script) (rules : Rules) (t : ℕ) (before : Task) (r : Run) (
       stands-noted after same ends =
           stands-from (note ∷ ended ∷ J) after same
           (work-holds script rules t note (ended ∷ J) (mid jobs memory counters) (mid jobs memory counters) refl stands-mid.holds noted-made)
+          (tracks-followed script rules t before.unfinished K (message m.origin m.statement Note) refl (atomic-noted c e) stands-mid.unfinished)
           (ap length ends ∙ followed-length script rules (unit_of script) (Some (end_note t m c)) before.senders.items ∙ at.stands.sender_count)
           (λ b l.
           subst (λ (xs : List SendingEnd). SenderAt script rules (with_event script rules t K note) t b (slice_get xs b)) (sym ends)
@@ -214,7 +218,7 @@ module _ (script : Script) (rules : Rules) (t : ℕ) (before : Task) (r : Run) (
     stands-then : (o : Option ℕ) → cmpl_counter s ≡ o → (after : Task) → after ≡ record task { senders = after.senders } → after.senders.items ≡ with_follower (unit_of script) (option_map (end_note t m) o) before.senders.items → StandsFor script rules t after (record r { journal = followed (ended ∷ J) (noted m o) })
     unfolding followed
     stands-then None e after same ends =
-        stands-from (ended ∷ J) after same stands-mid.holds (ap length ends ∙ at.stands.sender_count)
+        stands-from (ended ∷ J) after same stands-mid.holds stands-mid.unfinished (ap length ends ∙ at.stands.sender_count)
         (λ b l. subst (λ (xs : List SendingEnd). SenderAt script rules K t b (slice_get xs b)) (sym ends) (stands-mid.senders b l))
     stands-then (Some c) e after same ends = stands-noted c e after same ends
 

@@ -26,6 +26,7 @@ joins-none (statements.Am target handler header from len tgt org cmpl) h = refl
 joins-none (statements.Wait counter value) h = refl
 joins-none (statements.Set counter value) h = refl
 joins-none (statements.Read counter) h = refl
+joins-none statements.Fence h = refl
 joins-none _ h = absurd (false≢true h)
 
 pub statement-is : (script : Script) (a i : ℕ) (s : Statement) → slice_get (operations.statements script a) i ≡ Some s → statement script a i ≡ s

@@ -1,7 +1,9 @@
+pub mod AckTracks
 pub mod AnswerLaws
 pub mod AnswerSpelled
 pub mod Apart
 pub mod ArrivingAcks
+pub mod ArrivingData
 pub mod ArrivingFits
 pub mod BeginLaws
 pub mod CopyLaws
@@ -11,6 +13,8 @@ pub mod CopySendable
 pub mod EffectLaws
 pub mod EndLaws
 pub mod EndNotes
+pub mod FenceLaws
+pub mod FenceSteps
 pub mod FollowerParts
 pub mod Followers
 pub mod Forms
@@ -39,5 +43,9 @@ pub mod StepFields
 pub mod StepLaws
 pub mod StepMemories
 pub mod StillLaws
+pub mod Tags
 pub mod TickLaws
+pub mod TimesLaws
+pub mod UnfinishedAcks
+pub mod UnfinishedLaws
 pub mod WorkStays

@@ -26,8 +26,9 @@ use Rattle.lapi_window.specs.SendWindow.{sent_count, bytes_of}
 use Rattle.lapi_task.specs.Sends.{packet_at, SendsFor}
 use Rattle.lapi_task.specs.StandsFor.{SenderAt}
 use Rattle.lapi_laws.proofs.Places.{fragments-length}
+use Rattle.lapi_task.proofs.Tags.{tags-same, tags-copied}
 use Rattle.lapi_task.proofs.Packets.{packet-stays, packet-same, packet-new, numbered-own}
-use Rattle.lapi_task.specs.Outgoing.{outgoing, packet_of, packets_of, extended, with_message}
+use Rattle.lapi_task.specs.Outgoing.{outgoing, tag_of, packet_of, packets_of, extended, with_message}
 use Rattle.lapi_task.specs.Outgoing as leaving
 
 numbers_below-at : (c k j : ℕ) → slice_get (numbers_below c) k ≡ Some j → j ≡ k
@@ -95,6 +96,9 @@ module _ (script : Script) (rules : Rules) (m : MsgName) where
     abbrev xs : List (List ℕ)
     xs = map (spelled-fragment J (length (numbered script J from to))) (numbers_below pieces)
 
+    abbrev tag : Option ℕ
+    tag = tag_of (outgoing script m)
+
     xs-length : length xs ≡ fragment_count script m
     xs-length = length-map (numbers_below pieces) (spelled-fragment J (length (numbered script J from to))) ∙ numbers_below-length pieces ∙ sym count-is
 
@@ -114,17 +118,18 @@ module _ (script : Script) (rules : Rules) (m : MsgName) where
         ap (slice_get (s.waiting ++ xs)) at ∙ get-after s.waiting xs d ∙ sym (new-packet J d) ∙ ap (packet_at script rules K from to) (let q : n + d ≡ sent_count s.window + k = omega (arith, counted) in q))
         (cases_lt k (length s.waiting))
 
-    extended-now : SendsFor script rules (extended s xs) (record r { journal = K }) from to
+    extended-now : SendsFor script rules (extended s tag xs) (record r { journal = K }) from to
     unfolding bytes_of
     extended-now = record {
       numbers = record { size = h.numbers.size; numbers = ap (λ k. k + length xs) h.numbers.numbers ∙ sym numbered-length; sent = h.numbers.sent; acked = h.numbers.acked };
       whole = (let w = h.whole in let l = length-append s.waiting xs in omega (arith, w, l));
       kept = λ n l u. h.kept n l u ∙ sym (packet-stays script rules (Copy m) J from to n atomic (let w = h.whole in let c = h.numbers.numbers in omega (arith, w, c, l)));
       waiting = waits;
+      tags = tags-copied script rules m s J xs h.numbers.numbers xs-length h.tags;
     }
 
     pub copied-sends : (bytes : List ℕ) → bytes ≡ carried script rules K m → SendsFor script rules (with_message (unit_of script) (outgoing script m) bytes s) (record r { journal = K }) from to
-    copied-sends bytes same = subst (λ (ys : List (List ℕ)). SendsFor script rules (extended s ys) (record r { journal = K }) from to) (λ k. packets_of (outgoing script m) (unit_of script) (sym h.numbers.numbers k) (sym same k)) extended-now
+    copied-sends bytes same = subst (λ (ys : List (List ℕ)). SendsFor script rules (extended s tag ys) (record r { journal = K }) from to) (λ k. packets_of (outgoing script m) (unit_of script) (sym h.numbers.numbers k) (sym same k)) extended-now
 
   -- Another link stays as it was.
   numbered-other : (J : List Event) (t b : ℕ) → b ≢ to → numbered script (Copy m ∷ J) t b ≡ numbered script J t b
@@ -140,6 +145,7 @@ module _ (script : Script) (rules : Rules) (m : MsgName) where
         whole = h.whole;
         kept = λ n l u. h.kept n l u ∙ sym (packet-same script rules (Copy m) r.journal t b atomic same n);
         waiting = λ k. h.waiting k ∙ sym (packet-same script rules (Copy m) r.journal t b atomic same (sent_count s.window + k));
+        tags = tags-same script s r.journal (Copy m ∷ r.journal) t b same h.tags;
       }
 
   -- All ends of its task.

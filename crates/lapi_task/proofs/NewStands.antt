@@ -1,8 +1,8 @@
 -- A task before its first statement.
-use Rattle.std.proofs.Common.{◌≡◌, ℕ, ◌<◌, ◌^◌, false, [], length, None, refl, sym, ap, ◌∙◌, subst, arith}
+use Rattle.std.proofs.Common.{◌≡◌, ℕ, zero, suc, ◌<◌, ◌^◌, false, replicate, [], length, None, refl, sym, ap, ◌∙◌, subst, arith}
 use Rattle.std.specs.Prelude.{slice_get, slice_index, nat_lt}
 use Rattle.std.specs.List.{AllByRecursion}
-use Rattle.std.proofs.lemmas.Bool.{and_right, le-ltb}
+use Rattle.std.proofs.lemmas.Bool.{and_right, le-ltb, false≢true}
 use Rattle.std.proofs.lemmas.List.{length-replicate, get_or-replicate}
 use Rattle.lapi_base.specs.declared.script.Script.{Script}
 use Rattle.lapi_base.specs.declared.rule.Rules.{Rules}
@@ -24,11 +24,16 @@ use Rattle.lapi_task.proofs.StepMemories.{memory-blank}
 use Rattle.lapi_base.proofs.BelowLaws.{below-none}
 use Rattle.lapi_base.proofs.ListLaws.{all-get, get-some}
 use Rattle.lapi_task.proofs.KeptAnswers.{new-kept}
+use Rattle.lapi_task.proofs.Tags.{tags-new}
+use Rattle.lapi_collect.specs.Outstanding.{is_open}
+use Rattle.lapi_task.specs.declared.unfinished.Unfinished.{Unfinished}
+use Rattle.lapi_task.specs.Unfinished.{Tracks}
 
 -- the task has happened nothing
 pub record IsNew (script : Script) (rules : Rules) (t : ℕ) (task : Task) : Type 0 where
   pub calls : HasCalls script rules t task
   pub state : IsNewState (sizes_of script) t task.state
+  pub unfinished : (task.unfinished.undone ≡ replicate (length (statements script t)) false) × (task.unfinished.left ≡ replicate (length (statements script t)) 0)
   pub senders : (length task.senders.items ≡ script.tasks) × AllByRecursion (IsNewSender (window_of script)) task.senders.items
   pub receivers : (length task.receivers.items ≡ script.tasks) × AllByRecursion (IsNewReceiver (window_of script) (unit_of script)) task.receivers.items
 
@@ -69,12 +74,27 @@ module _ (script : Script) (rules : Rules) where
     whole = let sent = h.sent in let none = ap length h.waiting in let numbers = h.numbers in omega (arith, sent, none, numbers);
     kept = λ n l u. let sent = h.sent in absurd (omega (arith, l, sent));
     waiting = λ i. ap (λ xs. slice_get xs i) h.waiting;
+    tags = tags-new script (window_of script) s a b h;
+  }
+
+  none-open : (n i : ℕ) → is_open (replicate n false) i ≡ false
+  none-open zero i = refl
+  none-open (suc n) zero = refl
+  none-open (suc n) (suc i) = none-open n i
+
+  new-tracks : (t : ℕ) (u : Unfinished) → u.undone ≡ replicate (length (statements script t)) false → u.left ≡ replicate (length (statements script t)) 0 → Tracks script rules t u start
+  unfolding happened
+  new-tracks t u undone left = record {
+    size = (ap length undone ∙ length-replicate (length (statements script t)) false, ap length left ∙ length-replicate (length (statements script t)) 0);
+    undone = λ i. ap (λ xs. is_open xs i) undone ∙ none-open (length (statements script t)) i ∙ sym (and_right (is_data (statement script t i)) false refl);
+    left = λ i b d. absurd (false≢true d);
   }
 
   pub new-stands : (t : ℕ) (task : Task) → IsNew script rules t task → StandsFor script rules t task start
   new-stands t task h = record {
     calls = h.calls;
     holds = new-holds t task.state h.state;
+    unfinished = new-tracks t task.unfinished h.unfinished.0 h.unfinished.1;
     sender_count = h.senders.0;
     receiver_count = h.receivers.0;
     senders = λ b l.

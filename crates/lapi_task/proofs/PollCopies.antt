@@ -1,5 +1,5 @@
 -- The copies of a poll, one after another.
-use Rattle.std.proofs.Common.{◌≡◌, ℕ, ◌+◌, ◌<◌, List, [], ◌∷◌, ◌++◌, length, refl, sym, ap, ◌∙◌, subst, arith, append_assoc}
+use Rattle.std.proofs.Common.{◌≡◌, ℕ, ◌+◌, ◌<◌, ◌≤◌, List, [], ◌∷◌, ◌++◌, length, refl, sym, ap, ◌∙◌, subst, arith, append_assoc}
 use Rattle.std.proofs.lemmas.List.{append-nil, length-append, map-append}
 use Rattle.lapi_base.specs.declared.script.Script.{Script}
 use Rattle.lapi_base.specs.declared.rule.Rules.{Rules}
@@ -10,7 +10,7 @@ use Rattle.lapi_base.specs.Record.Atomic.{Atomic}
 use Rattle.lapi_base.specs.Record.Below.{below}
 use Rattle.lapi_base.specs.Record.Names.{message}
 use Rattle.lapi_base.specs.Record.Operations.{statements}
-use Rattle.lapi_base.specs.Record.Wires.{Run}
+use Rattle.lapi_base.specs.Record.Wires.{Run, numbered}
 use Rattle.lapi_base.specs.Record.Acts.{followed, copy_each, ready, poll}
 use Rattle.lapi_laws.proofs.Lines.{poll-sound}
 use Rattle.lapi_laws.proofs.Once.{atomic-end}
@@ -21,6 +21,8 @@ use Rattle.lapi_task.specs.HasEffect.{IsAt}
 use Rattle.lapi_task.specs.Supported.{IsSupported}
 use Rattle.lapi_task.specs.StandsFor.{is_uncopied, StandsFor}
 use Rattle.lapi_task.proofs.CopyLists.{copies, copies-push, followed-append, followed-none, followed-push, copies-all}
+use Rattle.lapi_laws.proofs.SentWindow.{grows-cons}
+use Rattle.lapi_parts.proofs.Receivable.{sent-numbers, acked-sent}
 
 -- the statements of a list were copied, and others wait
 pub record SomeCopied (script : Script) (rules : Rules) (t : ℕ) (r : Run) (task : Task) (old new : List Event) (turns : ℕ) : Type 0 where
@@ -50,12 +52,18 @@ module _ (script : Script) (rules : Rules) (perf : IsSupported script) (t : ℕ)
   unfolding poll
   polled-atomic first at = (poll-sound script rules r t (record-sound script rules r at.recorded)).atomic
 
+  numbers-grow : (es J : List Event) (a b : ℕ) → length (numbered script J a b) ≤ length (numbered script (followed J es) a b)
+  unfolding followed
+  numbers-grow [] J a b = omega arith
+  numbers-grow (e ∷ es) J a b = let one = grows-cons script rules e J a b in let rest = numbers-grow es (e ∷ J) a b in omega (arith, one, rest)
+
   -- the next one may be copied
   pub copies-next : (first task : Task) (old new : List Event) (turns i : ℕ) (rest : List ℕ) → IsAt script rules t first r → (h : SomeCopied script rules t r task old new turns) → task.state.uncopied.items ≡ i ∷ rest → CopiesNext script rules t task (record r { journal = followed r.journal (copies t h.copied) }) i rest
   copies-next first task old new turns i rest at h list = record {
     known = at.known;
     stands = h.stands;
     first = list;
+    told = λ b n acked. let here = sent-numbers script rules r at.recorded t b n (acked-sent script rules r at.recorded t b n acked) in let more = numbers-grow (copies t h.copied) r.journal t b in omega (arith, here, more);
     atomic =
         let J = r.journal in
         let whole : copy_each J (ready script J t) ≡ followed (followed J (copies t (h.copied ++ i ∷ []))) (copies t rest) =

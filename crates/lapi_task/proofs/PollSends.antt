@@ -39,6 +39,9 @@ use Rattle.lapi_base.proofs.ListLaws.{flat_map-push, get-after, get-before, get-
 use Rattle.lapi_base.proofs.TestLaws.{eqb-refl}
 use Rattle.lapi_base.proofs.UptoLaws.{numbers_below-more}
 use Rattle.lapi_parts.proofs.FirstLayout.{sends-data}
+use Rattle.lapi_task.proofs.Tags.{tags-sent}
+use Rattle.lapi_task.specs.Unfinished.{Tracks}
+use Rattle.lapi_task.proofs.UnfinishedLaws.{tracks-told}
 
 -- Lists by their places.
 get-take : {X : Type 0} (xs : List X) (k i : ℕ) → i < k → slice_get (take k xs) i ≡ slice_get xs i
@@ -215,6 +218,7 @@ module _ (script : Script) (rules : Rules) (valid : ValidScript script) (t : ℕ
       whole = (let w = h.whole in let c = count-now in let d = length-drop count s.waiting in let f = count-fits in omega (arith, w, c, d, f));
       kept = λ n l u. bytes-now n (subst (λ m. n < m) count-now l) u;
       waiting = λ i. get-drop s.waiting count i ∙ h.waiting (count + i) ∙ ap (packet_at script rules J t b) (let c = count-now in omega (arith, c));
+      tags = tags-sent script s count J t b h.tags;
     }
 
 -- ---- all links of a task
@@ -259,6 +263,7 @@ module _ (script : Script) (rules : Rules) (valid : ValidScript script) (t : ℕ
             limits = ap (λ (x : Task). x.limits) rest ∙ stands.calls.limits;
           };
           holds = subst (λ (x : State). HoldsFor script rules t x (copy_each r.journal (ready script r.journal t))) (sym (ap (λ (x : Task). x.state) rest)) stands.holds;
+          unfinished = subst (λ (x : Task). Tracks script rules t x.unfinished (poll script rules r t)) (sym rest) (tracks-told script rules t task.unfinished (then_ script rules valid t r recorded) (poll script rules r t) refl (λ b n. refl) stands.unfinished);
           sender_count = sends.size ∙ stands.sender_count;
           receiver_count = ap (λ (x : Task). length x.receivers.items) rest ∙ stands.receiver_count;
           senders = λ b l. subst (SenderAt script rules (poll script rules r t) t b) (sym (sends.done b l)) (sender-polled b (slice_get task.senders.items b) (stands.senders b l));

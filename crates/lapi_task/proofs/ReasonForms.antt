@@ -73,6 +73,7 @@ plain script (statements.Am target handler header from len tgt org cmpl) h = ref
 plain script (statements.Wait counter value) h = refl
 plain script (statements.Set counter value) h = refl
 plain script (statements.Read counter) h = refl
+plain script statements.Fence h = refl
 plain script _ h = absurd (false≢true h)
 
 no-table : (script : Script) → IsSupported script → (a i : ℕ) → is_table script (statement script a i) ≡ false

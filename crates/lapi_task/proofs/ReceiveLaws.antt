@@ -66,6 +66,9 @@ use Rattle.lapi_task.proofs.SenderLaws.{bytes-here, bytes-there}
 use Rattle.lapi_task.proofs.KeptAnswers.{kept-by, kept-before, still-kept}
 use Rattle.lapi_task.proofs.StepMemories.{memory-length}
 use Rattle.lapi_parts.proofs.FirstLayout.{holds-nothing, told-at-once}
+use Rattle.lapi_task.specs.declared.unfinished.Unfinished.{Unfinished}
+use Rattle.lapi_task.specs.Unfinished.{flags_landed, IsOfStatement, Tracks}
+use Rattle.lapi_task.proofs.ArrivingData.{IsOwnAnswer, own-answer, come-of, tracks-come}
 
 -- What has changed only in its receiving ends.
 pub record KeepsRest (before after : Task) : Type 0 where
@@ -73,6 +76,7 @@ pub record KeepsRest (before after : Task) : Type 0 where
   pub statements : after.statements ≡ before.statements
   pub limits : after.limits ≡ before.limits
   pub state : after.state ≡ before.state
+  pub unfinished : after.unfinished ≡ before.unfinished
   pub senders : after.senders.items ≡ before.senders.items
 
 -- what the end of the link from task a did with the packet, and what came of it
@@ -259,6 +263,17 @@ module _ (script : Script) (rules : Rules) where
     pub link-there : (mid : Task) → KeepsRest task mid → a < length mid.senders.items
     link-there mid g = let n = ap length g.senders ∙ at.stands.sender_count in let l = known_task in omega (arith, n, l)
 
+    -- an answer is of the task's own statement
+    own-answers : IsOwnAnswer script rules t p.name
+    own-answers = let f = packet-comes.facts in own-answer script rules t p.name r.journal f.atomic f.copied f.leg f.place
+
+    -- the task with what is not done then
+    abbrev pub with_unfinished : Task → Unfinished → Task
+    with_unfinished after u = record after { unfinished = u }
+
+    pub has-taken-still : (after : Task) (u : Unfinished) → HasTaken script t after a (Data p ∷ r.handed a t) → HasTaken script t (with_unfinished after u) a (Data p ∷ r.handed a t)
+    has-taken-still after u h = record { performed = h.performed; number = h.number; known = h.known; from_known = h.from_known; receiver = h.receiver }
+
     -- what the end of its link did with it
     module _ (mid : Task) (g : KeepsRest task mid) (now : Option HeaderOut) (came : Option Message) (before during : List Event) (took : Takes a p now came before during task.receivers.items mid.receivers.items) where
       own : HasCome task.receivers.items mid.receivers.items a p now came before during end-there.0
@@ -294,6 +309,14 @@ module _ (script : Script) (rules : Rules) where
           h.counter_count
           (leaves (completes_in count given))))))
 
+      unfinished-same : (count : ℕ) (after : Task) (new : List Event) → HasArrived a count came mid after during new → after.unfinished ≡ task.unfinished
+      unfinished-same count after new h = ap (λ (x : Task). x.unfinished) h.rest ∙ g.unfinished
+
+      pub is-of-statement : (count : ℕ) (after : Task) (new : List Event) → HasArrived a count came mid after during new → IsOfStatement came (length after.unfinished.undone)
+      is-of-statement count after new h =
+          subst (λ o. IsOfStatement o (length after.unfinished.undone)) (sym came-some)
+          (come-of script rules t (completes script rules r a t p) p.name p.head (came_bytes script (r.handed a t) p) given (length after.unfinished.undone) (ap (λ (x : Unfinished). length x.undone) (unfinished-same count after new h) ∙ at.stands.unfinished.size.0) own-answers)
+
       stands-end : ReceivesFor script own.end (Data p ∷ r.handed a t)
       stands-end = own.keeps.stands script (Data p ∷ r.handed a t) stands-mid
 
@@ -326,8 +349,8 @@ module _ (script : Script) (rules : Rules) where
             (own.keeps.own ∙ ap (λ x. option_or (kept_now own.arrival x) (answer_of own.mid p.name)) answered)
             own.keeps.others
 
-        pub arrived-does : (after : Task) (old new : Outcome) → before ≡ old.events → HasArrived a (handlers_now script rules t) came mid after during new.events → new.entries ≡ old.entries ++ answer script (Data p ∷ r.handed a t) a t ∷ [] → HasEffect script rules t r (deliver script rules r a t k) after old new
-        arrived-does after old new began h added =
+        pub arrived-does : (after : Task) (u : Unfinished) (old new : Outcome) → u ≡ record after.unfinished { undone = flags_landed came after.unfinished.undone } → before ≡ old.events → HasArrived a (handlers_now script rules t) came mid after during new.events → new.entries ≡ old.entries ++ answer script (Data p ∷ r.handed a t) a t ∷ [] → HasEffect script rules t r (deliver script rules r a t k) (with_unfinished after u) old new
+        arrived-does after u old new closed began h added =
             let ps = Data p ∷ r.handed a t in
             let q = ack_of script ps a t in
             let count = handlers_now script rules t in
@@ -341,7 +364,8 @@ module _ (script : Script) (rules : Rules) where
             let ends : after.senders.items ≡ ends_after (unit_of script) t a count arrives task.state.memory task.senders.items = mine.senders ∙ (λ i. ends_after (unit-then mid g i) ((ap (λ (x : State). x.number) g.state ∙ s.holds.number) i) a count arrives (g.state i).memory (g.senders i)) in
             let lands : Lands count arrives task.state after.state = subst (λ (x : State). Lands count arrives x after.state) g.state (record { memory = mine.memory; counters = mine.counters; jobs = mine.jobs; few = mine.few; rest = ap (λ (x : Task). x.state) mine.rest }) in
             let receivers = ap (λ (x : Task). x.receivers.items) mine.rest ∙ own.ends in
-            subst (λ y. HasEffect script rules t r y after old new) (sym delivered)
+            let undone = unfinished-same count after new.events h in
+            subst (λ y. HasEffect script rules t r y (with_unfinished after u) old new) (sym delivered)
             (record {
               events = happens;
               entries = answer script ps a t ∷ [];
@@ -354,6 +378,8 @@ module _ (script : Script) (rules : Rules) where
                   limits = ap (λ (y : Task). y.limits) mine.rest ∙ g.limits ∙ s.calls.limits;
                 };
                 holds = holds-arrived script rules t r a k p at.recorded entry c (ap (λ (y : Run). y.journal) delivered) atomic task.state after.state s.holds lands;
+                unfinished = subst (λ (x : Unfinished). Tracks script rules t x next_run) (sym (closed ∙ (λ i. record { undone = flags_landed (came-now i) (undone i).undone; left = (undone i).left })))
+                    (tracks-come script rules t r task.unfinished s.unfinished count first whole p.name p.head bytes out task.state.memory a next_run refl (λ b n. (settled r a t p ps b).acked n) atomic own-answers);
                 sender_count = ap length ends ∙ ends-length script rules (unit_of script) t a count whole p.name p.head bytes out task.state.memory task.senders.items ∙ s.sender_count;
                 receiver_count = ap length receivers ∙ length-set task.receivers.items a own.end ∙ s.receiver_count;
                 senders = λ b l. subst (λ xs. SenderAt script rules next_run t b (slice_get xs b)) (sym ends) (ends-come script rules r (handed_on r a t p q) a t task.senders.items (λ y. settled r a t p ps y) known_task s.senders count first whole p.name p.head bytes out task.state.memory follows-then atomic b l);

@@ -26,6 +26,7 @@ use Rattle.lapi_task.proofs.MessageCopies.{copied-ends}
 use Rattle.std.proofs.lemmas.Option.{slice_get_within}
 use Rattle.lapi_task.specs.Sends.{packet_at, SendsFor}
 use Rattle.lapi_task.specs.StandsFor.{SenderAt}
+use Rattle.lapi_task.proofs.Tags.{tags-same}
 use Rattle.lapi_task.proofs.Packets.{packet-same}
 use Rattle.lapi_task.proofs.ReceiveEvents.{come, followed-append}
 use Rattle.lapi_task.proofs.Followers.{Follows}
@@ -34,7 +35,7 @@ use Rattle.lapi_task.proofs.FollowerParts.{copies, follows-is}
 module _ (script : Script) (rules : Rules) where
   -- A link has the same numbers, or one more.
   pub record Stays (J K : List Event) (x y : ℕ) : Type 0 where
-    pub numbers : length (numbered script K x y) ≡ length (numbered script J x y)
+    pub numbers : numbered script K x y ≡ numbered script J x y
     pub packets : (n : ℕ) → packet_at script rules K x y n ≡ packet_at script rules J x y n
 
   -- what was sent and acknowledged is as before
@@ -49,13 +50,14 @@ module _ (script : Script) (rules : Rules) where
   sends-stay r w K x y s m g h = record {
     numbers = record {
       size = h.numbers.size;
-      numbers = h.numbers.numbers ∙ sym g.numbers;
+      numbers = h.numbers.numbers ∙ sym (ap (λ (ps : List (MsgName × ℕ)). length ps) g.numbers);
       sent = λ n. m.sent n ∙ h.numbers.sent n;
       acked = λ n. m.acked n ∙ h.numbers.acked n;
     };
     whole = h.whole;
     kept = λ n l u. h.kept n l u ∙ sym (g.packets n);
     waiting = λ i. h.waiting i ∙ sym (g.packets _);
+    tags = tags-same script s r.journal K x y g.numbers h.tags;
   }
 
   -- ---- events
@@ -71,7 +73,7 @@ module _ (script : Script) (rules : Rules) where
   numbered-land m J x y = refl
 
   stays-land : (m : MsgName) (J : List Event) (x y : ℕ) → Atomic script rules (Land m ∷ J) → Stays J (Land m ∷ J) x y
-  stays-land m J x y atomic = record { numbers = ap (λ (ps : List (MsgName × ℕ)). length ps) (numbered-land m J x y); packets = packet-same script rules (Land m) J x y atomic (numbered-land m J x y) }
+  stays-land m J x y atomic = record { numbers = numbered-land m J x y; packets = packet-same script rules (Land m) J x y atomic (numbered-land m J x y) }
 
   numbered-head : (m : MsgName) (J : List Event) (x y : ℕ) → numbered script (Event.Head m ∷ J) x y ≡ numbered script J x y
   unfolding numbered

@@ -37,7 +37,7 @@ below-more n i p q l same none here past =
 module _ (script : Script) (rules : Rules) where
   module _ (t : ℕ) (J : List Event) where
     -- an event that issues and copies nothing
-    uncopied-same : (e : Event) (k : ℕ) → key_eq (Issued t k) (key_of e) ≡ false → key_eq (Copied (message t k Go)) (key_of e) ≡ false → is_uncopied script J t k ≡ is_uncopied script (e ∷ J) t k
+    pub uncopied-same : (e : Event) (k : ℕ) → key_eq (Issued t k) (key_of e) ≡ false → key_eq (Copied (message t k Go)) (key_of e) ≡ false → is_uncopied script J t k ≡ is_uncopied script (e ∷ J) t k
     uncopied-same e k x y =
         ap (λ b. is_data (statement script t k) && (b && not (happened (Copied (message t k Go)) J))) (sym (happened-other (Issued t k) e J x))
         ∙ ap (λ b. is_data (statement script t k) && (happened (Issued t k) (e ∷ J) && not b)) (sym (happened-other (Copied (message t k Go)) e J y))
@@ -90,11 +90,11 @@ module _ (script : Script) (rules : Rules) where
         (cases_eq c d)
 
     -- The record after a wait.
-    after-pass : (i : ℕ) → (next (Pass t i ∷ J) t ≡ suc (next J t)) × (refusals (Pass t i ∷ J) t ≡ refusals J t)
+    pub after-pass : (i : ℕ) → (next (Pass t i ∷ J) t ≡ suc (next J t)) × (refusals (Pass t i ∷ J) t ≡ refusals J t)
     unfolding next refusals
     after-pass i = (cond-true (t == t) _ _ (eqb-refl t), refl)
 
-    reads-pass : (i : ℕ) → reads script rules (Pass t i ∷ J) t ≡ reads script rules J t
+    pub reads-pass : (i : ℕ) → reads script rules (Pass t i ∷ J) t ≡ reads script rules J t
     unfolding reads
     reads-pass i = refl
 

@@ -11,13 +11,13 @@ use Rattle.lapi_base.specs.declared.statement.Statement.TheVariants as statement
 use Rattle.lapi_base.specs.declared.refusal.Refusal.{Refusal}
 use Rattle.lapi_base.specs.declared.event.Event.{Event}
 use Rattle.lapi_base.specs.declared.event.Event.TheVariants.{Issue, Refuse, Pass}
-use Rattle.lapi_base.specs.declared.message.Leg.TheVariants.{Go}
+use Rattle.lapi_base.specs.declared.message.Leg.TheVariants.{Go, Back}
 use Rattle.lapi_base.specs.declared.reply.Reply.{Reply}
 use Rattle.lapi_base.specs.declared.reply.Reply.TheVariants.{Did, Idle, Blocked}
-use Rattle.lapi_base.specs.Record.Atomic.{needs}
+use Rattle.lapi_base.specs.Record.Atomic.{needs, to_begin}
 use Rattle.lapi_base.specs.Input.Built.{is_built_statement}
 use Rattle.lapi_base.specs.Record.Counters.{count}
-use Rattle.lapi_base.specs.Record.Names.{message, happened, Copied}
+use Rattle.lapi_base.specs.Record.Names.{message, happened, key_of, key_eq, Issued, Copied, Landed, Begun, Ended}
 use Rattle.lapi_base.specs.Record.Operations.{statement}
 use Rattle.lapi_base.specs.Record.Operations as operations
 use Rattle.lapi_base.specs.Record.Wires.{Run, numbered}
@@ -40,7 +40,13 @@ use Rattle.lapi_task.specs.Steps.{MayStep, Advances, IsRefused, IsIssued, Passes
 use Rattle.lapi_task.proofs.Forms.{statement-is, statement-built}
 use Rattle.lapi_task.proofs.ReasonForms.{suits, none-passed, few-statements}
 use Rattle.lapi_task.proofs.StepMemories.{memory-length}
+use Rattle.lapi_task.proofs.Tags.{tags-same}
 use Rattle.lapi_task.proofs.StepFields.{refused-holds, passed-holds, issued-holds}
+use Rattle.lapi_task.specs.declared.unfinished.Unfinished.{Unfinished}
+use Rattle.lapi_task.specs.Unfinished.{flags_issued, Tracks}
+use Rattle.lapi_task.proofs.UnfinishedLaws.{tracks-told, tracks-stay, tracks-issued, quiet-stays}
+use Rattle.lapi_base.specs.Record.Handlers.{has_completion}
+use Rattle.std.specs.List.{AllByRecursion}
 
 -- why a task without addresses refuses a statement, if it does
 abbrev pub FindsReason : Task → Statement → Option Refusal → Type 0
@@ -64,7 +70,7 @@ module _ (script : Script) (rules : Rules) where
   unfolding numbered packet_at values
   issue-quiet t i J = record { numbers = λ a b. refl; packets = λ a b n. refl }
 
-  pass-quiet : (t i : ℕ) (J : List Event) → IsQuiet (Pass t i) J
+  pub pass-quiet : (t i : ℕ) (J : List Event) → IsQuiet (Pass t i) J
   unfolding numbered packet_at values
   pass-quiet t i J = record { numbers = λ a b. refl; packets = λ a b n. refl }
 
@@ -75,20 +81,36 @@ module _ (script : Script) (rules : Rules) where
     whole = h.whole;
     kept = λ n l u. h.kept n l u ∙ sym (q.packets a b n);
     waiting = λ i. h.waiting i ∙ sym (q.packets a b _);
+    tags = tags-same script s r.journal (e ∷ r.journal) a b (q.numbers a b) h.tags;
   }
 
   sender-on : (r : Run) (e : Event) (a b : ℕ) (o : Option SendingEnd) → IsQuiet e r.journal → SenderAt script rules r a b o → SenderAt script rules (stepped r e) a b o
   sender-on r e a b None q h = absurd h
   sender-on r e a b (Some s) q h = sends-on r e a b s q h
 
-  does-event : (t : ℕ) (r : Run) (e : Event) (before : Task) (after : State) (old new : Outcome) → IsQuiet e r.journal → StandsFor script rules t before r → Advances e before.state after old.events new.events → new.entries ≡ old.entries → HoldsFor script rules t after (e ∷ r.journal) → HasEffect script rules t r (stepped r e) (record before { state = after }) old new
+  -- an event that neither issues nor copies data, and lands none, leaves what is done
+  pub quiet-tracks : (t : ℕ) (r : Run) (e : Event) (u : Unfinished) → IsQuiet e r.journal → ((i : ℕ) → (key_eq (Issued t i) (key_of e) ≡ false) × (key_eq (Copied (message t i Go)) (key_of e) ≡ false) × (key_eq (Landed (message t i Back)) (key_of e) ≡ false)) → Tracks script rules t u r → Tracks script rules t u (stepped r e)
   unfolding followed
-  does-event t r e before after old new q h g same holds = record {
+  quiet-tracks t r e u q keys h =
+      let w : Run = record r { journal = e ∷ r.journal } in
+      tracks-told script rules t u w (stepped r e) refl (λ b n. refl)
+      (tracks-stay script rules t u r w (λ i. let k = keys i in quiet-stays script rules t r e i (λ b. q.numbers t b) k.0 k.1 k.2) h)
+
+  issue-tracks : (t : ℕ) (r : Run) (j : ℕ) (u : Unfinished) → j < length (operations.statements script t) → happened (Copied (message t j Go)) r.journal ≡ false → happened (Landed (message t j Back)) r.journal ≡ false → Tracks script rules t u r → Tracks script rules t (record u { undone = flags_issued (operations.is_data (statement script t j)) j u.undone }) (stepped r (Issue t j))
+  unfolding followed
+  issue-tracks t r j u within copied landed h =
+      let w : Run = record r { journal = Issue t j ∷ r.journal } in
+      tracks-told script rules t (record u { undone = flags_issued (operations.is_data (statement script t j)) j u.undone }) w (stepped r (Issue t j)) refl (λ b n. refl) (tracks-issued script rules t u r j within copied landed h)
+
+  pub does-event : (t : ℕ) (r : Run) (e : Event) (before : Task) (after : State) (u : Unfinished) (old new : Outcome) → IsQuiet e r.journal → StandsFor script rules t before r → Advances e before.state after old.events new.events → new.entries ≡ old.entries → HoldsFor script rules t after (e ∷ r.journal) → Tracks script rules t u (stepped r e) → HasEffect script rules t r (stepped r e) (record before { state = after; unfinished = u }) old new
+  unfolding followed
+  does-event t r e before after u old new q h g same holds tracks = record {
     events = e ∷ [];
     entries = [];
     stands = record {
       calls = record { supported = h.calls.supported; rules_valid = h.calls.rules_valid; sizes = h.calls.sizes; statements = h.calls.statements; limits = h.calls.limits };
       holds = holds;
+      unfinished = tracks;
       sender_count = h.sender_count;
       receiver_count = h.receiver_count;
       senders = λ b l. sender-on r e t b (slice_get before.senders.items b) q (h.senders b l);
@@ -105,6 +127,7 @@ module _ (script : Script) (rules : Rules) where
   stands-on t r reply task h = record {
     calls = h.calls;
     holds = h.holds;
+    unfinished = tracks-told script rules t task.unfinished r (reply_with script rules r reply) refl (λ b n. refl) h.unfinished;
     sender_count = h.sender_count;
     receiver_count = h.receiver_count;
     senders = λ b l. sender-reply b (slice_get task.senders.items b) (h.senders b l);
@@ -118,6 +141,7 @@ module _ (script : Script) (rules : Rules) where
         whole = x.whole;
         kept = x.kept;
         waiting = x.waiting;
+        tags = x.tags;
       }
 
   pub does-nothing : (t : ℕ) (r : Run) (reply : Reply) (task : Task) (o : Outcome) → StandsFor script rules t task r → HasEffect script rules t r (reply_with script rules r reply) task o o
@@ -148,26 +172,27 @@ module _ (script : Script) (rules : Rules) where
         ap (λ j. cond (nat_lt j (length (operations.statements script t))) (add_event script rules r (unless_refused script rules r t j (refusal_of script rules r.journal t j))) (reply_with script rules r Idle)) (sym e)
         ∙ cond-false (nat_lt i (length (operations.statements script t))) _ _ (le-ltb i (length (operations.statements script t)) (get-none (operations.statements script t) i found))
 
-    step-by : (r : Run) (t i : ℕ) (s : Statement) → i ≡ next r.journal t → slice_get (operations.statements script t) i ≡ Some s → refusal_of script rules r.journal t i ≡ None → step script rules r t ≡ add_event script rules r (proposed script rules r t i s)
+    pub step-by : (r : Run) (t i : ℕ) (s : Statement) → i ≡ next r.journal t → slice_get (operations.statements script t) i ≡ Some s → refusal_of script rules r.journal t i ≡ None → step script rules r t ≡ add_event script rules r (proposed script rules r t i s)
     step-by r t i s e found h =
         step-some r t i s e found
         ∙ ap (λ o. add_event script rules r (unless_refused script rules r t i o)) h
         ∙ ap (λ x. add_event script rules r (proposed script rules r t i x)) (statement-is script t i s found)
 
-    -- a statement that is no wait is issued
-    issues : (r : Run) (t i : ℕ) (s : Statement) → is_built_statement s ≡ true → ((counter value : ℕ) → s ≡ statements.Wait counter value → ⊥) → proposed script rules r t i s ≡ Some (Issue t i)
+    -- a statement that is no wait and no fence is issued
+    issues : (r : Run) (t i : ℕ) (s : Statement) → is_built_statement s ≡ true → ((counter value : ℕ) → s ≡ statements.Wait counter value → ⊥) → (s ≡ statements.Fence → ⊥) → proposed script rules r t i s ≡ Some (Issue t i)
     unfolding is_built_statement
-    issues r t i (statements.Store at bytes) b no-wait = refl
-    issues r t i (statements.Put target to from len tgt org cmpl) b no-wait = refl
-    issues r t i (statements.Get target from to len tgt org) b no-wait = refl
-    issues r t i (statements.Putv target to from tgt org cmpl) b no-wait = refl
-    issues r t i (statements.Getv target from to tgt org) b no-wait = refl
-    issues r t i (statements.Rmw target op at in1 in2 prev org) b no-wait = refl
-    issues r t i (statements.Am target handler header from len tgt org cmpl) b no-wait = refl
-    issues r t i (statements.Set counter value) b no-wait = refl
-    issues r t i (statements.Read counter) b no-wait = refl
-    issues r t i (statements.Wait counter value) b no-wait = absurd (no-wait counter value refl)
-    issues r t i _ b no-wait = absurd (false≢true b)
+    issues r t i (statements.Store at bytes) b no-wait no-fence = refl
+    issues r t i (statements.Put target to from len tgt org cmpl) b no-wait no-fence = refl
+    issues r t i (statements.Get target from to len tgt org) b no-wait no-fence = refl
+    issues r t i (statements.Putv target to from tgt org cmpl) b no-wait no-fence = refl
+    issues r t i (statements.Getv target from to tgt org) b no-wait no-fence = refl
+    issues r t i (statements.Rmw target op at in1 in2 prev org) b no-wait no-fence = refl
+    issues r t i (statements.Am target handler header from len tgt org cmpl) b no-wait no-fence = refl
+    issues r t i (statements.Set counter value) b no-wait no-fence = refl
+    issues r t i (statements.Read counter) b no-wait no-fence = refl
+    issues r t i (statements.Wait counter value) b no-wait no-fence = absurd (no-wait counter value refl)
+    issues r t i statements.Fence b no-wait no-fence = absurd (no-fence refl)
+    issues r t i _ b no-wait no-fence = absurd (false≢true b)
 
     -- A task before one of its statements, or past them all.
     module _ (before : Task) (t : ℕ) (r : Run) (at : IsAt script rules t before r) where
@@ -177,7 +202,7 @@ module _ (script : Script) (rules : Rules) where
       own : (o : Option Statement) → slice_get before.statements place ≡ o → slice_get (operations.statements script t) place ≡ o
       own o h = ap (λ (list : List Statement). slice_get list place) (sym at.stands.calls.statements) ∙ h
 
-      named : (f : ℕ → ℕ → Event) (after : State) (old new : List Event) → Advances (f before.state.number place) before.state after old new → Advances (f t place) before.state after old new
+      pub named : (f : ℕ → ℕ → Event) (after : State) (old new : List Event) → Advances (f before.state.number place) before.state after old new → Advances (f t place) before.state after old new
       named f after old new = subst (λ n. Advances (f n place) before.state after old new) at.stands.holds.number
 
       idle-step : slice_get before.statements place ≡ None → step script rules r t ≡ reply_with script rules r Idle
@@ -190,10 +215,10 @@ module _ (script : Script) (rules : Rules) where
       idle-replies found = ap (λ (x : Run). x.replies) (idle-step found)
 
       module _ (s : Statement) (found : slice_get before.statements place ≡ Some s) where
-        here : slice_get (operations.statements script t) place ≡ Some s
+        pub here : slice_get (operations.statements script t) place ≡ Some s
         here = own (Some s) found
 
-        is : statement script t place ≡ s
+        pub is : statement script t place ≡ s
         is = statement-is script t place s here
 
         built : is_built_statement s ≡ true
@@ -203,7 +228,7 @@ module _ (script : Script) (rules : Rules) where
         within = slice_get_within (operations.statements script t) place s here
 
         -- The reason that was found is the record's, since no address is known.
-        found-reason : (o : Option Refusal) → FindsReason before s o → refusal_of script rules r.journal t place ≡ o
+        pub found-reason : (o : Option Refusal) → FindsReason before s o → refusal_of script rules r.journal t place ≡ o
         found-reason o h =
             ap (λ (a : ℕ). refusal_of script rules r.journal a place) (sym at.stands.holds.number)
             ∙ sym (h.1 script rules r.journal place at.stands.calls.limits (record { is_statement = sym (ap (λ (a : ℕ). statement script a place) at.stands.holds.number ∙ is); are_given = λ round d known. absurd (false≢true known) }) (none-passed script p r.journal before.state.number))
@@ -222,9 +247,10 @@ module _ (script : Script) (rules : Rules) where
         pub refused-does : (reason : Refusal) (after : State) (old new : Outcome) → FindsReason before s (Some reason) → new.entries ≡ old.entries → IsRefused reason before.state after old.events new.events → HasEffect script rules t r (step script rules r t) (record before { state = after }) old new
         refused-does reason after old new h same g =
             subst (λ x. HasEffect script rules t r x (record before { state = after }) old new) (sym (refused-step reason h))
-            (does-event t r (Refuse t place reason) before after old new (refuse-quiet t place reason r.journal) at.stands
+            (does-event t r (Refuse t place reason) before after before.unfinished old new (refuse-quiet t place reason r.journal) at.stands
             (named (λ n i. Refuse n i reason) after old.events new.events g.past) same
-            (refused-holds script rules t r.journal before.state after old.events new.events reason at.stands.holds g))
+            (refused-holds script rules t r.journal before.state after old.events new.events reason at.stands.holds g)
+            (quiet-tracks t r (Refuse t place reason) before.unfinished (refuse-quiet t place reason r.journal) (λ i. (refl, refl, refl)) at.stands.unfinished))
 
         pub refused-replies : (reason : Refusal) → FindsReason before s (Some reason) → (step script rules r t).replies ≡ r.replies ++ Did ∷ []
         refused-replies reason h = ap (λ (x : Run). x.replies) (refused-step reason h)
@@ -236,18 +262,39 @@ module _ (script : Script) (rules : Rules) where
             let sound = record-sound script rules r at.recorded in
             false_from_ne_true _ (λ d. both_ways _ (at.stands.holds.ahead place (omega arith)) (closed script rules (Copied (message t place Go)) r.journal sound.atomic d).0)
 
-        issued-step : ((counter value : ℕ) → s ≡ statements.Wait counter value → ⊥) → FindsReason before s None → step script rules r t ≡ stepped r (Issue t place)
-        issued-step no-wait h = step-by r t place s at.stands.holds.next here (found-reason None h) ∙ ap (add_event script rules r) (issues r t place s built no-wait)
+        issued-step : ((counter value : ℕ) → s ≡ statements.Wait counter value → ⊥) → (s ≡ statements.Fence → ⊥) → FindsReason before s None → step script rules r t ≡ stepped r (Issue t place)
+        issued-step no-wait no-fence h = step-by r t place s at.stands.holds.next here (found-reason None h) ∙ ap (add_event script rules r) (issues r t place s built no-wait no-fence)
 
-        pub issued-does : (after : State) (old new : Outcome) → ((counter value : ℕ) → s ≡ statements.Wait counter value → ⊥) → FindsReason before s None → new.entries ≡ old.entries → IsIssued s before.state after old.events new.events → HasEffect script rules t r (step script rules r t) (record before { state = after }) old new
-        issued-does after old new no-wait h same g =
-            subst (λ x. HasEffect script rules t r x (record before { state = after }) old new) (sym (issued-step no-wait h))
-            (does-event t r (Issue t place) before after old new (issue-quiet t place r.journal) at.stands
+        unlanded : happened (Landed (message t place Back)) r.journal ≡ false
+        unfolding needs
+        unlanded =
+            let sound = record-sound script rules r at.recorded in
+            false_from_ne_true _ (λ d. both_ways _ (at.stands.holds.ahead place (omega arith)) (begun-by (has_completion script rules t place) (closed script rules (Landed (message t place Back)) r.journal sound.atomic d).1))
+          where
+            begun-by : (b : Bool) → AllByRecursion (λ x. happened x r.journal ≡ true) (cond b (Begun (message t place Go) ∷ Ended (message t place Go) ∷ []) [] ++ to_begin script rules t place) → happened (Issued t place) r.journal ≡ true
+            begun-by true h = h.1.1.1.0
+            begun-by false h = h.1.0
+
+        abbrev pub opened : Unfinished
+        opened = record before.unfinished { undone = flags_issued (operations.is_data s) place before.unfinished.undone }
+
+        opened-tracks : Tracks script rules t opened (stepped r (Issue t place))
+        opened-tracks = subst (λ (x : Statement). Tracks script rules t (record before.unfinished { undone = flags_issued (operations.is_data x) place before.unfinished.undone }) (stepped r (Issue t place))) is (issue-tracks t r place before.unfinished within fresh unlanded at.stands.unfinished)
+
+        -- there is a flag for it
+        pub has-flag : place < length before.unfinished.undone
+        has-flag = let l = within in let n = at.stands.unfinished.size.0 in omega (arith, l, n)
+
+        pub issued-does : (after : State) (old new : Outcome) → ((counter value : ℕ) → s ≡ statements.Wait counter value → ⊥) → (s ≡ statements.Fence → ⊥) → FindsReason before s None → new.entries ≡ old.entries → IsIssued s before.state after old.events new.events → HasEffect script rules t r (step script rules r t) (record before { state = after; unfinished = opened }) old new
+        issued-does after old new no-wait no-fence h same g =
+            subst (λ x. HasEffect script rules t r x (record before { state = after; unfinished = opened }) old new) (sym (issued-step no-wait no-fence h))
+            (does-event t r (Issue t place) before after opened old new (issue-quiet t place r.journal) at.stands
             (named Issue after old.events new.events g.past) same
-            (issued-holds script rules t r.journal before.state at.stands.holds after old.events new.events s is (is-suited h) within fresh g))
+            (issued-holds script rules t r.journal before.state at.stands.holds after old.events new.events s is (is-suited h) within fresh g)
+            opened-tracks)
 
-        pub issued-replies : ((counter value : ℕ) → s ≡ statements.Wait counter value → ⊥) → FindsReason before s None → (step script rules r t).replies ≡ r.replies ++ Did ∷ []
-        issued-replies no-wait h = ap (λ (x : Run). x.replies) (issued-step no-wait h)
+        pub issued-replies : ((counter value : ℕ) → s ≡ statements.Wait counter value → ⊥) → (s ≡ statements.Fence → ⊥) → FindsReason before s None → (step script rules r t).replies ≡ r.replies ++ Did ∷ []
+        issued-replies no-wait no-fence h = ap (λ (x : Run). x.replies) (issued-step no-wait no-fence h)
 
       -- or it is a wait, which passes or not.
       module _ (counter value : ℕ) (found : slice_get before.statements place ≡ Some (statements.Wait counter value)) (accepted : FindsReason before (statements.Wait counter value) None) where
@@ -274,9 +321,10 @@ module _ (script : Script) (rules : Rules) where
         pub passed-does : (after : State) (old new : Outcome) → new.entries ≡ old.entries → PassesWait counter value before.state after old.events new.events → HasEffect script rules t r (step script rules r t) (record before { state = after }) old new
         passed-does after old new same g =
             subst (λ x. HasEffect script rules t r x (record before { state = after }) old new) (sym (passed-step g.enough))
-            (does-event t r (Pass t place) before after old new (pass-quiet t place r.journal) at.stands
+            (does-event t r (Pass t place) before after before.unfinished old new (pass-quiet t place r.journal) at.stands
             (named Pass after old.events new.events g.past) same
-            (passed-holds script rules t r.journal before.state after old.events new.events counter value (is (statements.Wait counter value) found) there at.stands.holds g))
+            (passed-holds script rules t r.journal before.state after old.events new.events counter value (is (statements.Wait counter value) found) there at.stands.holds g)
+            (quiet-tracks t r (Pass t place) before.unfinished (pass-quiet t place r.journal) (λ i. (refl, refl, refl)) at.stands.unfinished))
 
         pub passed-replies : value ≤ slice_index before.state.counters counter → (step script rules r t).replies ≡ r.replies ++ Did ∷ []
         passed-replies l = ap (λ (x : Run). x.replies) (passed-step l)

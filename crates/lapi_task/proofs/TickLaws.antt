@@ -29,6 +29,7 @@ use Rattle.lapi_task.specs.HasEffect.{HasEffect}
 use Rattle.lapi_task.specs.Sends.{SendsFor, packet_at, spelled, of_end, entries_of}
 use Rattle.lapi_task.specs.StandsFor.{SenderAt, StandsFor}
 use Rattle.lapi_task.proofs.SenderLaws.{bytes-of-end, entries-within, entries-none, entries-more}
+use Rattle.lapi_task.proofs.UnfinishedLaws.{tracks-told}
 
 module _ (script : Script) (rules : Rules) where
   -- The packets of numbers whose bytes are kept are spelled by these.
@@ -107,6 +108,7 @@ module _ (script : Script) (rules : Rules) where
       whole = h.whole;
       kept = h.kept;
       waiting = h.waiting;
+      tags = h.tags;
     }
 
     sender-after : (b : ℕ) (o : Option SendingEnd) → SenderAt script rules r t b o → SenderAt script rules (tick script rules r t) t b o
@@ -118,6 +120,7 @@ module _ (script : Script) (rules : Rules) where
     stands-after task h = record {
       calls = h.calls;
       holds = h.holds;
+      unfinished = tracks-told script rules t task.unfinished r (tick script rules r t) refl (λ b n. refl) h.unfinished;
       sender_count = h.sender_count;
       receiver_count = h.receiver_count;
       senders = λ b lt. sender-after b (slice_get task.senders.items b) (h.senders b lt);

@@ -6,10 +6,10 @@ use Rattle.lapi_base.specs.declared.script.Script.{Script}
 use Rattle.lapi_base.specs.declared.rule.Rules.{Rules}
 use Rattle.lapi_base.specs.declared.event.Event.{Event}
 use Rattle.lapi_base.specs.declared.event.Event.TheVariants.{Copy, Begin, End}
-use Rattle.lapi_base.specs.declared.message.Leg.TheVariants.{Go, Note}
+use Rattle.lapi_base.specs.declared.message.Leg.TheVariants.{Go, Back, Note}
 use Rattle.lapi_base.specs.declared.message.MsgName.{MsgName}
 use Rattle.lapi_base.specs.Record.Counters.{count, reads}
-use Rattle.lapi_base.specs.Record.Names.{message, leg_eq, name_eq, key_of, key_eq, Issued, Copied, happened}
+use Rattle.lapi_base.specs.Record.Names.{message, leg_eq, name_eq, key_of, key_eq, Issued, Copied, Landed, happened}
 use Rattle.lapi_base.specs.Record.Operations.{statements, statement, is_data}
 use Rattle.lapi_base.specs.Record.Refusals.{next, refusals}
 use Rattle.lapi_base.specs.Record.Values.{values, memory_bytes}
@@ -23,6 +23,8 @@ use Rattle.lapi_task.specs.HasJobs.{HasJobs}
 use Rattle.lapi_task.specs.Sends.{packet_at}
 use Rattle.lapi_task.specs.StandsFor.{is_uncopied, SenderAt, HoldsFor, StandsFor}
 use Rattle.lapi_task.proofs.StepLaws.{IsQuiet}
+use Rattle.lapi_task.proofs.Tags.{tags-same}
+use Rattle.lapi_task.proofs.UnfinishedLaws.{tracks-stay, quiet-stays}
 
 -- the begin or the end of a job, or the copy of a notice
 abbrev pub IsWork : Event → Type 0
@@ -51,6 +53,12 @@ module _ (script : Script) (rules : Rules) (t : ℕ) where
   uncopied-same e J h k =
       ap (λ b. is_data (statement script t k) && (b && not (happened (Copied (message t k Go)) J))) (sym (happened-other (Issued t k) e J (h.issued k)))
       ∙ ap (λ b. is_data (statement script t k) && (happened (Issued t k) (e ∷ J) && not b)) (sym (happened-other (Copied (message t k Go)) e J (h.copied k)))
+
+  work-lands : (e : Event) (i : ℕ) → IsWork e → key_eq (Landed (message t i Back)) (key_of e) ≡ false
+  work-lands (Begin m a w) i h = refl
+  work-lands (End m a w) i h = refl
+  work-lands (Copy m) i h = refl
+  work-lands _ i h = absurd h
 
   -- what the event made of the memory, the counters and the jobs of a task
   pub record Made (e : Event) (J : List Event) (before after : State) : Type 0 where
@@ -95,12 +103,14 @@ module _ (script : Script) (rules : Rules) (t : ℕ) where
     whole = h.whole;
     kept = λ n l u. h.kept n l u ∙ sym (q.packets t b n);
     waiting = λ i. h.waiting i ∙ sym (q.packets t b _);
+    tags = tags-same script s r.journal (e ∷ r.journal) t b (q.numbers t b) h.tags;
   }
 
   pub work-stands : (r : Run) (e : Event) (before : Task) (after : State) → IsWork e → IsQuiet script rules e r.journal → StandsFor script rules t before r → Made e r.journal before.state after → StandsFor script rules t (record before { state = after }) (with_event r e)
   work-stands r e before after is q h g = record {
     calls = record { supported = h.calls.supported; rules_valid = h.calls.rules_valid; sizes = h.calls.sizes; statements = h.calls.statements; limits = h.calls.limits };
     holds = work-holds e r.journal before.state after is h.holds g;
+    unfinished = let did = work-more e r.journal is in tracks-stay script rules t before.unfinished r (with_event r e) (λ i. quiet-stays script rules t r e i (λ b. q.numbers t b) (did.issued i) (did.copied i) (work-lands e i is)) h.unfinished;
     sender_count = h.sender_count;
     receiver_count = h.receiver_count;
     senders = λ b l. sender-quiet r e b (slice_get before.senders.items b) q (h.senders b l);

@@ -1,5 +1,5 @@
 -- What a copy changes in its task, and what a poll sends.
-use Rattle.std.specs.Prelude.{◌≡◌, ℕ, ◌*◌, ◌<◌, ◌≤◌, List, [], ◌∷◌, ◌++◌, cond, length, take, set, slice_get, Some, None, option_map}
+use Rattle.std.specs.Prelude.{◌≡◌, ℕ, ◌*◌, ◌<◌, ◌≤◌, true, List, [], ◌∷◌, ◌++◌, cond, length, take, set, slice_get, Some, None, option_map}
 use Rattle.std.specs.List.{flat_map}
 use Rattle.lapi_base.specs.declared.event.Event.{Event}
 use Rattle.lapi_base.specs.declared.event.Event.TheVariants.{Copy}
@@ -10,7 +10,7 @@ use Rattle.lapi_base.specs.declared.layout.TheConstants.{PAYLOAD_ROOM}
 use Rattle.lapi_base.specs.Record.Atomic.{Atomic}
 use Rattle.lapi_base.specs.Record.Names.{message}
 use Rattle.lapi_base.specs.Record.Operations.{statement, target, spans, origin_pieces, org_counter, has_back}
-use Rattle.lapi_base.specs.Record.Wires.{Run}
+use Rattle.lapi_base.specs.Record.Wires.{Run, numbered, is_acked}
 use Rattle.lapi_base.specs.Record.Acts.{followed, copy_each, ready}
 use Rattle.lapi_link.specs.Sender.{SendingEnd, sendable, sent}
 use Rattle.lapi_memory.specs.TaskMemory.{bytes_at}
@@ -55,12 +55,13 @@ pub record IsCopied (unit : ℕ) (c : DataCopy) (before after : Task) : Type 0 w
   pub counters : after.state.counters ≡ announced before.state.counters c.counter
   pub rest : after ≡ record before { senders = after.senders; state = record before.state { counters = after.state.counters } }
 
--- Statement i is the first whose data wait, and its Copy may be the next event.
+-- Statement i is the first whose data wait, its Copy may be the next event, and what is acknowledged has its number.
 pub record CopiesNext (script : Script) (rules : Rules) (t : ℕ) (task : Task) (r : Run) (i : ℕ) (rest : List ℕ) : Type 0 where
   pub known : t < script.tasks
   pub stands : StandsFor script rules t task r
   pub first : task.state.uncopied.items ≡ i ∷ rest
   pub atomic : Atomic script rules (Copy (message t i Go) ∷ r.journal)
+  pub told : (b n : ℕ) → is_acked r t b n ≡ true → n < length (numbered script r.journal t b)
 
 -- an end once all was sent that may be
 abbrev pub sent_now : SendingEnd → SendingEnd

@@ -12,4 +12,5 @@ pub mod Outgoing
 pub mod Sends
 pub mod StandsFor
 pub mod Steps
+pub mod Unfinished
 pub mod Working

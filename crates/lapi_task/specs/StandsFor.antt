@@ -24,6 +24,7 @@ use Rattle.lapi_task.specs.Supported.{IsSupported}
 use Rattle.lapi_task.specs.declared.state.State.{State}
 use Rattle.lapi_task.specs.declared.task.Task.{Task}
 use Rattle.lapi_task.specs.Sends.{SendsFor}
+use Rattle.lapi_task.specs.Unfinished.{Tracks}
 
 -- the data of statement i of task t were issued and not copied
 abbrev pub is_uncopied : Script → List Event → (t i : ℕ) → Bool
@@ -73,10 +74,11 @@ pub record HasCalls (script : Script) (rules : Rules) (t : ℕ) (task : Task) : 
   pub statements : task.statements ≡ statements script t
   pub limits : task.limits ≡ limits_of script (length rules.headers)
 
--- and the ends of its links are those of the record.
+-- and its data operations that are not done, and the ends of its links, are those of the record.
 pub record StandsFor (script : Script) (rules : Rules) (t : ℕ) (task : Task) (r : Run) : Type 0 where
   pub calls : HasCalls script rules t task
   pub holds : HoldsFor script rules t task.state r.journal
+  pub unfinished : Tracks script rules t task.unfinished r
   pub sender_count : length task.senders.items ≡ script.tasks
   pub receiver_count : length task.receivers.items ≡ script.tasks
   pub senders : (b : ℕ) → b < script.tasks → SenderAt script rules r t b (slice_get task.senders.items b)

@@ -68,6 +68,11 @@ pub record PassesWait (counter value : ℕ) (before after : State) (old new : Li
   pub uncopied : after.uncopied.items ≡ before.uncopied.items
   pub jobs : after.jobs ≡ before.jobs
 
+-- it was passed, and nothing else was changed
+pub record IsPassed (before after : State) (old new : List Event) : Type 0 where
+  pub past : Advances (Pass before.number before.next) before after old new
+  pub rest : after ≡ record before { next = after.next }
+
 -- the counter has less than the value, and nothing was changed
 pub record IsBlocked (counter value : ℕ) (before after : State) (old new : List Event) : Type 0 where
   pub less : slice_index before.counters counter < value

@@ -16,6 +16,7 @@ mod spans;
 mod state;
 mod statement;
 mod task;
+mod unfinished;
 
 pub use law::tasks_stay_apart;
 pub use outcome::Outcome;

@@ -1,6 +1,6 @@
 //! What a task holds, event by event.
 ghost use Rattle.std.specs.Prelude.{◌≡◌, ℕ, ◌+◌, ◌<◌, ◌≤◌, ◌^◌, ◌∷◌, [], ◌++◌, replicate, false, IsTrue, IfOk, OnOk, length};
-ghost use Rattle.lapi_task.specs.Steps.{MayStep, IsRefused, IsIssued, PassesWait, IsBlocked, Advances};
+ghost use Rattle.lapi_task.specs.Steps.{MayStep, IsRefused, IsIssued, PassesWait, IsPassed, IsBlocked, Advances};
 ghost use Rattle.lapi_task.specs.StandsFor.{IsNewState};
 ghost use Rattle.lapi_task.specs.HasJobs.{is_free};
 
@@ -81,6 +81,18 @@ impl State {
         };
         self.advance(event, events)?;
         Ok(true)
+    }
+
+    /// The next statement is passed, and takes nothing.
+    pub fn pass(&mut self, events: &mut Events) -> Result<(), Memory>
+        requires { self.old.next + 1 < 2 ^ 32 }
+        ensures { OnOk result (IsPassed self.old self.new events.old events.new) }
+    {
+        let event = Event::Pass {
+            task: self.number,
+            statement: self.next,
+        };
+        self.advance(event, events)
     }
 
     /// The next statement is issued.

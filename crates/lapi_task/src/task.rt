@@ -1,4 +1,5 @@
 use crate::state::State;
+use crate::unfinished::Unfinished;
 use lapi_base::{Sizes, Statements};
 use lapi_calls::Limits;
 use lapi_link::{Receiver, Sender};
@@ -6,6 +7,7 @@ use lapi_link::{Receiver, Sender};
 mod accessors;
 mod answering;
 mod copying;
+mod fencing;
 mod following;
 mod polling;
 mod receiving;
@@ -21,6 +23,8 @@ pub struct Task {
     limits: Limits,
     statements: Statements,
     state: State,
+    /// Its data operations that are not done.
+    unfinished: Unfinished,
     /// The links to each task.
     senders: Vec<Sender>,
     /// The links from each task.

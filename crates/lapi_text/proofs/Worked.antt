@@ -117,7 +117,7 @@ greatest_number : with_line 5 (codes "put 1 4294967295 0 8 - - -") ≡ Ok (small
 unfolding reading
 greatest_number = refl
 
-form_not_built : with_line 5 (codes "fence") ≡ Err (Limit which.Unbuilt, 5)
+form_not_built : with_line 5 (codes "gfence") ≡ Err (Limit which.Unbuilt, 5)
 unfolding reading
 form_not_built = refl
 

@@ -7,7 +7,7 @@ use Rattle.lapi_base.specs.declared.address.Addr.TheVariants.{Plain, Table}
 use Rattle.lapi_base.specs.declared.vector.Vector.{Vector}
 use Rattle.lapi_base.specs.declared.vector.Vector.TheVariants.{Stride}
 use Rattle.lapi_base.specs.declared.statement.Statement.{Statement}
-use Rattle.lapi_base.specs.declared.statement.Statement.TheVariants.{Store, Put, Get, Putv, Getv, Rmw, Am, Wait, Set, Read}
+use Rattle.lapi_base.specs.declared.statement.Statement.TheVariants.{Store, Put, Get, Putv, Getv, Rmw, Am, Wait, Set, Read, Fence}
 use Rattle.lapi_base.specs.declared.schedule.Act.{Act}
 use Rattle.lapi_base.specs.declared.schedule.Act.TheVariants.{Step, Poll, Tick, Deliver, Begin, End}
 use Rattle.lapi_base.specs.declared.schedule.Line.{Line}
@@ -22,8 +22,8 @@ abbrev pub is_plain_vector : Vector → Bool
 is_plain_vector (Vector.List pieces) = list_all (λ piece. is_plain piece.at) pieces
 is_plain_vector (Stride base block stride count) = is_plain base
 
--- a store; a put and a get, also of vectors, and a read-modify-write, all at plain addresses; an active message; and
--- what waits for a counter, sets or reads it
+-- a store; a put and a get, also of vectors, and a read-modify-write, all at plain addresses; an active message; what
+-- waits for a counter, sets or reads it; and a fence
 unfoldable pub is_built_statement : Statement → Bool
 is_built_statement (Store at bytes) = true
 is_built_statement (Put target to from len tgt org cmpl) = is_plain to
@@ -35,6 +35,7 @@ is_built_statement (Am target handler header from len tgt org cmpl) = true
 is_built_statement (Wait counter value) = true
 is_built_statement (Set counter value) = true
 is_built_statement (Read counter) = true
+is_built_statement Fence = true
 is_built_statement _ = false
 
 unfoldable pub is_built_act : Act → Bool

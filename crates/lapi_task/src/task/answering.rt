@@ -46,6 +46,7 @@ impl Task {
             → slice_get (r.wire from t) k ≡ Some (Ack x y base bits)
             → HasEffect script rules t r (deliver script rules r from t k) self.new out out }
     {
-        self.senders[from as usize].acked(base, bits as u64);
+        let tags = self.senders[from as usize].acked(base, bits as u64);
+        self.unfinished.acknowledged(tags.as_slice());
     }
 }

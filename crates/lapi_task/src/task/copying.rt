@@ -11,6 +11,7 @@ ghost use Rattle.lapi_task.specs.Copies.{IsCopyable, IsCopied, CopiesNext};
 
 use crate::copy::DataCopy;
 use crate::counting::announce;
+use crate::packet::fragment_count;
 use crate::statement::statement_at;
 use crate::task::Task;
 use lapi_base::{Event, Events, Memory};
@@ -36,7 +37,9 @@ impl Task {
         };
         let copy = DataCopy::of(self.state.number, i, statement);
         let name = copy.message.name;
+        let count = fragment_count(self.sizes.unit(), copy.message.length);
         self.copy(alloc, copy)?;
+        self.unfinished.copied(i, count);
         events.push(Event::Copy(name))
     }
 

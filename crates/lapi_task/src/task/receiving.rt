@@ -85,7 +85,8 @@ impl Task {
             handlers,
             &mut out.events,
         )?;
-        self.take_effect(alloc, from, message, handlers, &mut out.events)?;
+        self.take_effect(alloc, from, &message, handlers, &mut out.events)?;
+        self.unfinished.arrived(&message);
         self.acknowledge(alloc, from, &mut out.entries)
     }
 
@@ -94,18 +95,18 @@ impl Task {
         &mut self,
         alloc: Global,
         from: u32,
-        message: Option<Message>,
+        message: &Option<Message>,
         handlers: &Handlers,
         events: &mut Events,
     ) -> Result<(), Memory>
         requires link { (from < length self.old.senders.items) × (task_unit self.old ≤ PAYLOAD_ROOM) }
         requires allowed { ArrivalMayLand (task_unit self.old) self.old.state.number from
-            (length (rules_of handlers.now).completions) message self.old.state.memory self.old.state.counters }
-        ensures { OnOk result (HasArrived from (length (rules_of handlers.now).completions) message self.old self.new
-            events.old events.new) }
+            (length (rules_of handlers.now).completions) message.now self.old.state.memory self.old.state.counters }
+        ensures { OnOk result (HasArrived from (length (rules_of handlers.now).completions) message.now self.old
+            self.new events.old events.new) }
     {
         match message {
-            Some(message) => self.land(alloc, from, &message, handlers, events),
+            Some(message) => self.land(alloc, from, message, handlers, events),
             None => Ok(()),
         }
     }

@@ -18,6 +18,7 @@ use crate::outcome::Outcome;
 use crate::state::State;
 use crate::statement::statement_at;
 use crate::task::Task;
+use crate::unfinished::Unfinished;
 use lapi_base::{Memory, Reply, Script, Statement, Statements};
 use lapi_calls::{Limits, NoEntries, refusal_of};
 use lapi_link::{Receiver, Sender};
@@ -35,6 +36,7 @@ impl Task {
         let limits = Limits::of(script, header_count as usize);
         let statements = statements(alloc, script, task)?;
         let state = State::new(alloc, sizes, task)?;
+        let unfinished = Unfinished::new(alloc, statements.as_slice().len() as u32)?;
         let senders = senders(alloc, script)?;
         let receivers = receivers(alloc, script)?;
         Ok(Task {
@@ -42,6 +44,7 @@ impl Task {
             limits,
             statements,
             state,
+            unfinished,
             senders,
             receivers,
         })
@@ -65,6 +68,14 @@ impl Task {
             let is_past = self.state.wait(*counter, *value, &mut out.events)?;
             return Ok(if is_past { Reply::Did } else { Reply::Blocked });
         }
+        if let Statement::Fence = statement {
+            if !self.is_clear() {
+                return Ok(Reply::Blocked);
+            }
+            self.state.pass(&mut out.events)?;
+            return Ok(Reply::Did);
+        }
+        self.unfinished.issued(self.state.next, statement);
         self.state.issue(statement, &mut out.events)?;
         Ok(Reply::Did)
     }

@@ -1,4 +1,4 @@
-use Rattle.std.proofs.Common.{◌≡◌, ℕ, ◌+◌, ◌<◌, map, max, None, refl, sym, ap, ◌∙◌, subst, arith}
+use Rattle.std.proofs.Common.{◌≡◌, ℕ, ◌+◌, ◌<◌, Option, map, max, refl, sym, ap, ◌∙◌, subst, arith}
 use Rattle.lapi_base.specs.declared.packet.DataPacket.{DataPacket}
 use Rattle.lapi_base.specs.declared.packet.Packet.TheVariants.{Data}
 use Rattle.lapi_base.specs.Record.Fragments.{fragments_in}
@@ -26,7 +26,7 @@ loop-fragment-preserved c =
     let bytes = c.args.bytes.now in
     let j = c.loop-fragment.fragment in
     let f = bytes_of o c.args.unit s.window.numbers bytes in
-    let seq : c.numbers.result ≡ s.window.numbers + j = c.numbers.ensures ∙ ap (λ (w : _). w.numbers) c.window.ensures ∙ ap (λ (x : SendingEnd). x.window.numbers) c.loop-fragment.invariant.sent ∙ extended-count s f j in
+    let seq : c.numbers.result ≡ s.window.numbers + j = c.numbers.ensures ∙ ap (λ (w : _). w.numbers) c.window.ensures ∙ ap (λ (x : SendingEnd). x.window.numbers) c.loop-fragment.invariant.sent ∙ extended-count s c.tag_of-tag.result f j in
     let packet : Data (record c.loop-fragment.packet { seq = c.numbers.result; fragment = j; payload = c.payload_of-packet.result }) ≡ packet_of o c.args.unit (s.window.numbers + j) j bytes =
     (λ k. Data (record c.loop-fragment.packet { seq = c.numbers.result; fragment = j; payload = c.payload_of-packet.ensures k }))
     ∙ ap (λ (p : DataPacket). packet_of p c.args.unit c.numbers.result j bytes) c.loop-fragment.invariant.common
@@ -34,13 +34,13 @@ loop-fragment-preserved c =
     record {
       sent =
           c.in_ok-append.ensures
-          ∙ (λ k. appended (c.loop-fragment.invariant.sent k) (written.packet (packet k)) None)
-          ∙ extended-more s f j;
+          ∙ (λ k. appended (c.loop-fragment.invariant.sent k) (written.packet (packet k)) c.tag_of-tag.result)
+          ∙ extended-more s c.tag_of-tag.result f j;
       common = ap (λ (p : DataPacket). record p { seq = c.numbers.result; fragment = j; payload = c.payload_of-packet.result }) c.loop-fragment.invariant.common;
     }
 
 pub loop-fragment-init : goal.loop-fragment-init
-loop-fragment-init c = record { sent = extended-none c.args.sender.now (bytes_of c.args.packet c.args.unit c.args.sender.now.window.numbers c.args.bytes.now); common = refl }
+loop-fragment-init c = record { sent = extended-none c.args.sender.now c.tag_of-tag.result (bytes_of c.args.packet c.args.unit c.args.sender.now.window.numbers c.args.bytes.now); common = refl }
 
 pub returns : goal.returns
 returns c =
@@ -48,4 +48,4 @@ returns c =
     let s = c.args.sender.now in
     let f = bytes_of o c.args.unit s.window.numbers c.args.bytes.now in
     let end : c.max-fragment-end.result ≡ fragments_in c.args.unit o.length = c.max-fragment-end.ensures ∙ ap (λ (k : ℕ). max k 1) c.div_ceil.ensures ∙ fragment-count c.args.unit o.length c.requires.unit.0 in
-    c.loop-fragment.invariant.sent ∙ ap (λ (k : ℕ). extended s (map f (numbers_below k))) (let e : c.loop-fragment.fragment ≡ fragments_in c.args.unit o.length = omega (arith, c.loop-fragment-test.false, c.loop-fragment.auto.fragment-end, end) in e)
+    c.loop-fragment.invariant.sent ∙ ap (λ (k : ℕ). extended s c.tag_of-tag.result (map f (numbers_below k))) (let e : c.loop-fragment.fragment ≡ fragments_in c.args.unit o.length = omega (arith, c.loop-fragment-test.false, c.loop-fragment.auto.fragment-end, end) in e) ∙ ap (λ (x : Option ℕ). extended s x (map f (numbers_below (fragments_in c.args.unit o.length)))) c.tag_of-tag.ensures

@@ -3,7 +3,7 @@ use Rattle.std.proofs.lemmas.Bool.{or_right}
 use Rattle.lapi_window.specs.NumberSet.{is_covered}
 use Rattle.lapi_window.specs.SendWindow.{is_acked}
 use Rattle.lapi_link.specs.Sender.{SendingEnd, IsAcked}
-use Rattle.lapi_link.proofs.SenderLaws.{none-new, tags-stay}
+use Rattle.lapi_link.proofs.SenderLaws.{none-new, tags-stay, tagged-still}
 use Rattle.lapi_link.proofs.sender.Sender.acked.Goals as goal
 
 pub returns-clause-acked : goal.returns-clause-acked
@@ -21,6 +21,7 @@ returns-clause-acked c =
       size = w.same.1;
       waiting = refl;
       tags = tags-stay old new w.base dropped;
+      tagged = tagged-still old new c.self.invariant w.base w.sent w.same.0 dropped;
     })
 
 pub returns-clause-once : goal.returns-clause-once

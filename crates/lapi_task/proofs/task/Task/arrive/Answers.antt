@@ -6,7 +6,7 @@ use Rattle.lapi_handlers.specs.Handlers.{rules_of}
 use Rattle.lapi_task.specs.declared.task.Task.{Task}
 use Rattle.lapi_task.specs.Answered.{answer_to}
 use Rattle.lapi_task.specs.Landed.{MayTake}
-use Rattle.lapi_task.proofs.ReceiveLaws.{KeepsRest, Takes, takes-over, may-take, may-call, suits-arrival, has-taken, arrived-does}
+use Rattle.lapi_task.proofs.ReceiveLaws.{KeepsRest, Takes, takes-over, may-take, may-call, suits-arrival, has-taken, has-taken-still, is-of-statement, arrived-does}
 use Rattle.lapi_task.proofs.task.Task.arrive.Goals as goal
 
 pub take-requires-clause-take : goal.take-requires-clause-take
@@ -27,9 +27,21 @@ take_effect-requires-clause-allowed g c =
     let p = c.args.packet.now in
     let now = answer_to (rules_of c.args.handlers.now) p.name p.head p.length in
     let mid : Task = record task { receivers = with_items task.receivers c.take.new.receivers } in
-    let keeps : KeepsRest task mid = record { sizes = refl; statements = refl; limits = refl; state = refl; senders = refl } in
+    let keeps : KeepsRest task mid = record { sizes = refl; statements = refl; limits = refl; state = refl; unfinished = refl; senders = refl } in
     let takes : Takes a p now c.in_ok-message.message c.args.out.now.events c.take.new.events task.receivers.items mid.receivers.items = takes-over task.receivers a p now c.in_ok-message.message c.args.out.now.events c.take.new.events c.deref_mut.result.now c.take.new.receivers c.deref_mut.ensures.value c.in_ok-message.ensures in
     suits-arrival x.script x.rules x.task x.run task x.at a x.place x.from_known p x.entry mid keeps now c.in_ok-message.message c.args.out.now.events c.take.new.events takes (length (rules_of c.args.handlers.now).completions)
+
+pub arrived-requires : goal.arrived-requires
+arrived-requires g c =
+    let x = c.requires in
+    let task = c.args.self.now in
+    let a = c.args.from in
+    let p = c.args.packet.now in
+    let now = answer_to (rules_of c.args.handlers.now) p.name p.head p.length in
+    let mid : Task = record task { receivers = with_items task.receivers c.take.new.receivers } in
+    let keeps : KeepsRest task mid = record { sizes = refl; statements = refl; limits = refl; state = refl; unfinished = refl; senders = refl } in
+    let takes : Takes a p now c.in_ok-message.message c.args.out.now.events c.take.new.events task.receivers.items mid.receivers.items = takes-over task.receivers a p now c.in_ok-message.message c.args.out.now.events c.take.new.events c.deref_mut.result.now c.take.new.receivers c.deref_mut.ensures.value c.in_ok-message.ensures in
+    is-of-statement x.script x.rules x.task x.run task x.at a x.place x.from_known p x.entry mid keeps now c.in_ok-message.message c.args.out.now.events c.take.new.events takes (length (rules_of c.args.handlers.now).completions) c.take_effect.new.self c.take_effect.new.events c.in_ok-take_effect.ensures
 
 pub acknowledge-requires : goal.acknowledge-requires
 acknowledge-requires g c =
@@ -39,9 +51,9 @@ acknowledge-requires g c =
     let p = c.args.packet.now in
     let now = answer_to (rules_of c.args.handlers.now) p.name p.head p.length in
     let mid : Task = record task { receivers = with_items task.receivers c.take.new.receivers } in
-    let keeps : KeepsRest task mid = record { sizes = refl; statements = refl; limits = refl; state = refl; senders = refl } in
+    let keeps : KeepsRest task mid = record { sizes = refl; statements = refl; limits = refl; state = refl; unfinished = refl; senders = refl } in
     let takes : Takes a p now c.in_ok-message.message c.args.out.now.events c.take.new.events task.receivers.items mid.receivers.items = takes-over task.receivers a p now c.in_ok-message.message c.args.out.now.events c.take.new.events c.deref_mut.result.now c.take.new.receivers c.deref_mut.ensures.value c.in_ok-message.ensures in
-    (x.script, x.task, Data p ∷ x.run.handed a x.task, has-taken x.script x.rules x.task x.run task x.at a x.place x.from_known p x.entry mid keeps now c.in_ok-message.message c.args.out.now.events c.take.new.events takes (length (rules_of c.args.handlers.now).completions) c.take_effect.new.self c.take_effect.new.events c.in_ok-take_effect.ensures)
+    (x.script, x.task, Data p ∷ x.run.handed a x.task, has-taken-still x.script x.rules x.task x.run task x.at a x.place x.from_known p x.entry c.take_effect.new.self c.arrived.new.self (has-taken x.script x.rules x.task x.run task x.at a x.place x.from_known p x.entry mid keeps now c.in_ok-message.message c.args.out.now.events c.take.new.events takes (length (rules_of c.args.handlers.now).completions) c.take_effect.new.self c.take_effect.new.events c.in_ok-take_effect.ensures))
 
 pub returns : goal.returns
 returns g c =
@@ -51,10 +63,10 @@ returns g c =
     let rules = rules_of c.args.handlers.now in
     let now = answer_to rules p.name p.head p.length in
     let mid : Task = record task { receivers = with_items task.receivers c.take.new.receivers } in
-    let keeps : KeepsRest task mid = record { sizes = refl; statements = refl; limits = refl; state = refl; senders = refl } in
+    let keeps : KeepsRest task mid = record { sizes = refl; statements = refl; limits = refl; state = refl; unfinished = refl; senders = refl } in
     let takes : Takes a p now c.in_ok-message.message c.args.out.now.events c.take.new.events task.receivers.items mid.receivers.items = takes-over task.receivers a p now c.in_ok-message.message c.args.out.now.events c.take.new.events c.deref_mut.result.now c.take.new.receivers c.deref_mut.ensures.value c.in_ok-message.ensures in
     on-ok _ _ c.acknowledge.result
     (λ answers script t k r at known entry.
-    let taken = has-taken script rules t r task at a k known p entry mid keeps now c.in_ok-message.message c.args.out.now.events c.take.new.events takes (length rules.completions) c.take_effect.new.self c.take_effect.new.events c.in_ok-take_effect.ensures in
-    arrived-does script rules t r task at a k known p entry mid keeps now c.in_ok-message.message c.args.out.now.events c.take.new.events takes refl c.take_effect.new.self c.args.out.now (record { events = c.take_effect.new.events; entries = c.acknowledge.new.entries }) refl c.in_ok-take_effect.ensures (answers script t (Data p ∷ r.handed a t) taken))
+    let taken = has-taken-still script rules t r task at a k known p entry c.take_effect.new.self c.arrived.new.self (has-taken script rules t r task at a k known p entry mid keeps now c.in_ok-message.message c.args.out.now.events c.take.new.events takes (length rules.completions) c.take_effect.new.self c.take_effect.new.events c.in_ok-take_effect.ensures) in
+    arrived-does script rules t r task at a k known p entry mid keeps now c.in_ok-message.message c.args.out.now.events c.take.new.events takes refl c.take_effect.new.self c.arrived.new.self c.args.out.now (record { events = c.take_effect.new.events; entries = c.acknowledge.new.entries }) c.arrived.ensures refl c.in_ok-take_effect.ensures (answers script t (Data p ∷ r.handed a t) taken))
     c.acknowledge.ensures

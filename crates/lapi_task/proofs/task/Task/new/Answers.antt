@@ -1,9 +1,10 @@
-use Rattle.std.proofs.Common.{sym, ap, ◌∙◌, subst}
+use Rattle.std.proofs.Common.{List, length, replicate, false, sym, ap, ◌∙◌, subst}
 use Rattle.lapi_base.specs.declared.sizes.Sizes.{Sizes}
 use Rattle.lapi_calls.specs.Limits.{limits_of}
 use Rattle.lapi_task.specs.StandsFor.{IsNewState}
 use Rattle.lapi_task.proofs.NewStands.{new-stands}
 use Rattle.lapi_task.proofs.task.Task.new.Goals as goal
+use Rattle.lapi_base.specs.declared.statement.Statement.{Statement}
 
 pub returns : goal.returns
 returns c = λ rules valid count. new-stands c.args.script.now rules c.args.task _ (record {
@@ -15,6 +16,9 @@ returns c = λ rules valid count. new-stands c.args.script.now rules c.args.task
     limits = c.of-limits.ensures ∙ ap (limits_of c.args.script.now) (sym count);
   };
   state = subst (λ (z : Sizes). IsNewState z c.args.task c.in_ok-state.state) c.sizes-sizes.ensures c.in_ok-state.ensures;
+  unfinished =
+      let all = c.as_slice.ensures ∙ c.in_ok-statements.ensures in
+      (c.in_ok-unfinished.ensures.0 ∙ ap (λ (xs : List Statement). replicate (length xs) false) all, c.in_ok-unfinished.ensures.1 ∙ ap (λ (xs : List Statement). replicate (length xs) 0) all);
   senders = (c.in_ok-senders.ensures.count, c.in_ok-senders.ensures.new);
   receivers = (c.in_ok-receivers.ensures.count, c.in_ok-receivers.ensures.new);
 })

@@ -1,7 +1,11 @@
 use Rattle.std.proofs.Common.{refl, sym, ap, ◌∙◌, subst, Some, None}
 use Rattle.lapi_base.specs.declared.statement.Statement.{Statement}
-use Rattle.lapi_task.proofs.StepLaws.{FindsReason, next-fits, is-suited, idle-does, idle-replies, refused-does, refused-replies, issued-does, issued-replies, passed-does, passed-replies, blocked-does, blocked-replies}
+use Rattle.lapi_task.proofs.StepLaws.{FindsReason, next-fits, is-suited, has-flag, idle-does, idle-replies, refused-does, refused-replies, issued-does, issued-replies, passed-does, passed-replies, blocked-does, blocked-replies}
 use Rattle.lapi_task.proofs.task.Task.step.Goals as goal
+use Rattle.lapi_base.specs.Record.Acts.{step}
+use Rattle.lapi_task.specs.declared.unfinished.Unfinished.{Unfinished}
+use Rattle.lapi_task.specs.HasEffect.{HasEffect}
+use Rattle.lapi_task.proofs.FenceSteps.{fence-passes, fence-replies, fence-waits, fence-blocks}
 
 pub returns-in_default-clause-effect : goal.returns-in_default-clause-effect
 returns-in_default-clause-effect c = λ script rules t r at. idle-does script rules at.stands.calls.supported c.args.self.now t r at c.args.out.now (sym c.in_default.ensures)
@@ -36,6 +40,30 @@ returns-else-is_past-clause-effect c = λ script rules t r at. blocked-does scri
 pub returns-else-is_past-clause-reply : goal.returns-else-is_past-clause-reply
 returns-else-is_past-clause-reply c = λ script rules t r at. blocked-replies script rules at.stands.calls.supported c.args.self.now t r at c.in-Wait.counter c.in-Wait.value (sym c.in-Some.ensures ∙ ap Some c.in-Wait.is) (subst (λ (s : Statement). FindsReason c.args.self.now s None) c.in-Wait.is (c.refusal_of.result, c.refusal_of.ensures.after, c.in_default-refusal_of.is)) (let g = c.in_ok-is_past.ensures.blocked c.if-is_past.false in g.less)
 
+pub returns-then-not-is_clear : goal.returns-then-not-is_clear
+returns-then-not-is_clear c =
+    let none = subst (λ (s : Statement). FindsReason c.args.self.now s None) c.in-Fence.is (c.refusal_of.result, c.refusal_of.ensures.after, c.in_default-refusal_of.is) in
+    let found = sym c.in-Some.ensures ∙ ap Some c.in-Fence.is in
+    record {
+      effect = λ script rules t r at. fence-waits script rules at.stands.calls.supported c.args.self.now t r at found none c.args.out.now (sym (c.is_clear.ensures script rules t r at.stands) ∙ c.if-not-is_clear.true);
+      reply = λ script rules t r at. fence-blocks script rules at.stands.calls.supported c.args.self.now t r at found none (sym (c.is_clear.ensures script rules t r at.stands) ∙ c.if-not-is_clear.true);
+    }
+
+pub pass-requires : goal.pass-requires
+pass-requires c = let x = c.requires in next-fits x.0 x.1 x.4.stands.calls.supported c.args.self.now x.2 x.3 x.4 c.in-Some.statement.now (sym c.in-Some.ensures)
+
+pub returns-in-Fence : goal.returns-in-Fence
+returns-in-Fence c =
+    let none = subst (λ (s : Statement). FindsReason c.args.self.now s None) c.in-Fence.is (c.refusal_of.result, c.refusal_of.ensures.after, c.in_default-refusal_of.is) in
+    let found = sym c.in-Some.ensures ∙ ap Some c.in-Fence.is in
+    record {
+      effect = λ script rules t r at. fence-passes script rules at.stands.calls.supported c.args.self.now t r at found none c.pass.new.self c.args.out.now (record { events = c.pass.new.events; entries = c.args.out.now.entries }) (sym (c.is_clear.ensures script rules t r at.stands) ∙ c.if-not-is_clear.false) refl c.in_ok-pass.ensures;
+      reply = λ script rules t r at. fence-replies script rules at.stands.calls.supported c.args.self.now t r at found none (sym (c.is_clear.ensures script rules t r at.stands) ∙ c.if-not-is_clear.false);
+    }
+
+pub issued-requires : goal.issued-requires
+issued-requires c = let x = c.requires in has-flag x.0 x.1 x.4.stands.calls.supported c.args.self.now x.2 x.3 x.4 c.in-Some.statement.now (sym c.in-Some.ensures)
+
 pub issue-requires : goal.issue-requires
 issue-requires c =
     let x = c.requires in
@@ -46,6 +74,6 @@ issue-requires c =
 
 pub returns : goal.returns
 returns c = record {
-  effect = λ script rules t r at. issued-does script rules at.stands.calls.supported c.args.self.now t r at c.in-Some.statement.now (sym c.in-Some.ensures) c.issue.new.self c.args.out.now (record { events = c.issue.new.events; entries = c.args.out.now.entries }) (λ counter value e. c.in_default-statement.not-Wait counter value e) (c.refusal_of.result, c.refusal_of.ensures.after, c.in_default-refusal_of.is) refl c.in_ok-issue.ensures;
-  reply = λ script rules t r at. issued-replies script rules at.stands.calls.supported c.args.self.now t r at c.in-Some.statement.now (sym c.in-Some.ensures) (λ counter value e. c.in_default-statement.not-Wait counter value e) (c.refusal_of.result, c.refusal_of.ensures.after, c.in_default-refusal_of.is);
+  effect = λ script rules t r at. subst (λ (u : Unfinished). HasEffect script rules t r (step script rules r t) (record c.args.self.now { state = c.issue.new.self; unfinished = u }) c.args.out.now (record { events = c.issue.new.events; entries = c.args.out.now.entries })) (sym c.issued.ensures) (issued-does script rules at.stands.calls.supported c.args.self.now t r at c.in-Some.statement.now (sym c.in-Some.ensures) c.issue.new.self c.args.out.now (record { events = c.issue.new.events; entries = c.args.out.now.entries }) (λ counter value e. c.in_default-statement.not-Wait counter value e) (λ e. c.in_default-statement-2.not-Fence e) (c.refusal_of.result, c.refusal_of.ensures.after, c.in_default-refusal_of.is) refl c.in_ok-issue.ensures);
+  reply = λ script rules t r at. issued-replies script rules at.stands.calls.supported c.args.self.now t r at c.in-Some.statement.now (sym c.in-Some.ensures) (λ counter value e. c.in_default-statement.not-Wait counter value e) (λ e. c.in_default-statement-2.not-Fence e) (c.refusal_of.result, c.refusal_of.ensures.after, c.in_default-refusal_of.is);
 }
