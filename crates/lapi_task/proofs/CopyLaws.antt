@@ -127,7 +127,7 @@ record StandsBut (script : Script) (rules : Rules) (t : ℕ) (task : Task) (r : 
   pub sender_count : length task.senders.items ≡ script.tasks
   pub receiver_count : length task.receivers.items ≡ script.tasks
   pub senders : (b : ℕ) → b < script.tasks → SenderAt script rules r t b (slice_get task.senders.items b)
-  pub receivers : (a : ℕ) → a < script.tasks → ReceiverAt script (r.handed a t) (slice_get task.receivers.items a)
+  pub receivers : (a : ℕ) → a < script.tasks → ReceiverAt script rules (r.handed a t) (slice_get task.receivers.items a)
 
 module _ (script : Script) (rules : Rules) (t : ℕ) (task : Task) (r : Run) (i : ℕ) (rest : List ℕ) (h : CopiesNext script rules t task r i rest) where
   abbrev go : MsgName

@@ -81,7 +81,7 @@ module _ (script : Script) (rules : Rules) where
 
   stays-called : (called : Bool) (m : MsgName) (J : List Event) (x y : ℕ) → let K = followed J (cond called (Event.Head m ∷ []) []) in Atomic script rules K → Stays J K x y
   unfolding followed
-  stays-called true m J x y atomic = record { numbers = ap (λ (ps : List (MsgName × ℕ)). length ps) (numbered-head m J x y); packets = packet-same script rules (Event.Head m) J x y atomic (numbered-head m J x y) }
+  stays-called true m J x y atomic = record { numbers = numbered-head m J x y; packets = packet-same script rules (Event.Head m) J x y atomic (numbered-head m J x y) }
   stays-called false m J x y atomic = stays-none J x y
 
   stays-on : (J K L : List Event) (x y : ℕ) → Stays J K x y → Stays K L x y → Stays J L x y
