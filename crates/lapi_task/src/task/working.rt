@@ -65,12 +65,8 @@ impl Task {
             task: self.state.number,
             worker: finished.worker,
         })?;
-        take_effect(
-            alloc,
-            &mut self.state.memory,
-            finished.effect,
-            &finished.buffer,
-        )?;
+        let memory = &mut self.state.memory;
+        take_effect(alloc, memory, finished.effect, &finished.buffer)?;
         announce(&mut self.state.counters, job.target_counter)?;
         self.note(
             alloc,
