@@ -177,6 +177,13 @@ lent-partials script rules ps ends a end there read m =
       | Some x ↦ λ e h. ap (λ (s : ReceivingEnd). option_map unanswered (partial s.partials m)) (at-place ends a x end e read) ∙ (let receives = h.0 in receives.partials m)
     ] refl there
 
+pub lent-answers : (script : Script) (rules : Rules) (ps : List Packet) (ends : List ReceivingEnd) (a : ℕ) (end : ReceivingEnd) → ReceiverAt script rules ps (slice_get ends a) → end ≡ get_or ends a end → (m : MsgName) → answer_of end m ≡ answer_for rules (partial end.partials m)
+lent-answers script rules ps ends a end there read m =
+    elim (slice_get ends a) as (λ o. slice_get ends a ≡ o → ReceiverAt script rules ps o → answer_of end m ≡ answer_for rules (partial end.partials m)) [
+      | None ↦ λ _ h. absurd h
+      | Some x ↦ λ e h. let same = at-place ends a x end e read in ap (λ (s : ReceivingEnd). answer_of s m) same ∙ h.1 m ∙ ap (λ (s : ReceivingEnd). answer_for rules (partial s.partials m)) (sym same)
+    ] refl there
+
 -- and the window tells what was taken
 pub lent-window : (script : Script) (rules : Rules) (ps : List Packet) (ends : List ReceivingEnd) (a : ℕ) (end : ReceivingEnd) → ReceiverAt script rules ps (slice_get ends a) → end ≡ get_or ends a end → (n : ℕ) → is_taken end.window n ≡ has_number ps n
 lent-window script rules ps ends a end there read n =

@@ -1,16 +1,15 @@
--- The queue of a task and what its workers run, after the landing of a job, after a Begin and after an End.
+-- The queue of a task and what its workers run, after a Begin and after an End.
 use Rattle.std.proofs.Common.{◌≡◌, ℕ, ◌<◌, ◌^◌, ◌==◌, Bool, true, false, cond, ◌&&◌, ◌||◌, not, List, [], ◌∷◌, ◌++◌, length, map, filter, Option, Some, None, refl, sym, ap, ◌∙◌, subst, ⊎_elim, arith}
 use Rattle.std.specs.Prelude.{option_map}
 use Rattle.std.specs.List.{AllByRecursion}
 use Rattle.std.proofs.lemmas.Bool.{cond_both, cond-true, cond-false, both_ways, false_from_ne_true, cases_eq, ne_eqb}
-use Rattle.std.proofs.lemmas.List.{length-set, get_or-set_same, get_or-set_other, map-append}
-use Rattle.std.proofs.lemmas.List.Elements.{filter-append}
+use Rattle.std.proofs.lemmas.List.{length-set, get_or-set_same, get_or-set_other}
 use Rattle.lapi_base.specs.declared.script.Script.{Script}
 use Rattle.lapi_base.specs.declared.rule.Rules.{Rules}
 use Rattle.lapi_base.specs.declared.event.Event.{Event}
 use Rattle.lapi_base.specs.declared.event.Event.TheVariants.{Issue, Refuse, Enter, Pass, Copy, Head, Land, Begin, End}
 use Rattle.lapi_base.specs.declared.message.MsgName.{MsgName}
-use Rattle.lapi_base.specs.Record.Atomic.{Atomic, needs}
+use Rattle.lapi_base.specs.Record.Atomic.{Atomic}
 use Rattle.lapi_base.specs.Record.Jobs.{is_job, landed_jobs, queue, runs}
 use Rattle.lapi_base.specs.Record.Names.{name_eq, Landed, Begun, happened}
 use Rattle.lapi_base.proofs.ListLaws.{all-weaker, all-append}
@@ -18,7 +17,7 @@ use Rattle.lapi_base.proofs.NameLaws.{name_eq-true, name_eq-refl}
 use Rattle.lapi_base.proofs.TestLaws.{eqb-refl}
 use Rattle.lapi_jobs.specs.declared.pending.Pending.{Pending}
 use Rattle.lapi_jobs.specs.Jobs.{Works, run_by, with_run}
-use Rattle.lapi_laws.proofs.Backward.{Atomic-head, Atomic-tail, closed}
+use Rattle.lapi_laws.proofs.Backward.{Atomic-head, Atomic-tail}
 use Rattle.lapi_laws.proofs.Workers.{Waiting, landed-waiting}
 use Rattle.lapi_task.specs.HasJobs.{pending, HasJobs}
 
@@ -93,33 +92,6 @@ module _ (script : Script) (rules : Rules) where
   jobs-apart (Head m ∷ J) t h = jobs-apart J t (Atomic-tail script rules (Head m) J h)
   jobs-apart (Begin m b w ∷ J) t h = jobs-apart J t (Atomic-tail script rules (Begin m b w) J h)
   jobs-apart (End m b w ∷ J) t h = jobs-apart J t (Atomic-tail script rules (End m b w) J h)
-
-  -- A job that lands waits behind the others.
-  landed-queue : (t : ℕ) (J : List Event) (m : MsgName) → Atomic script rules (Land m ∷ J) → is_job script rules t m ≡ true → queue script rules (Land m ∷ J) t ≡ queue script rules J t ++ m ∷ []
-  unfolding queue landed_jobs happened needs
-  landed-queue t J m h is =
-      let waits = λ (x : MsgName). not (happened (Begun x) J) in
-      let new = Atomic-head script rules (Land m) J h in
-      let fresh : happened (Begun m) J ≡ false = false_from_ne_true (happened (Begun m) J) (λ y. both_ways (happened (Landed m) J) new.once (closed script rules (Begun m) J (Atomic-tail script rules (Land m) J h) y).0) in
-      ap (filter waits) (cond-true (is_job script rules t m) (landed_jobs script rules J t ++ m ∷ []) (landed_jobs script rules J t) is)
-      ∙ filter-append waits (landed_jobs script rules J t) (m ∷ [])
-      ∙ ap (λ (ms : List MsgName). queue script rules J t ++ ms) (cond-true (not (happened (Begun m) J)) (m ∷ []) [] (ap not fresh))
-
-  landed-runs : (t : ℕ) (J : List Event) (m : MsgName) (v : ℕ) → runs (Land m ∷ J) t v ≡ runs J t v
-  unfolding runs
-  landed-runs t J m v = refl
-
-  pub jobs-landed : (t : ℕ) (J : List Event) (m : MsgName) (jobs new : Works) → HasJobs script rules t jobs J → Atomic script rules (Land m ∷ J) → is_job script rules t m ≡ true → length new.waiting < 2 ^ 32 → new ≡ record jobs { waiting = jobs.waiting ++ pending script rules m ∷ [] } → HasJobs script rules t new (Land m ∷ J)
-  jobs-landed t J m jobs new h atomic is few same = record {
-    waiting =
-        ap (λ (x : Works). x.waiting) same
-        ∙ ap (λ (js : List Pending). js ++ pending script rules m ∷ []) h.waiting
-        ∙ sym (map-append (pending script rules) (queue script rules J t) (m ∷ []))
-        ∙ ap (λ (ns : List MsgName). map (pending script rules) ns) (sym (landed-queue t J m atomic is));
-    few = few;
-    workers = ap (λ (x : Works). length x.workers) same ∙ h.workers;
-    running = λ v l. ap (λ (x : Works). run_by x v) same ∙ h.running v l ∙ ap (λ (o : Option MsgName). option_map (pending script rules) o) (sym (landed-runs t J m v));
-  }
 
   module _ (t : ℕ) (J : List Event) (m : MsgName) (w : ℕ) where
     -- a Begin takes the first of the queue,

@@ -9,7 +9,8 @@ ghost use Rattle.lapi_base.specs.Record.Refusals.{next, refusals};
 ghost use Rattle.lapi_base.specs.Record.Values.{memory_bytes};
 ghost use Rattle.lapi_window.specs.RecvWindow.{is_taken};
 ghost use Rattle.lapi_reassembly.specs.Partials.{partial};
-ghost use Rattle.lapi_link.specs.Receiver.{partial_of, unanswered};
+ghost use Rattle.lapi_link.specs.Receiver.{kept_answer, partial_of, unanswered};
+ghost use Rattle.lapi_task.specs.Answered.{answer_for};
 ghost use Rattle.lapi_task.specs.Sends.{HasNumbers};
 ghost use Rattle.lapi_task.specs.StandsFor.{ForEachRecord, ForSomeRecord};
 
@@ -92,8 +93,10 @@ impl Task {
     /// the headers of active messages.
     pub fn partials(&self, a: u32) -> &Partials
         requires { ForSomeRecord self.now (λ script rules t r. a < script.tasks) }
-        ensures { ForEachRecord self.now (λ script rules t r. a < script.tasks → (m : MsgName)
+        ensures came { ForEachRecord self.now (λ script rules t r. a < script.tasks → (m : MsgName)
             → option_map unanswered (partial result.now m) ≡ partial_of script (r.handed a t) m) }
+        ensures answers { ForEachRecord self.now (λ script rules t r. a < script.tasks → (m : MsgName)
+            → kept_answer (partial result.now m) ≡ answer_for rules (partial result.now m)) }
     {
         self.receivers[a as usize].partials()
     }
