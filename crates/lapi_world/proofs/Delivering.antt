@@ -27,6 +27,10 @@ use Rattle.lapi_task.specs.StandsFor.{SenderAt}
 use Rattle.lapi_world.specs.declared.network.Network.{Network}
 use Rattle.lapi_world.specs.Stands.{TaskAt, Stands}
 use Rattle.lapi_world.proofs.Acts.{task-found, task-read, performed-deliver}
+use Rattle.lapi_base.specs.Laws.Copying.{numbers_that}
+use Rattle.lapi_base.specs.Record.Wires.{data_done, all_numbers}
+use Rattle.lapi_task.specs.declared.unfinished.Unfinished.{Unfinished}
+use Rattle.lapi_task.specs.Unfinished.{Tracks}
 
 module _ (script : Script) (rules : Rules) where
   deliver-none : (r : Run) (a b k : ℕ) → slice_get (r.wire a b) k ≡ None → performed script rules r (Deliver a b k) ≡ reply_with script rules r Absent
@@ -49,13 +53,19 @@ module _ (script : Script) (rules : Rules) where
       whole = h.whole;
       kept = h.kept;
       waiting = h.waiting;
+      tags = h.tags;
     }
+
+    unfinished-with : (t : ℕ) (u : Unfinished) → Tracks script rules t u r → Tracks script rules t u replied
+    unfolding data_done all_numbers numbers_that
+    unfinished-with t u h = record { size = h.size; undone = h.undone; left = h.left }
 
     task-with : (t : ℕ) (o : Option Task) → TaskAt script rules r t o → TaskAt script rules replied t o
     task-with t None h = absurd h
     task-with t (Some task) h = record {
       calls = h.calls;
       holds = h.holds;
+      unfinished = unfinished-with t task.unfinished h.unfinished;
       sender_count = h.sender_count;
       receiver_count = h.receiver_count;
       senders = λ b l. sender-with t b (slice_get task.senders.items b) (h.senders b l);
