@@ -3,7 +3,6 @@ pub mod FirstFaults
 pub mod Tokens
 pub mod Rows
 pub mod ActRows
-pub mod Built
 pub mod Forms
 pub mod Reading
 pub mod Faults

@@ -3,3 +3,4 @@ pub mod Packet
 pub mod Input
 pub mod Output
 pub mod Laws
+pub mod Held

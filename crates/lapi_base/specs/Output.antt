@@ -4,5 +4,9 @@ pub mod TextParts
 pub mod JournalText
 pub mod WireText
 pub mod ReportText
+pub mod SummaryText
 pub mod PacketText
 pub mod TraceText
+pub mod LiveText
+pub mod CaptureBytes
+pub mod LandingsText

@@ -18,3 +18,4 @@ pub mod TaskPart
 pub mod HeadSays
 pub mod Arrived
 pub mod WorldView
+pub mod Lanes

@@ -3,19 +3,28 @@ ghost use Rattle.std.specs.Prelude.{◌≡◌, [], ◌∷◌, ◌++◌, IfOk, On
 use crate::memory::Memory;
 use std::alloc::Global;
 use std::marker::Model;
+use std::sync::Arc;
 
-/// A list of bytes of any length.
+/// A list of bytes of any length, which may be shared.
 #[derive(Debug, Drop)]
 pub struct Bytes {
-    items: Vec<u8>,
+    body: Body,
+}
+
+#[derive(Debug, Drop)]
+enum Body {
+    Own(Vec<u8>),
+    /// Other lists may have the same bytes.
+    Shared(Arc<Vec<u8>>),
 }
 
 impl Model for Bytes {
     ghost use Rattle.std.specs.Prelude.{List, ℕ};
+    ghost use Rattle.lapi_base.specs.Held.{held};
 
     ghost Value = { List ℕ };
 
-    ghost view = { λ list. list.items.items };
+    ghost view = { λ list. held list.body };
 }
 
 impl Bytes {
@@ -23,9 +32,7 @@ impl Bytes {
     pub fn new(alloc: Global) -> Bytes
         ensures { result ≡ [] }
     {
-        Bytes {
-            items: Vec::new(alloc),
-        }
+        Bytes::from(Vec::new(alloc))
     }
 
     /// A copy of these bytes.
@@ -33,29 +40,57 @@ impl Bytes {
         ensures { IfOk result (λ copy. copy ≡ bytes.now) }
     {
         let items = Vec::from_slice(alloc, bytes)?;
-        Ok(Bytes { items })
+        Ok(Bytes::from(items))
     }
 
-    /// A copy of the list.
+    /// The list once more. Where it is shared, that is one owner more of its bytes, and copies none.
     pub fn copy(&self, alloc: Global) -> Result<Bytes, Memory>
         ensures { IfOk result (λ copy. copy ≡ self.now) }
     {
-        Bytes::from_slice(alloc, self.as_slice())
+        match &self.body {
+            Body::Own(items) => Bytes::from_slice(alloc, items.as_slice()),
+            Body::Shared(items) => Ok(Bytes {
+                body: Body::Shared(items.clone()?),
+            }),
+        }
     }
 
-    /// Appends a byte.
+    /// The same list, of which each copy shares the bytes.
+    pub fn into_shared(self) -> Result<Bytes, Memory>
+        ensures { IfOk result (λ shared. shared ≡ self) }
+    {
+        let items = match self.body {
+            Body::Own(items) => Arc::new(*items.allocator(), items)?,
+            Body::Shared(items) => items,
+        };
+        Ok(Bytes {
+            body: Body::Shared(items),
+        })
+    }
+
+    /// Appends a byte. Bytes that are shared are copied first.
     pub fn push(&mut self, item: u8) -> Result<(), Memory>
         ensures ok { OnOk result (self.new ≡ self.old ++ item ∷ []) }
         ensures err { OnErr result (self.new ≡ self.old) }
     {
-        self.items.push(item)?;
+        match &mut self.body {
+            Body::Own(items) => items.push(item)?,
+            Body::Shared(items) => {
+                let mut own = Vec::from_slice(*items.allocator(), items.as_slice())?;
+                own.push(item)?;
+                self.body = Body::Own(own);
+            }
+        }
         Ok(())
     }
 
     pub fn as_slice(&self) -> &[u8]
         ensures { result.now ≡ self.now }
     {
-        self.items.as_slice()
+        match &self.body {
+            Body::Own(items) => items.as_slice(),
+            Body::Shared(items) => items.as_slice(),
+        }
     }
 }
 
@@ -63,6 +98,8 @@ impl From<Vec<u8>> for Bytes {
     ghost from_gives = { λ items bytes. bytes ≡ items.items };
 
     fn from(items: Vec<u8>) -> Bytes {
-        Bytes { items }
+        Bytes {
+            body: Body::Own(items),
+        }
     }
 }

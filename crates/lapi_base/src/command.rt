@@ -11,6 +11,8 @@ pub enum View {
     Wires,
     /// Each line with its reply.
     Trace,
+    /// What the switch handed over, as bytes.
+    Capture,
 }
 
 /// What the words of a command ask for.
@@ -22,6 +24,12 @@ pub enum Command {
     Check,
     /// To read a script and events, and to write whether they are a journal of the atomic message machine.
     Audit,
+    /// To read a capture, and to write the landings in it.
+    Landings,
     /// To show the packet that these bytes spell.
     Show(Bytes),
+    /// To write the input that this number generates.
+    Gen(u32),
+    /// To perform every line of the input that this number generates, and to write a summary of its record.
+    Sum(u32),
 }

@@ -12,7 +12,7 @@ pub struct Input {
     pub schedule: Schedule,
 }
 
-/// The quantity that passes its limit, or a form that isn't built yet.
+/// The quantity that passes its limit.
 #[derive(Clone, Copy, Debug, Eq, PartialEq)]
 pub enum Which {
     Input,
@@ -27,7 +27,16 @@ pub enum Which {
     Bytes,
     /// The events of an audit's journal.
     Events,
-    Unbuilt,
+    /// The tasks of an array's grid.
+    Grid,
+    /// The rows and columns of a block of an array.
+    Block,
+    /// The operations on an array.
+    Ops,
+    /// The words of an array's patch.
+    Patch,
+    /// The rows and columns of an array that a patch is of.
+    Range,
 }
 
 /// What is wrong with a line.

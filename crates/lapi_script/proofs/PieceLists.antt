@@ -1,14 +1,11 @@
 -- Pieces, one after the other.
 use Rattle.std.proofs.Common.{◌≡◌, ℕ, ◌<◌, List, [], ◌∷◌, ◌++◌, length, refl, sym, ap, ◌∙◌, Bool, true, false, Some, None, Option, append_assoc, arith, ◌≤◌}
-use Rattle.std.specs.Prelude.{option_map, ◌&&◌}
-use Rattle.std.specs.List.{list_all}
-use Rattle.std.proofs.lemmas.List.Folds.{list_all-append}
+use Rattle.std.specs.Prelude.{option_map}
 use Rattle.std.proofs.lemmas.List.{length-append, append-nil}
 use Rattle.lapi_base.specs.declared.address.Addr.{Addr}
 use Rattle.lapi_base.specs.declared.piece.Piece.{Piece}
 use Rattle.lapi_base.specs.Input.Tokens.{piece_of, pieces_of}
 use Rattle.lapi_base.specs.declared.vector.Vector.{Vector}
-use Rattle.lapi_base.specs.Input.Built.{is_plain}
 use Rattle.lapi_script.specs.declared.held_vector.HeldVector.{HeldVector}
 use Rattle.lapi_script.specs.declared.held_vector.HeldVector.TheVariants.{TooManyPieces}
 use Rattle.lapi_script.specs.Vectors.{HoldsVector, HoldsListed, vector_or}
@@ -22,17 +19,6 @@ with_front front read = option_map (λ pieces. front ++ pieces) read
 abbrev pub IsSeen : Bool → List Piece → List Piece → Type 0
 IsSeen true list seen = 16 < length seen
 IsSeen false list seen = seen ≡ list
-
-abbrev pub are_plain_pieces : List Piece → Bool
-are_plain_pieces pieces = list_all (λ (piece : Piece). is_plain piece.at) pieces
-
-pub plain_next : (seen : List Piece) (piece : Piece) (b next : Bool) → b ≡ are_plain_pieces seen → next ≡ (b && is_plain piece.at) → next ≡ are_plain_pieces (seen ++ piece ∷ [])
-plain_next seen piece b next is e = rw (list_all-append (λ (piece : Piece). is_plain piece.at) seen (piece ∷ []), ← is, e) (one b (is_plain piece.at))
-  where
-    one : (b p : Bool) → (b && p) ≡ (b && (p && true))
-    one true true = refl
-    one true false = refl
-    one false p = refl
 
 regroup : (front : List Piece) (piece : Piece) (read : Option (List Piece)) → with_front front (option_map (λ pieces. piece ∷ pieces) read) ≡ with_front (front ++ piece ∷ []) read
 regroup front piece None = refl
@@ -60,9 +46,8 @@ seen_many true list seen piece full is = omega (arith, is, length-append seen (p
 seen_many false list seen piece full is = omega (arith, full, ap (λ (s : List Piece). length s) is, length-append seen (piece ∷ []))
 
 -- more than 16 pieces are read, and not held
-pub many_listed : (are_plain : Bool) (seen : List Piece) (read : Option (List Piece)) → with_front seen (Some []) ≡ read → 16 < length seen → are_plain ≡ are_plain_pieces seen
-    → HoldsListed (Some (TooManyPieces are_plain)) (option_map (λ pieces. Vector.List pieces) read)
-many_listed are_plain seen read is long plain = rw (← is, append-nil seen) (Vector.List seen, refl, (lt-leb _ _ long, sym plain))
+pub many_listed : (seen : List Piece) (read : Option (List Piece)) → with_front seen (Some []) ≡ read → 16 < length seen → HoldsListed (Some TooManyPieces) (option_map (λ pieces. Vector.List pieces) read)
+many_listed seen read is long = rw (← is, append-nil seen) (Vector.List seen, refl, lt-leb _ _ long)
 
 -- a vector that is read, and what is held of it
 pub spelled_list : (held : HeldVector) (read : Option Vector) → HoldsListed (Some held) read → (Some (vector_or read) ≡ read) × HoldsVector held (vector_or read)

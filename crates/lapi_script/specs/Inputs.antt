@@ -5,11 +5,10 @@ use Rattle.lapi_base.specs.declared.script.Script.{Script}
 use Rattle.lapi_base.specs.declared.input.Input.{Input}
 use Rattle.lapi_base.specs.Packet.Spelling.{spells_packet}
 use Rattle.lapi_base.specs.Record.Valid.{ValidScript, ValidSchedule}
-use Rattle.lapi_base.specs.Input.Built.{IsBuilt}
 
 abbrev pub input_of : Script → List Line → Input
 input_of script schedule = record { script = script; schedule = schedule }
 
--- within all limits, and of built forms alone
+-- within all limits
 abbrev pub IsWritable : Input → Type 0
-IsWritable x = ValidScript x.script × ValidSchedule x.script spells_packet x.schedule × IsBuilt x
+IsWritable x = ValidScript x.script × ValidSchedule x.script spells_packet x.schedule

@@ -1,7 +1,6 @@
 -- The lines of tasks as they are held while they are read.
-use Rattle.std.specs.Prelude.{◌≡◌, Bool, false, Result, Ok, Err}
+use Rattle.std.specs.Prelude.{◌≡◌, false, Result, Ok, Err}
 use Rattle.lapi_base.specs.declared.input.LineError.{LineError}
-use Rattle.lapi_base.specs.Input.Built.{is_built_statement}
 use Rattle.lapi_base.specs.Input.Reading.{keeps_pieces}
 use Rattle.lapi_base.specs.Input.Forms as forms
 use Rattle.lapi_script.specs.declared.fault.LineFault.{LineFault}
@@ -11,20 +10,20 @@ use Rattle.lapi_script.specs.declared.task_lines.TaskLine.{TaskLine}
 use Rattle.lapi_script.specs.declared.task_lines.TaskLine.TheVariants.{Task, Schedule, Statement, TooManyPieces}
 use Rattle.lapi_script.specs.Gives.{Fails}
 
--- a statement with more pieces than a vector may have, and whether such a statement is built
-abbrev pub LineHasTooManyPieces : Bool → Result forms.TaskLine LineError → Type 0
-LineHasTooManyPieces is_built (Ok (forms.StatementLine s)) = (keeps_pieces s ≡ false) × (is_built_statement s ≡ is_built)
-LineHasTooManyPieces is_built (Ok _) = ⊥
-LineHasTooManyPieces is_built (Err why) = ⊥
+-- a statement with more pieces than a vector may have
+abbrev pub LineHasTooManyPieces : Result forms.TaskLine LineError → Type 0
+LineHasTooManyPieces (Ok (forms.StatementLine s)) = keeps_pieces s ≡ false
+LineHasTooManyPieces (Ok _) = ⊥
+LineHasTooManyPieces (Err why) = ⊥
 
 abbrev pub HoldsTaskLine : Result TaskLine LineFault → Result forms.TaskLine LineError → Type 0
 HoldsTaskLine (Ok (Task t)) read = read ≡ Ok (forms.Task t)
 HoldsTaskLine (Ok Schedule) read = read ≡ Ok forms.Schedule
 HoldsTaskLine (Ok (Statement s)) read = read ≡ Ok (forms.StatementLine s)
-HoldsTaskLine (Ok (TooManyPieces is_built)) read = LineHasTooManyPieces is_built read
+HoldsTaskLine (Ok TooManyPieces) read = LineHasTooManyPieces read
 HoldsTaskLine (Err fault) read = Fails fault read
 
 -- a line that is a statement
 abbrev pub IsDone : ReadStatement → TaskLine → Type 0
 IsDone (read_statement.Held s) line = line ≡ Statement s
-IsDone (read_statement.TooManyPieces is_built) line = line ≡ TooManyPieces is_built
+IsDone read_statement.TooManyPieces line = line ≡ TooManyPieces

@@ -5,7 +5,6 @@ use Rattle.lapi_base.specs.declared.address.Addr.TheVariants.{Plain}
 use Rattle.lapi_base.specs.declared.vector.Vector.{Vector}
 use Rattle.lapi_base.specs.declared.vector.Vector.TheVariants.{Stride}
 use Rattle.lapi_base.specs.Input.Tokens.{plain_address_of, address_of, vector_of}
-use Rattle.lapi_base.specs.Input.Built.{is_plain_vector}
 use Rattle.lapi_base.specs.Input.Reading.{has_few_pieces}
 use Rattle.lapi_script.specs.declared.held_vector.HeldVector.{HeldVector}
 use Rattle.lapi_script.specs.declared.held_vector.HeldVector.TheVariants.{Held, TooManyPieces}
@@ -25,10 +24,10 @@ vector_or (Some vector) = vector
 abbrev pub spelled : Side → List ℕ → Vector
 spelled side word = vector_or (vector_of (address_by side) word)
 
--- the vector; or that it has more pieces than one may have, and whether each of them stands at a plain address
+-- the vector; or that it has more pieces than one may have
 abbrev pub HoldsVector : HeldVector → Vector → Type 0
 HoldsVector (Held held) vector = vector ≡ held
-HoldsVector (TooManyPieces are_plain) vector = (has_few_pieces vector ≡ false) × (is_plain_vector vector ≡ are_plain)
+HoldsVector TooManyPieces vector = has_few_pieces vector ≡ false
 
 -- what is held of a vector that is read, if one is
 abbrev pub HoldsListed : Option HeldVector → Option Vector → Type 0

@@ -26,7 +26,7 @@ pub(crate) fn cut(bytes: &[u8], byte: u8) -> (&[u8], Option<&[u8]>)
 
 /// The first line, without its line feed, and what follows it.
 #[tactic(auto, using(crate::proofs::Splits::more_lines, crate::proofs::Splits::last_line))]
-pub(crate) fn first_line(bytes: &[u8]) -> (&[u8], &[u8])
+pub fn first_line(bytes: &[u8]) -> (&[u8], &[u8])
     requires { 0 < length bytes.now }
     ensures lines { lines_of bytes.now ≡ result.0.now ∷ lines_of result.1.now }
     ensures shorter { length result.1.now < length bytes.now }

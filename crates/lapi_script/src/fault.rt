@@ -7,7 +7,7 @@ use std::alloc::AllocError;
 
 /// Why a line isn't taken.
 #[derive(Clone, Copy, Debug, Eq, PartialEq)]
-pub(crate) enum LineFault {
+pub enum LineFault {
     Memory,
     Wrong(LineError),
 }
@@ -33,14 +33,14 @@ impl From<Memory> for LineFault {
 }
 
 /// The line is of no form that may stand there.
-pub(crate) fn syntax() -> LineFault
+pub fn syntax() -> LineFault
     ensures { result ≡ LineFault.Wrong LineError.Syntax }
 {
     LineFault::Wrong(LineError::Syntax)
 }
 
 /// The line has its form, and passes this limit.
-pub(crate) fn limit(which: Which) -> LineFault
+pub fn limit(which: Which) -> LineFault
     ensures { result ≡ LineFault.Wrong (LineError.Limit which) }
 {
     LineFault::Wrong(LineError::Limit(which))

@@ -13,7 +13,7 @@ use crate::words::{Words, is_text};
 use lapi_base::{Addr, Bytes, Leg};
 use std::alloc::Global;
 
-pub(crate) fn word<'a>(words: &mut Words<'a>) -> Result<&'a [u8], LineFault>
+pub fn word<'a>(words: &mut Words<'a>) -> Result<&'a [u8], LineFault>
     ensures { Gives (λ word. (word.now, words.new)) result (word_at words.old) }
 {
     match words.next() {
@@ -23,7 +23,7 @@ pub(crate) fn word<'a>(words: &mut Words<'a>) -> Result<&'a [u8], LineFault>
 }
 
 /// That the next word is this one.
-pub(crate) fn keyword(words: &mut Words, text: &[u8]) -> Result<(), LineFault>
+pub fn keyword(words: &mut Words, text: &[u8]) -> Result<(), LineFault>
     ensures { Gives (λ _. words.new) result (keyword_at text.now words.old) }
 {
     if is_text(word(words)?, text) {
@@ -34,7 +34,7 @@ pub(crate) fn keyword(words: &mut Words, text: &[u8]) -> Result<(), LineFault>
 }
 
 /// That no word is left.
-pub(crate) fn end(words: &mut Words) -> Result<(), LineFault>
+pub fn end(words: &mut Words) -> Result<(), LineFault>
     ensures { Gives (λ x. x) result (end_at words.old) }
 {
     match words.next() {
@@ -44,7 +44,7 @@ pub(crate) fn end(words: &mut Words) -> Result<(), LineFault>
 }
 
 #[tactic(auto, unfolding(lapi_base::specs::Input::Tokens::value_of))]
-pub(crate) fn number(words: &mut Words) -> Result<u32, LineFault>
+pub fn number(words: &mut Words) -> Result<u32, LineFault>
     ensures { Gives (λ n. (n, words.new)) result (value_at Number words.old) }
 {
     let text = word(words)?;
@@ -77,7 +77,7 @@ pub(crate) fn address(words: &mut Words) -> Result<Addr, LineFault>
 }
 
 #[tactic(auto, unfolding(lapi_base::specs::Input::Tokens::value_of))]
-pub(crate) fn hex(alloc: Global, words: &mut Words) -> Result<Bytes, LineFault>
+pub fn hex(alloc: Global, words: &mut Words) -> Result<Bytes, LineFault>
     ensures { Gives (λ bytes. (bytes, words.new)) result (value_at Hex words.old) }
 {
     let text = word(words)?;

@@ -14,6 +14,7 @@ mod limits;
 mod names;
 mod pieces;
 mod read;
+pub mod reading;
 mod scan;
 mod state;
 mod statements;

@@ -2,12 +2,11 @@
 
 ghost use Rattle.std.specs.Prelude.{◌≡◌};
 ghost use Rattle.lapi_base.specs.Input.Reading.{checked_sizes, has_few_pieces, keeps_pieces, keeps_bytes, keeps_injected, names_known};
-ghost use Rattle.lapi_base.specs.Input.Built.{is_plain, is_plain_vector, is_built_statement, is_built_act};
 ghost use Rattle.lapi_base.specs.Packet.Spelling.{spells_packet};
 ghost use Rattle.lapi_script.specs.Gives.{Gives};
 
 use crate::fault::{LineFault, limit};
-use lapi_base::{Act, Addr, Script, Statement, Vector, Which};
+use lapi_base::{Act, Script, Statement, Vector, Which};
 use lapi_packet::decode;
 
 /// The most bytes of a store.
@@ -32,62 +31,6 @@ pub(crate) fn checked_sizes(script: Script) -> Result<Script, LineFault>
         return Err(limit(Which::Workers));
     }
     Ok(script)
-}
-
-/// Whether statements of this form are performed yet.
-#[tactic(auto, unfolding(lapi_base::specs::Input::Built::is_built_statement))]
-pub(crate) fn is_built_statement(statement: &Statement) -> bool
-    ensures { result ≡ is_built_statement statement.now }
-{
-    match statement {
-        Statement::Store { .. }
-        | Statement::Am { .. }
-        | Statement::Wait { .. }
-        | Statement::Set { .. }
-        | Statement::Read { .. }
-        | Statement::Fence => true,
-        Statement::Put { to, .. } => is_plain(*to),
-        Statement::Get { from, .. } => is_plain(*from),
-        Statement::Putv { to, from, .. } => is_plain_vector(to) && is_plain_vector(from),
-        Statement::Getv { from, to, .. } => is_plain_vector(from) && is_plain_vector(to),
-        Statement::Rmw { at, .. } => is_plain(*at),
-        Statement::Gfence | Statement::Addr { .. } => false,
-    }
-}
-
-pub(crate) fn is_plain(at: Addr) -> bool
-    ensures { result ≡ is_plain at }
-{
-    match at {
-        Addr::Plain(_) => true,
-        Addr::Table { .. } => false,
-    }
-}
-
-/// Whether each address of the vector is plain.
-pub(crate) fn is_plain_vector(vector: &Vector) -> bool
-    ensures { result ≡ is_plain_vector vector.now }
-{
-    match vector {
-        Vector::List(pieces) => pieces.as_slice().iter().all(|piece| is_plain(piece.at)),
-        Vector::Stride { base, .. } => is_plain(*base),
-    }
-}
-
-/// Whether lines of this form are performed yet.
-#[tactic(auto, unfolding(lapi_base::specs::Input::Built::is_built_act))]
-pub(crate) fn is_built_act(act: &Act) -> bool
-    ensures { result ≡ is_built_act act.now }
-{
-    match act {
-        Act::Step(_)
-        | Act::Poll(_)
-        | Act::Tick(_)
-        | Act::Deliver { .. }
-        | Act::Begin { .. }
-        | Act::End { .. } => true,
-        Act::Cut { .. } | Act::Inject { .. } => false,
-    }
 }
 
 fn has_few_pieces(vector: &Vector) -> bool

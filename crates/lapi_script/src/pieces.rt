@@ -1,13 +1,11 @@
 //! The vector that a word stands for.
 
 ghost use Rattle.std.specs.Prelude.{◌≡◌};
-ghost use Rattle.lapi_base.specs.Input.Built.{is_plain_vector};
 ghost use Rattle.lapi_base.specs.Input.Tokens.{piece_of, sizes_of, strided_of, listed_of, vector_of};
 ghost use Rattle.lapi_script.specs.Vectors.{address_by, spelled, HoldsVector, HoldsListed};
 
 use crate::cuts::{Parts, split};
 use crate::held_vector::HeldVector;
-use crate::limits::is_plain;
 use crate::values::{address_of, number_of, only_number, plain_address_of};
 use lapi_base::{Addr, Piece, PieceList, Vector};
 use std::marker::Model;
@@ -48,11 +46,9 @@ fn listed_of(side: Side, text: &[u8]) -> Option<HeldVector>
     let (first, mut parts) = split(text, b',');
     let first = piece_of(side, first)?;
     let mut list = PieceList::new(first);
-    let mut are_plain = is_plain(first.at);
     let mut many = false;
     while let Some(part) = parts.next() {
         let piece = piece_of(side, part)?;
-        are_plain = are_plain && is_plain(piece.at);
         if list.as_slice().len() < 16 {
             list.push(piece);
         } else {
@@ -60,7 +56,7 @@ fn listed_of(side: Side, text: &[u8]) -> Option<HeldVector>
         }
     }
     if many {
-        return Some(HeldVector::TooManyPieces { are_plain });
+        return Some(HeldVector::TooManyPieces);
     }
     Some(HeldVector::Held(Vector::List(list)))
 }
@@ -132,13 +128,6 @@ impl<'a> VectorWord<'a> {
             }
             _ => None,
         }
-    }
-
-    /// Whether each address of the vector is plain, however many pieces it has.
-    pub(crate) fn is_plain(&self) -> bool
-        ensures { result ≡ is_plain_vector self.now }
-    {
-        self.held.is_plain()
     }
 
     pub(crate) fn held(self) -> HeldVector

@@ -16,7 +16,7 @@ use lapi_text::text_laws;
 use std::alloc::Global;
 
 /// A fault at its line.
-pub(crate) fn at_line(fault: LineFault, line: u32) -> ReadFault
+pub fn at_line(fault: LineFault, line: u32) -> ReadFault
     ensures { FailsAt line fault result }
 {
     match fault {

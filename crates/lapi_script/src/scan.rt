@@ -75,7 +75,7 @@ fn is_clean_block(block: &[u8]) -> bool
 }
 
 /// Whether each byte may stand in a line.
-pub(crate) fn is_clean(line: &[u8]) -> bool
+pub fn is_clean(line: &[u8]) -> bool
     ensures { result ≡ is_clean line.now }
 {
     let mut rest = line;

@@ -11,7 +11,6 @@ ghost use Rattle.lapi_base.specs.Input.Forms.{and_then};
 ghost use Rattle.lapi_base.specs.Input.Forms as forms;
 ghost use Rattle.lapi_base.specs.declared.script.Script.{Script};
 ghost use Rattle.lapi_base.specs.declared.statement.Statement.{Statement};
-ghost use Rattle.lapi_base.specs.Input.Built.{is_built_statement};
 ghost use Rattle.lapi_base.specs.Input.Reading.{step, after, keeps_pieces, on_first_task, on_task_line, on_statement, on_line};
 ghost use Rattle.lapi_script.specs.Gives.{Fails, Gives};
 ghost use Rattle.lapi_script.specs.TaskLines.{HoldsTaskLine};
@@ -20,10 +19,7 @@ ghost use Rattle.lapi_script.specs.States.{state_of};
 use crate::acts::line;
 use crate::fault::{LineFault, limit, syntax};
 use crate::heads::{head, sizes};
-use crate::limits::{
-    checked_sizes, is_built_act, is_built_statement, keeps_bytes, keeps_injected, keeps_pieces,
-    names_known,
-};
+use crate::limits::{checked_sizes, keeps_bytes, keeps_injected, keeps_pieces, names_known};
 use crate::scan::is_clean;
 use crate::task_lines::{TaskLine, task_line};
 use crate::words::{Words, is_remark};
@@ -67,9 +63,6 @@ fn on_statement(
 ) -> Result<State, LineFault>
     ensures { Gives state_of result (on_statement script current statement) }
 {
-    if !is_built_statement(&statement) {
-        return Err(limit(Which::Unbuilt));
-    }
     if current.as_slice().len() >= MOST_STATEMENTS {
         return Err(limit(Which::Statements));
     }
@@ -84,13 +77,10 @@ fn on_statement(
 }
 
 /// What is wrong with a statement behind these of which a vector has more than 16 pieces.
-fn too_many_pieces(current: &Statements, is_built: bool) -> LineFault
-    ensures { (script : Script) (s : Statement) → keeps_pieces s ≡ false → is_built_statement s ≡ is_built
+fn too_many_pieces(current: &Statements) -> LineFault
+    ensures { (script : Script) (s : Statement) → keeps_pieces s ≡ false
         → Fails result (on_statement script current.now s) }
 {
-    if !is_built {
-        return limit(Which::Unbuilt);
-    }
     if current.as_slice().len() >= MOST_STATEMENTS {
         return limit(Which::Statements);
     }
@@ -129,7 +119,7 @@ fn on_task_line(
             })
         }
         TaskLine::Statement(statement) => on_statement(script, current, statement),
-        TaskLine::TooManyPieces { is_built } => Err(too_many_pieces(&current, is_built)),
+        TaskLine::TooManyPieces => Err(too_many_pieces(&current)),
     }
 }
 
@@ -138,9 +128,6 @@ fn on_line(script: Script, mut schedule: Schedule, line: Line) -> Result<State, 
 {
     if !names_known(&script, &line.act) {
         return Err(syntax());
-    }
-    if !is_built_act(&line.act) {
-        return Err(limit(Which::Unbuilt));
     }
     if schedule.as_slice().len() >= script.most_lines() {
         return Err(limit(Which::Lines));

@@ -31,9 +31,8 @@ use std::alloc::Global;
 #[derive(Debug, Drop)]
 pub(crate) enum ReadStatement {
     Held(Statement),
-    /// One of its vectors has more than 16 pieces. Nothing is kept of it but whether statements
-    /// of this form are performed yet.
-    TooManyPieces { is_built: bool },
+    /// One of its vectors has more than 16 pieces. Nothing is kept of it.
+    TooManyPieces,
 }
 
 /// The statement that begins with this word.

@@ -17,9 +17,8 @@ pub(crate) enum TaskLine {
     Task(u32),
     Schedule,
     Statement(Statement),
-    /// A statement of the right form, of which a vector has more than 16 pieces, and whether
-    /// statements of its form are performed yet.
-    TooManyPieces { is_built: bool },
+    /// A statement of the right form, of which a vector has more than 16 pieces.
+    TooManyPieces,
 }
 
 impl From<ReadStatement> for TaskLine {
@@ -30,7 +29,7 @@ impl From<ReadStatement> for TaskLine {
     fn from(statement: ReadStatement) -> TaskLine {
         match statement {
             ReadStatement::Held(statement) => TaskLine::Statement(statement),
-            ReadStatement::TooManyPieces { is_built } => TaskLine::TooManyPieces { is_built },
+            ReadStatement::TooManyPieces => TaskLine::TooManyPieces,
         }
     }
 }

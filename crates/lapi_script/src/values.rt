@@ -32,8 +32,9 @@ fn digits(word: &[u8]) -> Option<u32>
     Some(number)
 }
 
+/// The number that a word spells in decimal, without a leading zero.
 #[tactic(auto, unfolding(lapi_base::specs::Input::Tokens::number_of))]
-pub(crate) fn number_of(word: &[u8]) -> Option<u32>
+pub fn number_of(word: &[u8]) -> Option<u32>
     ensures { result ≡ number_of word.now }
 {
     if is_padded(word) { None } else { digits(word) }

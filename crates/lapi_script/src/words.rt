@@ -10,7 +10,7 @@ use crate::cuts::cut;
 use std::marker::Model;
 
 /// Whether the two are the same text.
-pub(crate) fn is_text(word: &[u8], text: &[u8]) -> bool
+pub fn is_text(word: &[u8], text: &[u8]) -> bool
     ensures { result ≡ same_text word.now text.now }
 {
     word == text
@@ -63,7 +63,7 @@ fn first_word(bytes: &[u8]) -> Option<(&[u8], &[u8])>
 
 /// The words of a line that are left.
 #[derive(Debug, Drop)]
-pub(crate) struct Words<'a> {
+pub struct Words<'a> {
     first: Option<&'a [u8]>,
     rest: &'a [u8],
 }
@@ -78,7 +78,7 @@ impl<'a> Model for Words<'a> {
 }
 
 impl<'a> Words<'a> {
-    pub(crate) fn new(line: &'a [u8]) -> Words<'a>
+    pub fn new(line: &'a [u8]) -> Words<'a>
         ensures { result ≡ words_of line.now }
     {
         match first_word(line) {
@@ -94,7 +94,7 @@ impl<'a> Words<'a> {
     }
 
     /// The next word, if there is one.
-    pub(crate) fn next(&mut self) -> Option<&'a [u8]>
+    pub fn next(&mut self) -> Option<&'a [u8]>
         ensures { MatchOption result ((self.old ≡ []) × (self.new ≡ [])) (λ word. self.old ≡ word.now ∷ self.new) }
     {
         let first = self.first?;
@@ -103,7 +103,7 @@ impl<'a> Words<'a> {
     }
 
     /// Whether a line of these words is a remark or has none.
-    pub(crate) fn are_skipped(&self) -> bool
+    pub fn are_skipped(&self) -> bool
         ensures { result ≡ is_skipped self.now }
     {
         match self.first {
@@ -113,7 +113,7 @@ impl<'a> Words<'a> {
     }
 
     /// Whether this is the only word.
-    pub(crate) fn are_only(&self, text: &[u8]) -> bool
+    pub fn are_only(&self, text: &[u8]) -> bool
         ensures { result ≡ is_word text.now self.now }
     {
         match self.first {

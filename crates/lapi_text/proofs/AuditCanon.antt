@@ -18,7 +18,6 @@ use Rattle.lapi_base.specs.Record.Valid.{ValidScript}
 use Rattle.lapi_base.specs.Record.Operations.{statements, has_leg}
 use Rattle.lapi_base.specs.Record.Names.{leg_eq}
 use Rattle.lapi_base.specs.Record.Atomic.{is_there, has_statement, has_message}
-use Rattle.lapi_base.specs.Input.Built.{IsBuiltList}
 use Rattle.lapi_base.specs.Input.Lines.{lines_of}
 use Rattle.lapi_base.specs.Input.Rows.{Column, Word, done_row, script_rows, row_text, row_line}
 use Rattle.lapi_base.specs.Input.AuditRows.{event_row, IsOfRequest, journal_row, audit_rows, most_events, IsAuditText, audit_text}
@@ -152,9 +151,9 @@ module _ (script : Script) (rules : Rules) (valid : ValidScript script) where
   events_fit (e ∷ events) all = let more = events_fit events all.1 in ((event_fits e all.0, more.0), (event_asked e all.0, more.1))
 
   -- the text of a script and of events that are there is theirs
-  pub audit_canon : (events : List Event) → AllByRecursion IsBuiltList script.lists → length events ≤ most_events → AllByRecursion (λ e. is_there script rules e ≡ true) events
+  pub audit_canon : (events : List Event) → length events ≤ most_events → AllByRecursion (λ e. is_there script rules e ≡ true) events
       → IsAuditText (audit_with script events) (audit_text script (flat_map event_line events))
-  audit_canon events built few there =
+  audit_canon events few there =
       let x = audit_with script events in
       let fit = events_fit events there in
       let all : AllByRecursion RowFits (audit_rows x) =
@@ -164,4 +163,4 @@ module _ (script : Script) (rules : Rules) (valid : ValidScript script) where
       (sym (texts_append (script_rows script) (journal_row ∷ (map event_row events ++ done_row ∷ []))
       ∙ ap (λ r. flat_map row_text (script_rows script) ++ (row_text journal_row ++ r)) (texts_append (map event_row events) (done_row ∷ [])))) in
       let lines : lines_of (audit_text script (flat_map event_line events)) ≡ map row_line (audit_rows x) = ap lines_of text ∙ text_lines (audit_rows x) all in
-      rw lines (record { clean = lines_clean (audit_rows x) all; rows = lines_stand (audit_rows x) all; script = valid; built = built; few = few; requests = fit.1 })
+      rw lines (record { clean = lines_clean (audit_rows x) all; rows = lines_stand (audit_rows x) all; script = valid; few = few; requests = fit.1 })

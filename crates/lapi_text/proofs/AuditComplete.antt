@@ -14,7 +14,6 @@ use Rattle.lapi_base.specs.declared.script.Script.{Script}
 use Rattle.lapi_base.specs.declared.input.Input.{Input}
 use Rattle.lapi_base.specs.declared.audit_input.AuditInput.{AuditInput}
 use Rattle.lapi_base.specs.Packet.Layout.{layout_of, most_lines}
-use Rattle.lapi_base.specs.Input.Built.{is_built_act}
 use Rattle.lapi_base.specs.Input.Lines.{words_of, is_clean, is_skipped, read_words}
 use Rattle.lapi_base.specs.Input.Tokens.{number_of, value_of}
 use Rattle.lapi_base.specs.Input.Forms.{run, and_then, head_form, sizes_form, task_line_form, line_form}
@@ -145,12 +144,11 @@ line_stays script schedule line next e is =
     let injected = within (keeps_injected script line.act) which.Bytes to in
     let lane = within (nat_le line.lane 15) which.Lane injected in
     let lines = within (nat_lt (length schedule) (most_lines (layout_of script.layout))) which.Lines lane in
-    let p = passed (names_known script line.act) (within (is_built_act line.act) which.Unbuilt lines) next e in
-    let a = allowed (is_built_act line.act) which.Unbuilt lines next p.1 in
-    let b = allowed (nat_lt (length schedule) (most_lines (layout_of script.layout))) which.Lines lane next a.1 in
-    let c = allowed (nat_le line.lane 15) which.Lane injected next b.1 in
-    let d = allowed (keeps_injected script line.act) which.Bytes to next c.1 in
-    subst IsScript (sym (same_Ok (reading.Lines script (schedule ++ line ∷ [])) next d.1)) is
+    let p = passed (names_known script line.act) lines next e in
+    let a = allowed (nat_lt (length schedule) (most_lines (layout_of script.layout))) which.Lines lane next p.1 in
+    let b = allowed (nat_le line.lane 15) which.Lane injected next a.1 in
+    let c = allowed (keeps_injected script line.act) which.Bytes to next b.1 in
+    subst IsScript (sym (same_Ok (reading.Lines script (schedule ++ line ∷ [])) next c.1)) is
 
 script_before : (state next : State) (words : List (List ℕ)) → step state words ≡ Ok next → IsScript next → IsScript state
 unfolding step
@@ -267,7 +265,6 @@ audit_run x wordss fits z =
     let input : Fits (input_with x.script []) = record {
       script = fits.script;
       schedule = record { count = omega arith; lines = tt };
-      built = record { lists = fits.built; lines = tt };
     } in
     let s = script_run x.script p.front input p.spelled in
     ap (audit_steps (Before reading.First)) p.whole ∙ audit_steps_on p.front p.left (Before reading.First)
@@ -276,4 +273,4 @@ audit_run x wordss fits z =
 -- what is spelled so is read
 pub audit_complete : (lines : List (List ℕ)) (x : AuditInput) → IsAuditRead x lines → read_audit_from 1 (Before reading.First) lines ≡ Ok x
 audit_complete lines x r =
-    audit_reads_all 1 (Before reading.First) lines x r.clean (audit_run x (read_words lines) (record { script = r.script; built = r.built; few = r.few; requests = r.requests }) r.rows)
+    audit_reads_all 1 (Before reading.First) lines x r.clean (audit_run x (read_words lines) (record { script = r.script; few = r.few; requests = r.requests }) r.rows)

@@ -42,7 +42,7 @@ before_completes state c =
       x = audit_with c.script [];
       more = c.more ++ tail;
       whole = ap (λ r. r ++ tail) c.whole ∙ append_assoc (so_far state) c.more tail;
-      fits = record { script = c.fits.script; built = c.fits.built.lists; few = omega arith; requests = tt };
+      fits = record { script = c.fits.script; few = omega arith; requests = tt };
       texts = all_append RowFits c.more tail c.texts (journal_fits, (done_fits, tt));
     }
 
@@ -75,7 +75,6 @@ led_begins front state led =
         rows = subst (λ ws. AllZip IsRow (audit_rows c.x) ws) (sym (words_append front rest)) (subst (λ rs. AllZip IsRow rs (read_words front ++ read_words rest)) (sym c.whole)
             (zip_append IsRow (audit_so_far state) c.more (read_words front) (read_words rest) led.rows (lines_stand c.more c.texts)));
         script = c.fits.script;
-        built = c.fits.built;
         few = c.fits.few;
         requests = c.fits.requests;
       },

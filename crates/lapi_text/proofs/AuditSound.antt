@@ -12,7 +12,6 @@ use Rattle.lapi_base.specs.declared.event.Event.{Event}
 use Rattle.lapi_base.specs.declared.script.Script.{Script}
 use Rattle.lapi_base.specs.declared.audit_input.AuditInput.{AuditInput}
 use Rattle.lapi_base.specs.Record.Valid.{ValidScript}
-use Rattle.lapi_base.specs.Input.Built.{is_built_statement, IsBuiltList}
 use Rattle.lapi_base.specs.Input.Lines.{words_of, is_clean, is_skipped, read_words}
 use Rattle.lapi_base.specs.Input.Forms.{run, and_then, head_form, sizes_form, TaskLine, Task, Schedule, StatementLine, task_line_form}
 use Rattle.lapi_base.specs.Input.Rows.{Column, IsRow, done_row, script_rows}
@@ -49,7 +48,6 @@ audit_so_far (Ended x) = audit_rows x
 
 pub record AuditFits (x : AuditInput) : Type 0 where
   pub script : ValidScript x.script
-  pub built : AllByRecursion IsBuiltList x.script.lists
   pub few : length x.journal ≤ most_events
   pub requests : AllByRecursion IsOfRequest x.journal
 
@@ -71,11 +69,10 @@ pub record AuditAdds (state next : AuditState) (words : List (List ℕ)) : Type 
 -- only the line `schedule` ends a script
 statement_stays : (script : Script) (current : List Statement) (s : Statement) (next : State) → on_statement script current s ≡ Ok next → IsScript next
 statement_stays script current s next e =
-    let a = allowed (is_built_statement s) which.Unbuilt _ next e in
-    let b = allowed (nat_lt (length current) 512) which.Statements _ next a.1 in
-    let c = allowed (keeps_pieces s) which.Pieces _ next b.1 in
-    let d = allowed (keeps_bytes s) which.Bytes _ next c.1 in
-    subst IsScript (same_Ok (reading.Tasks script (current ++ s ∷ [])) next d.1) tt
+    let a = allowed (nat_lt (length current) 512) which.Statements _ next e in
+    let b = allowed (keeps_pieces s) which.Pieces _ next a.1 in
+    let c = allowed (keeps_bytes s) which.Bytes _ next b.1 in
+    subst IsScript (same_Ok (reading.Tasks script (current ++ s ∷ [])) next c.1) tt
 
 task_line_stays : (script : Script) (current : List Statement) (line : TaskLine) (next : State) (words : List (List ℕ)) → is_word (codes "schedule") words ≡ false → run task_line_form words ≡ Ok line → on_task_line script current line ≡ Ok next → IsScript next
 task_line_stays script current (Task t) next words other e h = subst IsScript (same_Ok _ _ (passed _ _ next h).1) tt
@@ -118,7 +115,7 @@ journal_adds (reading.Tasks script current) mid next words keeps is word e h =
     let to : events_of (reading.Lines (with_task script current) []) ≡ Ok next = subst (λ m. events_of m ≡ Ok next) (sym (same_Ok _ _ p.1)) h in
     let fits = schedule_keeps script current keeps (eqb-true _ _ p.0) in
     subst (λ n. AuditAdds (Before (reading.Tasks script current)) n words) (same_Ok _ _ to) (record {
-      keeps = record { script = fits.script; built = fits.built.lists; few = omega arith; requests = tt };
+      keeps = record { script = fits.script; few = omega arith; requests = tt };
       row = journal_row;
       rows = refl;
       spelled = rw word (refl, tt);
@@ -162,7 +159,6 @@ event_adds script journal next words e keeps says h =
     subst (λ n. AuditAdds (Events script journal) n words) (same_Ok _ _ a.1) (record {
       keeps = record {
         script = keeps.script;
-        built = keeps.built;
         few = omega (arith, len, ltb-true _ _ a.0);
         requests = all_push IsOfRequest journal e keeps.requests says.request;
       };
@@ -262,7 +258,6 @@ audit_sound lines x e =
       clean = g.clean;
       rows = subst (λ rs. AllZip IsRow rs (read_words lines)) (sym g.whole) g.spelled;
       script = g.fits.script;
-      built = g.fits.built;
       few = g.fits.few;
       requests = g.fits.requests;
     }

@@ -379,4 +379,4 @@ pub canon_reads : (x : Input) → Fits x → IsInputText x (canon x)
 canon_reads x fits =
     let rs = rows_fit x fits in
     let ls = text_lines (rows x) rs in
-    rw ls (record { clean = lines_clean (rows x) rs; rows = lines_stand (rows x) rs; script = fits.script; schedule = fits.schedule; built = fits.built })
+    rw ls (record { clean = lines_clean (rows x) rs; rows = lines_stand (rows x) rs; script = fits.script; schedule = fits.schedule })

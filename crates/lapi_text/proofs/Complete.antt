@@ -16,7 +16,6 @@ use Rattle.lapi_base.specs.declared.input.Input.{Input}
 use Rattle.lapi_base.specs.Packet.Layout.{layout_of, most_lines}
 use Rattle.lapi_base.specs.Record.Valid.{ValidStatement, ValidScript, ValidLine}
 use Rattle.lapi_base.specs.Packet.Spelling.{spells_packet}
-use Rattle.lapi_base.specs.Input.Built.{is_built_statement, is_built_act, IsBuiltList}
 use Rattle.lapi_base.specs.Input.Lines.{words_of, is_clean, is_skipped, read_words}
 use Rattle.lapi_base.specs.Input.Forms.{and_then, head_form, sizes_form, Task, Schedule, StatementLine, task_line_form, line_form}
 use Rattle.lapi_base.specs.Input.Rows.{Column, Word, IsRow, head_row, sizes_row, task_row, statement_row, schedule_row, done_row, act_row, line_row, task_rows, rows, IsRead}
@@ -94,29 +93,28 @@ pub step_schedule : (s : Script) (lists : List (List Statement)) (current : List
 unfolding step
 step_schedule s lists current words z is = rw (said task_line_form Schedule schedule_row words schedule_matches z, eq-eqb _ _ is) refl
 
-within_ok : {A : Type 0} (b : Bool) (w : Which) (r : Result A LineError) (y : A) → b ≡ true → r ≡ Ok y → within b w r ≡ Ok y
+pub within_ok : {A : Type 0} (b : Bool) (w : Which) (r : Result A LineError) (y : A) → b ≡ true → r ≡ Ok y → within b w r ≡ Ok y
 within_ok true w r y e h = h
 within_ok false w r y e h = absurd (false≢true e)
 
-statement_ok : (s : Script) (current : List Statement) (st : Statement) → ValidStatement st → is_built_statement st ≡ true → length current < 512 → on_statement s current st ≡ Ok (reading.Tasks s (current ++ st ∷ []))
-statement_ok s current st valid built lt =
+statement_ok : (s : Script) (current : List Statement) (st : Statement) → ValidStatement st → length current < 512 → on_statement s current st ≡ Ok (reading.Tasks s (current ++ st ∷ []))
+statement_ok s current st valid lt =
     let next = reading.Tasks s (current ++ st ∷ []) in
-    within_ok _ which.Unbuilt _ next built
-    (within_ok _ which.Statements _ next (lt-ltb (length current) 512 lt)
+    within_ok _ which.Statements _ next (lt-ltb (length current) 512 lt)
     (within_ok _ which.Pieces _ next (pieces_kept st valid)
-    (within_ok _ which.Bytes _ next (bytes_kept st valid) refl)))
+    (within_ok _ which.Bytes _ next (bytes_kept st valid) refl))
 
-step_does : (s : Script) (current : List Statement) (st : Statement) (words : List (List ℕ)) → IsRow (statement_row st) words → ValidStatement st → is_built_statement st ≡ true → length current < 512
+step_does : (s : Script) (current : List Statement) (st : Statement) (words : List (List ℕ)) → IsRow (statement_row st) words → ValidStatement st → length current < 512
     → step (reading.Tasks s current) words ≡ Ok (reading.Tasks s (current ++ st ∷ []))
 unfolding step
-step_does s current st words z valid built lt =
-    rw (said task_line_form (StatementLine st) (statement_row st) words (statement_matches st (operand_of st valid)) z) (statement_ok s current st valid built lt)
+step_does s current st words z valid lt =
+    rw (said task_line_form (StatementLine st) (statement_row st) words (statement_matches st (operand_of st valid)) z) (statement_ok s current st valid lt)
 
-step_line : (script : Script) (schedule : List Line) (line : Line) (words : List (List ℕ)) → IsRow (line_row line) words → ValidLine script spells_packet line → is_built_act line.act ≡ true
+step_line : (script : Script) (schedule : List Line) (line : Line) (words : List (List ℕ)) → IsRow (line_row line) words → ValidLine script spells_packet line
     → length schedule < most_lines (layout_of script.layout) → step (reading.Lines script schedule) words ≡ Ok (reading.Lines script (schedule ++ line ∷ []))
 unfolding step
-step_line script schedule line words z valid built lt =
-    rw (not_done (codes "done") line words z, said line_form line (line_row line) words (line_matches line) z, act_known script line.act valid.1, built, lt-ltb _ _ lt, le-leb _ _ valid.0, injected_kept script line.act valid.1) refl
+step_line script schedule line words z valid lt =
+    rw (not_done (codes "done") line words z, said line_form line (line_row line) words (line_matches line) z, act_known script line.act valid.1, lt-ltb _ _ lt, le-leb _ _ valid.0, injected_kept script line.act valid.1) refl
 
 pub one_word : (text : List ℕ) (words : List (List ℕ)) → IsRow (Word text ∷ []) words → is_word text words ≡ true
 one_word text [] z = absurd z
@@ -136,31 +134,31 @@ pub record Onto (state next : State) (wordss : List (List (List ℕ))) (rest : L
   pub same : steps state wordss ≡ steps next left
 
 statements_run : (s : Script) (list current : List Statement) (rest : List (List Column)) (wordss : List (List (List ℕ)))
-    → Spells (map statement_row list ++ rest) wordss → AllByRecursion ValidStatement list → AllByRecursion (λ st. IsTrue (is_built_statement st)) list → length current + length list ≤ 512
+    → Spells (map statement_row list ++ rest) wordss → AllByRecursion ValidStatement list → length current + length list ≤ 512
     → Onto (reading.Tasks s current) (reading.Tasks s (current ++ list)) wordss rest
-statements_run s [] current rest wordss z valid built few = record { left = wordss; spelled = z; same = rw (append-nil current) refl }
-statements_run s (st ∷ list) current rest [] z valid built few = absurd z
-statements_run s (st ∷ list) current rest (words ∷ wordss) z valid built few =
+statements_run s [] current rest wordss z valid few = record { left = wordss; spelled = z; same = rw (append-nil current) refl }
+statements_run s (st ∷ list) current rest [] z valid few = absurd z
+statements_run s (st ∷ list) current rest (words ∷ wordss) z valid few =
     let len : length (current ++ st ∷ []) ≡ length current + 1 = length-append current (st ∷ []) in
-    let more = statements_run s list (current ++ st ∷ []) rest wordss z.1 valid.1 built.1 (omega (arith, len, few)) in
+    let more = statements_run s list (current ++ st ∷ []) rest wordss z.1 valid.1 (omega (arith, len, few)) in
     record {
       left = more.left;
       spelled = more.spelled;
-      same = rw (step_does s current st words z.0 valid.0 built.0 (omega (arith, few))) (more.same ∙ ap (λ c. steps (reading.Tasks s c) more.left) (append_assoc current (st ∷ []) list));
+      same = rw (step_does s current st words z.0 valid.0 (omega (arith, few))) (more.same ∙ ap (λ c. steps (reading.Tasks s c) more.left) (append_assoc current (st ∷ []) list));
     }
 
 lines_run : (script : Script) (lines schedule : List Line) (rest : List (List Column)) (wordss : List (List (List ℕ)))
-    → Spells (map line_row lines ++ rest) wordss → AllByRecursion (ValidLine script spells_packet) lines → AllByRecursion (λ (l : Line). IsTrue (is_built_act l.act)) lines
+    → Spells (map line_row lines ++ rest) wordss → AllByRecursion (ValidLine script spells_packet) lines
     → length schedule + length lines ≤ most_lines (layout_of script.layout) → Onto (reading.Lines script schedule) (reading.Lines script (schedule ++ lines)) wordss rest
-lines_run script [] schedule rest wordss z valid built few = record { left = wordss; spelled = z; same = rw (append-nil schedule) refl }
-lines_run script (line ∷ lines) schedule rest [] z valid built few = absurd z
-lines_run script (line ∷ lines) schedule rest (words ∷ wordss) z valid built few =
+lines_run script [] schedule rest wordss z valid few = record { left = wordss; spelled = z; same = rw (append-nil schedule) refl }
+lines_run script (line ∷ lines) schedule rest [] z valid few = absurd z
+lines_run script (line ∷ lines) schedule rest (words ∷ wordss) z valid few =
     let len : length (schedule ++ line ∷ []) ≡ length schedule + 1 = length-append schedule (line ∷ []) in
-    let more = lines_run script lines (schedule ++ line ∷ []) rest wordss z.1 valid.1 built.1 (omega (arith, len, few)) in
+    let more = lines_run script lines (schedule ++ line ∷ []) rest wordss z.1 valid.1 (omega (arith, len, few)) in
     record {
       left = more.left;
       spelled = more.spelled;
-      same = rw (step_line script schedule line words z.0 valid.0 built.0 (omega (arith, few))) (more.same ∙ ap (λ c. steps (reading.Lines script c) more.left) (append_assoc schedule (line ∷ []) lines));
+      same = rw (step_line script schedule line words z.0 valid.0 (omega (arith, few))) (more.same ∙ ap (λ c. steps (reading.Lines script c) more.left) (append_assoc schedule (line ∷ []) lines));
     }
 
 pub record TasksRun (s : Script) (lists : List (List Statement)) (current : List Statement) (more : List (List Statement)) (wordss : List (List (List ℕ))) (rest : List (List Column)) : Type 0 where
@@ -170,14 +168,14 @@ pub record TasksRun (s : Script) (lists : List (List Statement)) (current : List
   pub onto : Onto (reading.Tasks (script_with s lists) current) (reading.Tasks (script_with s before) last) wordss rest
 
 tasks_run : (s : Script) (more lists : List (List Statement)) (current : List Statement) (k : ℕ) (rest : List (List Column)) (wordss : List (List (List ℕ)))
-    → Spells (task_rows k more ++ rest) wordss → AllByRecursion ValidList more → AllByRecursion IsBuiltList more → k ≡ length lists + 1 → k + length more ≡ s.tasks
+    → Spells (task_rows k more ++ rest) wordss → AllByRecursion ValidList more → k ≡ length lists + 1 → k + length more ≡ s.tasks
     → TasksRun s lists current more wordss rest
-tasks_run s [] lists current k rest wordss z valid built here all = record { before = lists; last = current; whole = refl; onto = record { left = wordss; spelled = z; same = refl } }
-tasks_run s (list ∷ more) lists current k rest [] z valid built here all = absurd z
-tasks_run s (list ∷ more) lists current k rest (words ∷ wordss) z valid built here all =
+tasks_run s [] lists current k rest wordss z valid here all = record { before = lists; last = current; whole = refl; onto = record { left = wordss; spelled = z; same = refl } }
+tasks_run s (list ∷ more) lists current k rest [] z valid here all = absurd z
+tasks_run s (list ∷ more) lists current k rest (words ∷ wordss) z valid here all =
     let regroup : (map statement_row list ++ task_rows (k + 1) more) ++ rest ≡ map statement_row list ++ (task_rows (k + 1) more ++ rest) = append_assoc (map statement_row list) (task_rows (k + 1) more) rest in
-    begun (statements_run (script_with s (lists ++ current ∷ [])) list [] (task_rows (k + 1) more ++ rest) wordss (subst (λ rs. Spells rs wordss) regroup z.1) valid.0.1 built.0 (omega (arith, valid.0.0)))
-    (λ inner. tasks_run s more (lists ++ current ∷ []) list (k + 1) rest inner.left inner.spelled valid.1 built.1 (omega (arith, here, length-append lists (current ∷ []))) (omega (arith, all)))
+    begun (statements_run (script_with s (lists ++ current ∷ [])) list [] (task_rows (k + 1) more ++ rest) wordss (subst (λ rs. Spells rs wordss) regroup z.1) valid.0.1 (omega (arith, valid.0.0)))
+    (λ inner. tasks_run s more (lists ++ current ∷ []) list (k + 1) rest inner.left inner.spelled valid.1 (omega (arith, here, length-append lists (current ∷ []))) (omega (arith, all)))
   where
     Inner : Type 0
     Inner = Onto (reading.Tasks (script_with s (lists ++ current ∷ [])) []) (reading.Tasks (script_with s (lists ++ current ∷ [])) list) wordss (task_rows (k + 1) more ++ rest)
@@ -211,7 +209,7 @@ end_run : (s : Script) (before : List (List Statement)) (last : List Statement) 
 end_run s before last schedule [] z here fits = absurd z
 end_run s before last schedule (words ∷ wordss) z here fits =
     let script = script_with s (before ++ last ∷ []) in
-    let lines = lines_run script schedule [] (done_row ∷ []) wordss z.1 fits.schedule.lines fits.built.lines (omega (arith, fits.schedule.count)) in
+    let lines = lines_run script schedule [] (done_row ∷ []) wordss z.1 fits.schedule.lines (omega (arith, fits.schedule.count)) in
     rw (step_schedule s before last words z.0 here) (lines.same ∙ done_run script schedule lines.left lines.spelled)
 
 tasks_all : (s : Script) (list : List Statement) (more : List (List Statement)) (schedule : List Line) (wordss : List (List (List ℕ)))
@@ -219,7 +217,7 @@ tasks_all : (s : Script) (list : List Statement) (more : List (List Statement)) 
     → steps (reading.Tasks (script_with s []) []) wordss ≡ Ok (reading.Finished (input_with (script_with s (list ∷ more)) schedule))
 tasks_all s list more schedule wordss fits z =
     first (statements_run (script_with s []) list [] (task_rows 1 more ++ end_rows schedule) wordss (subst (λ rs. Spells rs wordss) (append_assoc (map statement_row list) (task_rows 1 more) (end_rows schedule)) z)
-    fits.script.lists.0.1 fits.built.lists.0 (omega (arith, fits.script.lists.0.0)))
+    fits.script.lists.0.1 (omega (arith, fits.script.lists.0.0)))
   where
     Inner : Type 0
     Inner = Onto (reading.Tasks (script_with s []) []) (reading.Tasks (script_with s []) list) wordss (task_rows 1 more ++ end_rows schedule)
@@ -236,7 +234,7 @@ tasks_all s list more schedule wordss fits z =
         ∙ ap (λ ls. Ok (reading.Finished (input_with (script_with s ls) schedule))) outer.whole
 
     first : (inner : Inner) → Goal
-    first inner = others inner (tasks_run s more [] list 1 (end_rows schedule) inner.left inner.spelled fits.script.lists.1 fits.built.lists.1 (omega arith) (omega (arith, fits.script.one_list_each)))
+    first inner = others inner (tasks_run s more [] list 1 (end_rows schedule) inner.left inner.spelled fits.script.lists.1 (omega arith) (omega (arith, fits.script.one_list_each)))
 
 pub all_run : (s : Script) (lists : List (List Statement)) (schedule : List Line) (wordss : List (List (List ℕ)))
     → Fits (input_with (script_with s lists) schedule) → Spells (rows (input_with (script_with s lists) schedule)) wordss
@@ -251,4 +249,4 @@ all_run s (list ∷ more) schedule (a ∷ b ∷ c ∷ wordss) fits z =
 -- what is spelled so is read
 pub complete : (lines : List (List ℕ)) (x : Input) → IsRead x lines → read_from 1 reading.First lines ≡ Ok x
 complete lines x r =
-    reads_all 1 reading.First lines x r.clean (all_run x.script x.script.lists x.schedule (read_words lines) (record { script = r.script; schedule = r.schedule; built = r.built }) r.rows)
+    reads_all 1 reading.First lines x r.clean (all_run x.script x.script.lists x.schedule (read_words lines) (record { script = r.script; schedule = r.schedule }) r.rows)

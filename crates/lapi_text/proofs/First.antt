@@ -74,8 +74,6 @@ start_completes script fit none =
       room = rw none (omega (arith, fit.tasks.0));
       lists = rw none tt;
       list = (omega arith, tt);
-      built_lists = rw none tt;
-      built_list = tt;
     } in
     let first : task_rows 0 (script.lists ++ [] ∷ []) ≡ task_row 0 ∷ [] = rw none refl in
     prepend _ (reading.Tasks script []) (task_row 0) (ap (λ r. head_row script.layout ∷ sizes_row script ∷ r) first) (task_fits 0 (lit< tt)) (tasks_complete script [] kept)
@@ -147,7 +145,6 @@ led_begins front state led =
             (zip_append IsRow (so_far state) c.more (read_words front) (read_words rest) led.rows (lines_stand c.more c.texts)));
         script = c.fits.script;
         schedule = c.fits.schedule;
-        built = c.fits.built;
       },
     )
 

@@ -12,7 +12,6 @@ use Rattle.lapi_base.specs.declared.statement.Statement.{Statement}
 use Rattle.lapi_base.specs.declared.schedule.Line.{Line}
 use Rattle.lapi_base.specs.declared.script.Script.{Script}
 use Rattle.lapi_base.specs.declared.input.Input.{Input}
-use Rattle.lapi_base.specs.Input.Built.{is_built_statement}
 use Rattle.lapi_base.specs.Input.Lines.{words_of, is_clean, is_skipped, read_words}
 use Rattle.lapi_base.specs.Input.Forms.{and_then, StatementLine, task_line_form, sizes_form, line_form}
 use Rattle.lapi_base.specs.Input.Rows.{Column, IsRow, sizes_row, statement_row, done_row, line_row, task_rows, rows}
@@ -48,10 +47,9 @@ statement_or : (x : Input) (script : Script) (current list : List Statement) (s 
 statement_or x script current list s keeps =
     let next = reading.Tasks script (current ++ s ∷ []) in
     let len : length (current ++ s ∷ list) ≡ length current + suc (length list) = length-append current (s ∷ list) in
-    limit_or _ which.Unbuilt _ x next (λ k. middle (λ t. IsTrue (is_built_statement t)) current list s (keeps which.Unbuilt k))
-    (limit_or _ which.Statements _ x next (λ k. lt-ltb (length current) 512 (omega (arith, keeps which.Statements k, len)))
+    limit_or _ which.Statements _ x next (λ k. lt-ltb (length current) 512 (omega (arith, keeps which.Statements k, len)))
     (limit_or _ which.Pieces _ x next (λ k. middle (λ t. IsTrue (keeps_pieces t)) current list s (keeps which.Pieces k))
-    (limit_or _ which.Bytes _ x next (λ k. middle (λ t. IsTrue (keeps_bytes t)) current list s (keeps which.Bytes k)) (inl refl))))
+    (limit_or _ which.Bytes _ x next (λ k. middle (λ t. IsTrue (keeps_bytes t)) current list s (keeps which.Bytes k)) (inl refl)))
 
 does_or : (x : Input) (script : Script) (current list : List Statement) (s : Statement) (words : List (List ℕ)) → IsRow (statement_row s) words → HasOperand s → ((w : Which) → KeepsLimit w x → ListKeeps w (current ++ s ∷ list))
     → Answers x (step (reading.Tasks script current) words) (reading.Tasks script (current ++ s ∷ []))
@@ -66,10 +64,9 @@ line_or x script schedule more line words z named keeps =
     let next = reading.Lines script (schedule ++ line ∷ []) in
     let len : length (schedule ++ line ∷ more) ≡ length schedule + suc (length more) = length-append schedule (line ∷ more) in
     rw (not_done (codes "done") line words z, said line_form line (line_row line) words (line_matches line) z, named)
-    (limit_or _ which.Unbuilt _ x next (λ k. (keeps which.Unbuilt k).0)
     (limit_or _ which.Lines _ x next (λ k. lt-ltb _ _ (omega (arith, (keeps which.Lines k).1, len)))
     (limit_or _ which.Lane _ x next (λ k. le-leb _ _ (keeps which.Lane k).0)
-    (limit_or _ which.Bytes _ x next (λ k. (keeps which.Bytes k).0) (inl refl)))))
+    (limit_or _ which.Bytes _ x next (λ k. (keeps which.Bytes k).0) (inl refl))))
 
 sizes_or : (x : Input) (words : List (List ℕ)) → IsRow (sizes_row x.script) words
     → Answers x (step (reading.Second x.script.layout) words) (reading.Start (without_tasks x.script))

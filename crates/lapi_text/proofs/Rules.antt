@@ -74,7 +74,7 @@ pub chosen_run : {A : Type 0} (b : Bool) (f g : Form A) (words : List (List ℕ)
 chosen_run true f g words x e = inl (refl, e)
 chosen_run false f g words x e = inr (refl, e)
 
-named : (P : List ℕ → Type 0) (word text : List ℕ) → same_text word text ≡ true → P text → P word
+pub named : (P : List ℕ → Type 0) (word text : List ℕ) → same_text word text ≡ true → P text → P word
 named P word text same p = subst P (sym (same_text_is word text same)) p
 
 -- what each form of a table spells holds of what the word that names it and the words after it spell
@@ -284,7 +284,7 @@ task_line_says (word ∷ words) line e = at_task (chosen_run _ _ _ words line e)
 
 -- ---- the head
 
-expected : {A : Type 0} (text : List ℕ) (more : Form A) (x : A) (words : List (List ℕ)) → Spelled (expect text more) x words → (rest : List (List ℕ)) × (words ≡ text ∷ rest) × Spelled more x rest
+pub expected : {A : Type 0} (text : List ℕ) (more : Form A) (x : A) (words : List (List ℕ)) → Spelled (expect text more) x words → (rest : List (List ℕ)) × (words ≡ text ∷ rest) × Spelled more x rest
 expected text more x words (word, rest, e, s) = at (same_text word text) refl s
   where
     at : (b : Bool) → same_text word text ≡ b → Spelled (cond b more Wrong) x rest → (rest : List (List ℕ)) × (words ≡ text ∷ rest) × Spelled more x rest

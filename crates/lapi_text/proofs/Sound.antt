@@ -15,7 +15,6 @@ use Rattle.lapi_base.specs.declared.input.Input.{Input}
 use Rattle.lapi_base.specs.Packet.Layout.{layout_of, most_lines}
 use Rattle.lapi_base.specs.Record.Valid.{ValidStatement, ValidScript, ValidSchedule, ValidLine}
 use Rattle.lapi_base.specs.Packet.Spelling.{spells_packet}
-use Rattle.lapi_base.specs.Input.Built.{is_built_statement, is_built_act, IsBuiltList, IsBuilt}
 use Rattle.lapi_base.specs.Input.Lines.{words_of, is_clean, is_skipped, read_words}
 use Rattle.lapi_base.specs.Input.Forms.{run, and_then, head_form, sizes_form, TaskLine, Task, Schedule, StatementLine, task_line_form, line_form}
 use Rattle.lapi_base.specs.Input.Rows.{Column, IsRow, head_row, sizes_row, task_row, statement_row, schedule_row, done_row, line_row, task_rows, script_rows, rows, IsRead}
@@ -64,13 +63,10 @@ pub record TasksKeep (script : Script) (current : List Statement) : Type 0 where
   pub room : length script.lists + 1 ≤ script.tasks
   pub lists : AllByRecursion ValidList script.lists
   pub list : ValidList current
-  pub built_lists : AllByRecursion IsBuiltList script.lists
-  pub built_list : IsBuiltList current
 
 pub record Fits (x : Input) : Type 0 where
   pub script : ValidScript x.script
   pub schedule : ValidSchedule x.script spells_packet x.schedule
-  pub built : IsBuilt x
 
 -- the limits that it keeps
 abbrev pub Keeps : State → Type 0
@@ -126,8 +122,6 @@ next_task_keeps script current keeps lt = record {
   room = omega (arith, lt, length-append script.lists (current ∷ []));
   lists = all_push ValidList script.lists current keeps.lists keeps.list;
   list = (omega arith, tt);
-  built_lists = all_push IsBuiltList script.lists current keeps.built_lists keeps.built_list;
-  built_list = tt;
 }
 
 pub schedule_keeps : (script : Script) (current : List Statement) → TasksKeep script current → length script.lists + 1 ≡ script.tasks → Fits (input_with (with_task script current) [])
@@ -142,7 +136,6 @@ schedule_keeps script current keeps is = record {
     lists = all_push ValidList script.lists current keeps.lists keeps.list;
   };
   schedule = record { count = omega arith; lines = tt };
-  built = record { lists = all_push IsBuiltList script.lists current keeps.built_lists keeps.built_list; lines = tt };
 }
 
 -- ---- what a line adds
@@ -177,8 +170,6 @@ first_adds script next words (Task t) keeps z e =
       room = rw none (omega (arith, keeps.0.tasks.0));
       lists = rw none tt;
       list = (omega arith, tt);
-      built_lists = rw none tt;
-      built_list = tt;
     } in
     subst (λ n. Adds (reading.Start script) n words) (same_Ok _ _ p.1) (record {
       keeps = kept;
@@ -192,21 +183,18 @@ first_adds script next words (StatementLine s) keeps z e = absurd (err_ok Syntax
 statement_adds : (script : Script) (current : List Statement) (next : State) (words : List (List ℕ)) (s : Statement) → TasksKeep script current → Says s words → on_statement script current s ≡ Ok next
     → Adds (reading.Tasks script current) next words
 statement_adds script current next words s keeps says e =
-    let a = allowed _ which.Unbuilt _ next e in
-    let b = allowed _ which.Statements _ next a.1 in
-    let c = allowed (keeps_pieces s) which.Pieces _ next b.1 in
-    let d = allowed (keeps_bytes s) which.Bytes _ next c.1 in
+    let a = allowed _ which.Statements _ next e in
+    let b = allowed (keeps_pieces s) which.Pieces _ next a.1 in
+    let c = allowed (keeps_bytes s) which.Bytes _ next b.1 in
     let len : length (current ++ s ∷ []) ≡ length current + 1 = length-append current (s ∷ []) in
-    let valid : ValidStatement s = valid_statement s (row_fit (statement_row s) words says.row) says.operand c.0 d.0 in
+    let valid : ValidStatement s = valid_statement s (row_fit (statement_row s) words says.row) says.operand b.0 c.0 in
     let kept : TasksKeep script (current ++ s ∷ []) = record {
       sized = keeps.sized;
       room = keeps.room;
       lists = keeps.lists;
-      list = (omega (arith, len, ltb-true _ _ b.0), all_push ValidStatement current s keeps.list.1 valid);
-      built_lists = keeps.built_lists;
-      built_list = all_push (λ t. IsTrue (is_built_statement t)) current s keeps.built_list a.0;
+      list = (omega (arith, len, ltb-true _ _ a.0), all_push ValidStatement current s keeps.list.1 valid);
     } in
-    subst (λ n. Adds (reading.Tasks script current) n words) (same_Ok _ _ d.1) (record {
+    subst (λ n. Adds (reading.Tasks script current) n words) (same_Ok _ _ c.1) (record {
       keeps = kept;
       row = statement_row s;
       rows = ap (λ r. head_row script.layout ∷ sizes_row script ∷ r) (task_rows_more script.lists current s);
@@ -247,22 +235,20 @@ line_adds script schedule next words line keeps z e =
     let injected = within (keeps_injected script line.act) which.Bytes to in
     let lane = within (nat_le line.lane 15) which.Lane injected in
     let lines = within (nat_lt (length schedule) (most_lines (layout_of script.layout))) which.Lines lane in
-    let p = passed (names_known script line.act) (within (is_built_act line.act) which.Unbuilt lines) next e in
-    let a = allowed (is_built_act line.act) which.Unbuilt lines next p.1 in
-    let b = allowed (nat_lt (length schedule) (most_lines (layout_of script.layout))) which.Lines lane next a.1 in
-    let c = allowed (nat_le line.lane 15) which.Lane injected next b.1 in
-    let d = allowed (keeps_injected script line.act) which.Bytes to next c.1 in
+    let p = passed (names_known script line.act) lines next e in
+    let a = allowed (nat_lt (length schedule) (most_lines (layout_of script.layout))) which.Lines lane next p.1 in
+    let b = allowed (nat_le line.lane 15) which.Lane injected next a.1 in
+    let c = allowed (keeps_injected script line.act) which.Bytes to next b.1 in
     let len : length (schedule ++ line ∷ []) ≡ length schedule + 1 = length-append schedule (line ∷ []) in
-    let valid : ValidLine script spells_packet line = (leb-true _ _ c.0, valid_act script line.act (row_fit (line_row line) words z).1 p.0 d.0) in
+    let valid : ValidLine script spells_packet line = (leb-true _ _ b.0, valid_act script line.act (row_fit (line_row line) words z).1 p.0 c.0) in
     let kept : Fits (input_with script (schedule ++ line ∷ [])) = record {
       script = keeps.script;
       schedule = record {
-        count = omega (arith, len, ltb-true _ _ b.0);
+        count = omega (arith, len, ltb-true _ _ a.0);
         lines = all_push (ValidLine script spells_packet) schedule line keeps.schedule.lines valid;
       };
-      built = record { lists = keeps.built.lists; lines = all_push (λ (l : Line). IsTrue (is_built_act l.act)) schedule line keeps.built.lines a.0 };
     } in
-    subst (λ n. Adds (reading.Lines script schedule) n words) (same_Ok _ _ d.1) (record {
+    subst (λ n. Adds (reading.Lines script schedule) n words) (same_Ok _ _ c.1) (record {
       keeps = kept;
       row = line_row line;
       rows = ap (λ r. script_rows script ++ schedule_row ∷ r) (map-append line_row schedule (line ∷ []))
@@ -390,5 +376,4 @@ sound lines x e =
       rows = subst (λ rs. AllZip IsRow rs (read_words lines)) (sym g.whole) g.spelled;
       script = g.fits.script;
       schedule = g.fits.schedule;
-      built = g.fits.built;
     }

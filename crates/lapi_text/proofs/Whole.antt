@@ -8,7 +8,6 @@ use Rattle.lapi_base.specs.declared.input.Input.{Input}
 use Rattle.lapi_base.specs.Input.Lines.{lines_of}
 use Rattle.lapi_base.specs.Record.Valid.{ValidScript, ValidSchedule}
 use Rattle.lapi_base.specs.Packet.Spelling.{spells_packet}
-use Rattle.lapi_base.specs.Input.Built.{IsBuilt}
 use Rattle.lapi_base.specs.Input.Rows.{IsInputText, IsFirstFault, canon}
 use Rattle.lapi_base.specs.Input.Faults.{IsKind}
 use Rattle.lapi_base.specs.Input.Reading.{read, Fault, most_input}
@@ -50,9 +49,9 @@ pub read_long : (bytes : List ℕ) → most_input < length bytes → read bytes 
 read_long bytes many = rw (lt-ltb _ _ many) refl
 
 -- the canonical text is the input's
-pub written_reads : (x : Input) → ValidScript x.script → ValidSchedule x.script spells_packet x.schedule → IsBuilt x → IsInputText x (canon x)
-written_reads x script schedule built = canon_reads x (record { script = script; schedule = schedule; built = built })
+pub written_reads : (x : Input) → ValidScript x.script → ValidSchedule x.script spells_packet x.schedule → IsInputText x (canon x)
+written_reads x script schedule = canon_reads x (record { script = script; schedule = schedule })
 
 -- and is read again
-pub round_trip : (x : Input) → ValidScript x.script → ValidSchedule x.script spells_packet x.schedule → IsBuilt x → length (canon x) ≤ most_input → read (canon x) ≡ Ok x
-round_trip x script schedule built few = read_only (canon x) x few (written_reads x script schedule built)
+pub round_trip : (x : Input) → ValidScript x.script → ValidSchedule x.script spells_packet x.schedule → length (canon x) ≤ most_input → read (canon x) ≡ Ok x
+round_trip x script schedule few = read_only (canon x) x few (written_reads x script schedule)

@@ -24,13 +24,12 @@ use Rattle.lapi_base.specs.Packet.Spelling.{spells_packet, packet_form, front_fo
 use Rattle.lapi_base.specs.Input.Lines.{words_of}
 use Rattle.lapi_base.specs.Input.Tokens.{number_of, counter_of, hex_of, optional_hex_of, plain_address_of, table_of, address_of, piece_of, listed_of, strided_of, vector_of, value_of}
 use Rattle.lapi_base.specs.Input.Forms.{run, sized, TaskLine, StatementLine, head_form, sizes_form, store_form, put_form, get_form, putv_form, getv_form, one_operand_form, cas_form, rmw_form, amsend_form, wait_form, set_form, read_form, address_init_form, task_line_form, task_form, deliver_form, cut_form, inject_form, worker_form, line_form}
-use Rattle.lapi_base.specs.Input.Built.{is_built_statement, is_built_act}
 use Rattle.lapi_base.specs.Input.Rows.{statement_row, row_line, canon}
 use Rattle.lapi_base.specs.Input.Reading.{State, Second, Start, Tasks, Lines, Fault, keeps_pieces, keeps_bytes, keeps_injected, names_known, step, after, read}
 
 -- What the bytes read to. A proof with the line `unfolding reading` computes with all definitions.
 unfoldable pub reading : List ℕ → Result Input Fault
-unfolding decode_pairs number_of counter_of hex_of optional_hex_of plain_address_of table_of address_of piece_of listed_of strided_of vector_of value_of head_form sizes_form store_form put_form get_form putv_form getv_form one_operand_form cas_form rmw_form amsend_form wait_form set_form read_form address_init_form task_line_form task_form deliver_form cut_form inject_form worker_form line_form is_built_statement is_built_act keeps_pieces keeps_bytes keeps_injected names_known step after
+unfolding decode_pairs number_of counter_of hex_of optional_hex_of plain_address_of table_of address_of piece_of listed_of strided_of vector_of value_of head_form sizes_form store_form put_form get_form putv_form getv_form one_operand_form cas_form rmw_form amsend_form wait_form set_form read_form address_init_form task_line_form task_form deliver_form cut_form inject_form worker_form line_form keeps_pieces keeps_bytes keeps_injected names_known step after
 reading bytes = read bytes
 
 abbrev pub text_of : List (List ℕ) → List ℕ
@@ -117,13 +116,13 @@ greatest_number : with_line 5 (codes "put 1 4294967295 0 8 - - -") ≡ Ok (small
 unfolding reading
 greatest_number = refl
 
-form_not_built : with_line 5 (codes "gfence") ≡ Err (Limit which.Unbuilt, 5)
+round_begun : (with_line 5 (codes "gfence") ≡ Ok (smallest_with Gfence)) × (with_line 5 (codes "address_init 8") ≡ Ok (smallest_with (Statement.Addr 8)))
 unfolding reading
-form_not_built = refl
+round_begun = (refl, refl)
 
-table_not_built : with_line 5 (codes "put 1 @0 0 8 - - -") ≡ Err (Limit which.Unbuilt, 5)
+put_at_a_table : with_line 5 (codes "put 1 @0+4 0 8 - - -") ≡ Ok (smallest_with (Put 1 (Table 0 4) 0 8 None None None))
 unfolding reading
-table_not_built = refl
+put_at_a_table = refl
 
 put_in_fragments : with_line 5 (codes "put 1 16 0 257 0 1 2") ≡ Ok (smallest_with (Put 1 (Plain 16) 0 257 (Some 0) (Some 1) (Some 2)))
 unfolding reading
@@ -157,9 +156,9 @@ lane_of_a_begin : with_line 8 (codes "16 begin 0 0") ≡ Err (Limit which.Lane, 
 unfolding reading
 lane_of_a_begin = refl
 
-unbuilt_before_lane : with_line 8 (codes "16 cut 0 1 0 33") ≡ Err (Limit which.Unbuilt, 8)
+lane_of_a_cut : with_line 8 (codes "16 cut 0 1 0 33") ≡ Err (Limit which.Lane, 8)
 unfolding reading
-unbuilt_before_lane = refl
+lane_of_a_cut = refl
 
 free_spaces : with_line 10 (codes "0   poll 0 ") ≡ Ok (smallest_with (put_to 16))
 unfolding reading
@@ -249,9 +248,9 @@ statement_too_many : after (filled 512) (codes "store 0 61") ≡ Err (Limit whic
 unfolding reading
 statement_too_many = refl
 
-unbuilt_before_statements : after (filled 512) (codes "gfence") ≡ Err (Limit which.Unbuilt)
+round_too_many : after (filled 512) (codes "gfence") ≡ Err (Limit which.Statements)
 unfolding reading
-unbuilt_before_statements = refl
+round_too_many = refl
 
 schedule_ticks : after (Lines (smallest_with (put_to 16)).script []) (codes "0 tick 1") ≡ Ok (Lines (smallest_with (put_to 16)).script (line 0 (Tick 1) ∷ []))
 unfolding reading
@@ -476,11 +475,11 @@ cut_packet : spells_packet (take 12 acknowledgement) ≡ false
 unfolding spells_packet packet_form front_form packet.task_form kind_form acknowledgement_form
 cut_packet = refl
 
--- a packet is a fault of syntax, and other bytes are of a form that isn't built
-packet_injected : after (Lines (smallest_with (put_to 16)).script []) (codes "0 inject 1 0 4c010201000000000100000000") ≡ Err Syntax
+-- a packet is a fault of syntax, whatever the lane; other bytes are handed over
+packet_injected : after (Lines (smallest_with (put_to 16)).script []) (codes "16 inject 1 0 4c010201000000000100000000") ≡ Err Syntax
 unfolding reading spells_packet packet_form front_form packet.task_form kind_form acknowledgement_form
 packet_injected = refl
 
-cut_packet_injected : after (Lines (smallest_with (put_to 16)).script []) (codes "16 inject 1 0 4C0102010000000001000000") ≡ Err (Limit which.Unbuilt)
+cut_packet_injected : after (Lines (smallest_with (put_to 16)).script []) (codes "0 inject 1 0 4C0102010000000001000000") ≡ Ok (Lines (smallest_with (put_to 16)).script (line 0 (Inject 1 0 (take 12 acknowledgement)) ∷ []))
 unfolding reading spells_packet packet_form front_form packet.task_form kind_form acknowledgement_form
 cut_packet_injected = refl

@@ -3,7 +3,6 @@ ghost use Rattle.std.specs.List.{AllByRecursion, flat_map};
 ghost use Rattle.lapi_base.specs.declared.event.Event.{Event};
 ghost use Rattle.lapi_base.specs.declared.rule.Rules.{Rules};
 ghost use Rattle.lapi_base.specs.declared.script.Script.{Script};
-ghost use Rattle.lapi_base.specs.Input.Built.{IsBuiltList};
 ghost use Rattle.lapi_base.specs.Output.JournalText.{event_line};
 ghost use Rattle.lapi_base.specs.Record.Atomic.{is_there};
 ghost use Rattle.lapi_base.specs.Record.Valid.{ValidScript};
@@ -29,7 +28,7 @@ pub fn audit_text_laws()
         → read_audit bytes ≡ Err (Limit which.Input, 0) }
     // The canonical lines of a script, and the text of few events that are there, are their text.
     ensures written { (script : Script) (rules : Rules) (events : List Event) → ValidScript script
-        → AllByRecursion IsBuiltList script.lists → length events ≤ most_events
+        → length events ≤ most_events
         → AllByRecursion (λ e. is_there script rules e ≡ true) events
         → IsAuditText (record { script = script; journal = events }) (audit_text script (flat_map event_line events)) }
 {}

@@ -9,7 +9,6 @@ ghost use Rattle.lapi_base.specs.declared.input.Input.{Input};
 ghost use Rattle.lapi_base.specs.declared.input.Which.TheVariants as which;
 ghost use Rattle.lapi_base.specs.declared.input.LineError.{LineError};
 ghost use Rattle.lapi_base.specs.declared.input.LineError.TheVariants.{Limit};
-ghost use Rattle.lapi_base.specs.Input.Built.{IsBuilt};
 ghost use Rattle.lapi_base.specs.Input.Faults.{IsKind};
 ghost use Rattle.lapi_base.specs.Input.Lines.{lines_of};
 ghost use Rattle.lapi_base.specs.Input.Reading.{read, most_input};
@@ -35,10 +34,10 @@ pub fn text_laws()
         → read bytes ≡ Err (why, l) → IsKind (lines_of bytes) why l }
     ensures long { (bytes : List ℕ) → most_input < length bytes → read bytes ≡ Err (Limit which.Input, 0) }
 
-    // The canonical text of a valid and built input is its own, and reads back to it.
+    // The canonical text of a valid input is its own, and reads back to it.
     ensures written { (x : Input) → ValidScript x.script
-        → ValidSchedule x.script spells_packet x.schedule → IsBuilt x → IsInputText x (canon x) }
+        → ValidSchedule x.script spells_packet x.schedule → IsInputText x (canon x) }
     ensures round_trip { (x : Input) → ValidScript x.script
-        → ValidSchedule x.script spells_packet x.schedule → IsBuilt x
+        → ValidSchedule x.script spells_packet x.schedule
         → length (canon x) ≤ most_input → read (canon x) ≡ Ok x }
 {}

@@ -11,7 +11,6 @@ use Rattle.lapi_base.specs.Input.Lines.{lines_of, is_clean, read_words}
 use Rattle.lapi_base.specs.Input.FirstFaults.{IsFirstFaultBy}
 use Rattle.lapi_base.specs.Input.Tokens.{Dotted, LegWord}
 use Rattle.lapi_base.specs.Input.Rows.{Column, Word, Field, IsRow, number, script_rows, done_row, row_text}
-use Rattle.lapi_base.specs.Input.Built.{IsBuiltList}
 use Rattle.lapi_base.specs.Record.Valid.{ValidScript}
 use Rattle.lapi_base.specs.Output.TextParts.{refusal_number, refusal_name}
 
@@ -53,7 +52,6 @@ pub record IsAuditRead (x : AuditInput) (lines : List (List ℕ)) : Type 0 where
   pub clean : AllByRecursion (λ line. IsTrue (is_clean line)) lines
   pub rows : AllZip IsRow (audit_rows x) (read_words lines)
   pub script : ValidScript x.script
-  pub built : AllByRecursion IsBuiltList x.script.lists
   pub few : length x.journal ≤ most_events
   pub requests : AllByRecursion IsOfRequest x.journal
 

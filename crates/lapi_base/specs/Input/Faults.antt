@@ -15,7 +15,6 @@ use Rattle.lapi_base.specs.Packet.Layout.{layout_of, most_lines}
 use Rattle.lapi_base.specs.Record.Valid.{in2_by}
 use Rattle.lapi_base.specs.Input.Lines.{is_clean, read_words}
 use Rattle.lapi_base.specs.Input.Rows.{IsRow, rows}
-use Rattle.lapi_base.specs.Input.Built.{is_built_act, IsBuiltList}
 use Rattle.lapi_base.specs.Input.Reading.{keeps_pieces, keeps_bytes, keeps_injected, names_known}
 
 -- ---- quantities
@@ -31,13 +30,11 @@ abbrev pub ListKeeps : Which → List Statement → Type 0
 ListKeeps which.Statements list = length list ≤ 512
 ListKeeps which.Pieces list = AllByRecursion (λ s. IsTrue (keeps_pieces s)) list
 ListKeeps which.Bytes list = AllByRecursion (λ s. IsTrue (keeps_bytes s)) list
-ListKeeps which.Unbuilt list = IsBuiltList list
 ListKeeps _ list = Unit {0}
 
 abbrev pub LineKeeps : Which → Script → Line → Type 0
 LineKeeps which.Lane script line = line.lane ≤ 15
 LineKeeps which.Bytes script line = IsTrue (keeps_injected script line.act)
-LineKeeps which.Unbuilt script line = IsTrue (is_built_act line.act)
 LineKeeps _ script line = Unit {0}
 
 abbrev pub CountKeeps : Which → Script → List Line → Type 0

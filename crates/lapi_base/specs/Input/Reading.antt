@@ -18,7 +18,6 @@ use Rattle.lapi_base.specs.Packet.Spelling.{spells_packet}
 use Rattle.lapi_base.specs.Input.Lines.{lines_of, words_of, is_clean, is_skipped}
 use Rattle.lapi_base.specs.Input.Tokens.{same_text}
 use Rattle.lapi_base.specs.Input.Forms.{run, and_then, head_form, sizes_form, task_line_form, line_form, TaskLine, Task, Schedule, StatementLine}
-use Rattle.lapi_base.specs.Input.Built.{is_built_statement, is_built_act}
 
 -- What was read so far, by which line is awaited. A script's lists are those of the tasks before the current one.
 --
@@ -85,10 +84,9 @@ on_first_task script (StatementLine s) = Err Syntax
 
 abbrev pub on_statement : Script → List Statement → Statement → Result State LineError
 on_statement script current s =
-    within (is_built_statement s) which.Unbuilt
-    (within (nat_lt (length current) 512) which.Statements
+    within (nat_lt (length current) 512) which.Statements
     (within (keeps_pieces s) which.Pieces
-    (within (keeps_bytes s) which.Bytes (Ok (Tasks script (current ++ s ∷ []))))))
+    (within (keeps_bytes s) which.Bytes (Ok (Tasks script (current ++ s ∷ [])))))
 
 abbrev pub on_task_line : Script → List Statement → TaskLine → Result State LineError
 on_task_line script current (Task t) =
@@ -99,10 +97,9 @@ on_task_line script current (StatementLine s) = on_statement script current s
 abbrev pub on_line : Script → List Line → Line → Result State LineError
 on_line script schedule line =
     if names_known script line.act then
-    within (is_built_act line.act) which.Unbuilt
-    (within (nat_lt (length schedule) (most_lines (layout_of script.layout))) which.Lines
+    within (nat_lt (length schedule) (most_lines (layout_of script.layout))) which.Lines
     (within (nat_le line.lane 15) which.Lane
-    (within (keeps_injected script line.act) which.Bytes (Ok (Lines script (schedule ++ line ∷ []))))))
+    (within (keeps_injected script line.act) which.Bytes (Ok (Lines script (schedule ++ line ∷ [])))))
     else Err Syntax
 
 -- whether the line is this one word

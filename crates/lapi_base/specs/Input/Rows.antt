@@ -18,7 +18,6 @@ use Rattle.lapi_base.specs.Input.FirstFaults.{BeginsBy, IsFirstFaultBy}
 use Rattle.lapi_base.specs.Input.Tokens.{Kind, Number, Counter, Hex, OptionalHex, Address, PlainVector, TargetVector, Value, Stands, canonical}
 use Rattle.lapi_base.specs.Packet.Spelling.{spells_packet}
 use Rattle.lapi_base.specs.Record.Valid.{ValidScript, ValidSchedule}
-use Rattle.lapi_base.specs.Input.Built.{IsBuilt}
 
 -- a part of a line: a word as it stands, or a value of a kind
 pub data Column : Type 0 where
@@ -135,13 +134,12 @@ IsColumn (Field kind value) word = Stands kind value word
 abbrev pub IsRow : List Column → List (List ℕ) → Type 0
 IsRow row words = AllZip IsColumn row words
 
--- The lines that aren't skipped have the rows of the input, which keeps all limits and whose forms are built.
+-- The lines that aren't skipped have the rows of the input, which keeps all limits.
 pub record IsRead (x : Input) (lines : List (List ℕ)) : Type 0 where
   pub clean : AllByRecursion (λ line. IsTrue (is_clean line)) lines
   pub rows : AllZip IsRow (rows x) (read_words lines)
   pub script : ValidScript x.script
   pub schedule : ValidSchedule x.script spells_packet x.schedule
-  pub built : IsBuilt x
 
 abbrev pub IsInputText : Input → List ℕ → Type 0
 IsInputText x bytes = IsRead x (lines_of bytes)

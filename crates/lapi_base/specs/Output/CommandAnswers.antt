@@ -3,8 +3,9 @@ use Rattle.std.specs.Prelude.{ℕ, List, ◌++◌, length, map, codes, Result, O
 use Rattle.std.specs.List.{sum}
 use Rattle.std.specs.Fmt.{decimal}
 use Rattle.lapi_base.specs.declared.command.View.{View}
-use Rattle.lapi_base.specs.declared.command.View.TheVariants.{Report, Journal, Wires, Trace}
+use Rattle.lapi_base.specs.declared.command.View.TheVariants.{Report, Journal, Wires, Trace, Capture}
 use Rattle.lapi_base.specs.declared.input.Input.{Input}
+use Rattle.lapi_base.specs.declared.schedule.Line.{Line}
 use Rattle.lapi_base.specs.declared.input.Which.{Which}
 use Rattle.lapi_base.specs.declared.input.Which.TheVariants as which
 use Rattle.lapi_base.specs.declared.input.LineError.TheVariants.{Syntax, Limit}
@@ -14,12 +15,16 @@ use Rattle.lapi_base.specs.Record.Operations.{numbers_below}
 use Rattle.lapi_base.specs.declared.rule.Rules.{Rules}
 use Rattle.lapi_base.specs.Record.Wires.{Run}
 use Rattle.lapi_base.specs.Input.Reading.{Fault}
+use Rattle.lapi_base.specs.Input.Rows.{canon}
 use Rattle.lapi_base.specs.Record.WorldView.{record_of_all}
 use Rattle.lapi_base.specs.Output.ReportText.{report_text}
 use Rattle.lapi_base.specs.Output.JournalText.{journal_text}
 use Rattle.lapi_base.specs.Output.WireText.{wire_text}
 use Rattle.lapi_base.specs.Output.TraceText.{trace_text}
+use Rattle.lapi_base.specs.Output.LiveText.{live_text}
+use Rattle.lapi_base.specs.Output.CaptureBytes.{capture}
 use Rattle.lapi_base.specs.Output.PacketText.{packet_text}
+use Rattle.lapi_base.specs.Output.SummaryText.{summary_text}
 
 pub record Answer : Type 0 where
   pub status : Status
@@ -27,7 +32,7 @@ pub record Answer : Type 0 where
 
 -- Words that are no command.
 abbrev pub usage_text : List ℕ
-usage_text = codes "usage: lapi run|journal|wire|trace|check|live|audit, lapi show HEX, lapi gen N, lapi sum N\n"
+usage_text = codes "usage: lapi run|journal|wire|trace|check|live|audit|capture|landings|array, lapi show HEX, lapi gen N, lapi sum N\n"
 
 abbrev pub usage_answer : Answer
 usage_answer = record { status = status.Usage; text = usage_text }
@@ -49,7 +54,11 @@ which_name which.Lane = codes "lane"
 which_name which.Pieces = codes "pieces"
 which_name which.Bytes = codes "bytes"
 which_name which.Events = codes "events"
-which_name which.Unbuilt = codes "unbuilt"
+which_name which.Grid = codes "grid"
+which_name which.Block = codes "block"
+which_name which.Ops = codes "ops"
+which_name which.Patch = codes "patch"
+which_name which.Range = codes "range"
 
 abbrev pub fault_answer : Fault → Answer
 fault_answer (Syntax, line) = record { status = status.Syntax; text = codes "syntax " ++ decimal line ++ codes "\n" }
@@ -71,10 +80,25 @@ view_text Report rules x = report_text x.script rules (recorded rules x) (length
 view_text Journal rules x = journal_text (recorded rules x)
 view_text Wires rules x = wire_text x.script (recorded rules x)
 view_text Trace rules x = trace_text x.schedule (numbers_below (length x.schedule)) (recorded rules x).replies
+view_text Capture rules x = capture (recorded rules x) (map (λ (line : Line). line.act) x.schedule)
 
 abbrev pub input_answer : (text : Input → List ℕ) → Result Input Fault → Answer
 input_answer text (Ok x) = record { status = status.Ok; text = text x }
 input_answer text (Err fault) = fault_answer fault
+
+-- What is told of the input that a number generates: its canonical text, or a summary of the record of all its lines.
+abbrev pub generated_answer : (generated : Input) → Answer
+generated_answer x = record { status = status.Ok; text = canon x }
+
+abbrev pub summary_answer : (number : ℕ) → Rules → (generated : Input) → Answer
+summary_answer number rules x = record { status = status.Ok; text = summary_text x.script rules (recorded rules x) number (length x.schedule) }
+
+-- What is told of lanes that clash: laneclash TASK WORKER; and of lanes that ran on threads, which took these lines.
+abbrev pub clash_answer : (task worker : ℕ) → Answer
+clash_answer t w = record { status = status.LaneClash; text = codes "laneclash " ++ decimal t ++ codes " " ++ decimal w ++ codes "\n" }
+
+abbrev pub live_answer : Rules → Input → (taken : List ℕ) → Answer
+live_answer rules x taken = record { status = status.Ok; text = live_text rules x taken }
 
 -- What is told of events that are a journal of the atomic message machine, and of those that are not: the number of a
 -- rule, and the place of the first event that breaks one.

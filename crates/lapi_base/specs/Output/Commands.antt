@@ -1,10 +1,10 @@
 -- The words of a command, and what they ask for. This is the project's own.
-use Rattle.std.specs.Prelude.{ℕ, nat_le, if◌then◌else◌, List, [], ◌∷◌, length, codes, Option, Some, None, option_map, option_and_then}
+use Rattle.std.specs.Prelude.{ℕ, Bool, false, nat_le, if◌then◌else◌, List, [], ◌∷◌, length, codes, Option, Some, None, option_map, option_and_then}
 use Rattle.lapi_base.specs.declared.command.View.{View}
-use Rattle.lapi_base.specs.declared.command.View.TheVariants.{Report, Journal, Wires, Trace}
+use Rattle.lapi_base.specs.declared.command.View.TheVariants.{Report, Journal, Wires, Trace, Capture}
 use Rattle.lapi_base.specs.declared.command.Command.{Command}
 use Rattle.lapi_base.specs.declared.command.Command.TheVariants as commands
-use Rattle.lapi_base.specs.Input.Tokens.{same_text, hex_of}
+use Rattle.lapi_base.specs.Input.Tokens.{same_text, hex_of, number_of}
 
 -- the most bytes that are shown
 abbrev pub most_shown : ℕ
@@ -23,19 +23,32 @@ view_of word =
     else if same_text word (codes "journal") then Some Journal
     else if same_text word (codes "wire") then Some Wires
     else if same_text word (codes "trace") then Some Trace
+    else if same_text word (codes "capture") then Some Capture
     else None
 
 abbrev pub read_of : List ℕ → Option Command
 read_of word =
     if same_text word (codes "check") then Some commands.Check
     else if same_text word (codes "audit") then Some commands.Audit
+    else if same_text word (codes "landings") then Some commands.Landings
     else option_map (λ view. commands.Read view) (view_of word)
 
-abbrev pub show_of : (word digits : List ℕ) → Option Command
-show_of word digits = if same_text word (codes "show") then option_map (λ bytes. commands.Show bytes) (shown_of digits) else None
+-- a packet's bytes, or a number as an input has it
+abbrev pub with_argument : (word argument : List ℕ) → Option Command
+with_argument word argument =
+    if same_text word (codes "show") then option_map (λ bytes. commands.Show bytes) (shown_of argument)
+    else if same_text word (codes "gen") then option_map (λ n. commands.Gen n) (number_of argument)
+    else if same_text word (codes "sum") then option_map (λ n. commands.Sum n) (number_of argument)
+    else None
 
 unfoldable pub command_of : List (List ℕ) → Option Command
 command_of [] = None
 command_of (word ∷ []) = read_of word
-command_of (word ∷ argument ∷ []) = show_of word argument
+command_of (word ∷ argument ∷ []) = with_argument word argument
 command_of (word ∷ argument ∷ more ∷ words) = None
+
+-- the one command whose lanes run on threads
+unfoldable pub is_live : List (List ℕ) → Bool
+is_live [] = false
+is_live (word ∷ []) = same_text word (codes "live")
+is_live (word ∷ argument ∷ words) = false

@@ -15,7 +15,7 @@ use crate::write::values;
 use lapi_base::{Memory, Statement};
 use std::alloc::Global;
 
-#[tactic(auto, unfolding(lapi_base::specs::Input::Forms::getv_form, lapi_base::specs::Input::Reading::keeps_pieces, lapi_base::specs::Input::Built::is_built_statement))]
+#[tactic(auto, unfolding(lapi_base::specs::Input::Forms::getv_form, lapi_base::specs::Input::Reading::keeps_pieces))]
 pub(crate) fn read(words: &mut Words) -> Result<ReadStatement, LineFault>
     ensures { HoldsStatement result (run getv_form words.old) }
 {
@@ -25,7 +25,6 @@ pub(crate) fn read(words: &mut Words) -> Result<ReadStatement, LineFault>
     let tgt = counter(words)?;
     let org = counter(words)?;
     end(words)?;
-    let is_built = from.is_plain() && to.is_plain();
     Ok(match (from.held(), to.held()) {
         (HeldVector::Held(from), HeldVector::Held(to)) => ReadStatement::Held(Statement::Getv {
             target,
@@ -34,7 +33,7 @@ pub(crate) fn read(words: &mut Words) -> Result<ReadStatement, LineFault>
             tgt,
             org,
         }),
-        _ => ReadStatement::TooManyPieces { is_built },
+        _ => ReadStatement::TooManyPieces,
     })
 }
 

@@ -15,7 +15,7 @@ use crate::write::values;
 use lapi_base::{Memory, Statement};
 use std::alloc::Global;
 
-#[tactic(auto, unfolding(lapi_base::specs::Input::Forms::putv_form, lapi_base::specs::Input::Reading::keeps_pieces, lapi_base::specs::Input::Built::is_built_statement))]
+#[tactic(auto, unfolding(lapi_base::specs::Input::Forms::putv_form, lapi_base::specs::Input::Reading::keeps_pieces))]
 pub(crate) fn read(words: &mut Words) -> Result<ReadStatement, LineFault>
     ensures { HoldsStatement result (run putv_form words.old) }
 {
@@ -26,7 +26,6 @@ pub(crate) fn read(words: &mut Words) -> Result<ReadStatement, LineFault>
     let org = counter(words)?;
     let cmpl = counter(words)?;
     end(words)?;
-    let is_built = to.is_plain() && from.is_plain();
     Ok(match (to.held(), from.held()) {
         (HeldVector::Held(to), HeldVector::Held(from)) => ReadStatement::Held(Statement::Putv {
             target,
@@ -36,7 +35,7 @@ pub(crate) fn read(words: &mut Words) -> Result<ReadStatement, LineFault>
             org,
             cmpl,
         }),
-        _ => ReadStatement::TooManyPieces { is_built },
+        _ => ReadStatement::TooManyPieces,
     })
 }
 

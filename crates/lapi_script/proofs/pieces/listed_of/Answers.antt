@@ -1,9 +1,8 @@
-use Rattle.std.proofs.Common.{◌++◌, ◌∷◌, [], refl}
+use Rattle.std.proofs.Common.{◌++◌, ◌∷◌, []}
 use Rattle.lapi_base.specs.Input.Tokens.{listed_of}
 use Rattle.lapi_script.specs.Vectors.{address_by}
-use Rattle.lapi_script.proofs.PieceLists.{next_piece, plain_next, seen_push, seen_many, many_listed}
+use Rattle.lapi_script.proofs.PieceLists.{next_piece, seen_push, seen_many, many_listed}
 use Rattle.lapi_script.proofs.pieces.listed_of.Goals as goal
-use Rattle.lapi_script.proofs.pieces.listed_of.Goals.{then-are_plain, else-are_plain}
 
 pub loop-part-preserved-then-as_slice-lt16 : goal.loop-part-preserved-then-as_slice-lt16
 loop-part-preserved-then-as_slice-lt16 c =
@@ -12,7 +11,6 @@ loop-part-preserved-then-as_slice-lt16 c =
       seen ++ piece ∷ [],
       next_piece (address_by c.args.side) seen c.loop-part.parts c.next.new.self c.in-Some.part.now piece _ c.in-Some.ensures c.in_ok-piece.ensures c.loop-part.invariant.1,
       rw c.push.ensures (seen_push c.loop-part.many c.loop-part.list seen piece c.loop-part.invariant.2),
-      plain_next seen piece c.loop-part.are_plain _ c.loop-part.invariant.3 (elim c.if-are_plain.branch [ then-are_plain w ↦ rw (w.are_plain-is, w.if-are_plain.true, w.is_plain-are_plain-then-are_plain.ensures) refl | else-are_plain w ↦ rw (w.are_plain-is, w.if-are_plain.false) refl ]),
     )
 
 pub loop-part-preserved : goal.loop-part-preserved
@@ -22,10 +20,9 @@ loop-part-preserved c =
       seen ++ piece ∷ [],
       next_piece (address_by c.args.side) seen c.loop-part.parts c.next.new.self c.in-Some.part.now piece _ c.in-Some.ensures c.in_ok-piece.ensures c.loop-part.invariant.1,
       seen_many c.loop-part.many c.loop-part.list seen piece (rw c.as_slice.ensures.items at c.if-as_slice-lt16.false) c.loop-part.invariant.2,
-      plain_next seen piece c.loop-part.are_plain _ c.loop-part.invariant.3 (elim c.if-are_plain.branch [ then-are_plain w ↦ rw (w.are_plain-is, w.if-are_plain.true, w.is_plain-are_plain-then-are_plain.ensures) refl | else-are_plain w ↦ rw (w.are_plain-is, w.if-are_plain.false) refl ]),
     )
 
 pub returns-then-many : goal.returns-then-many
 unfolding listed_of
 returns-then-many c =
-    many_listed c.loop-part.are_plain c.loop-part.invariant.0 _ (rw c.in_default.ensures.0 at c.loop-part.invariant.1) (rw c.if-many.true at c.loop-part.invariant.2) c.loop-part.invariant.3
+    many_listed c.loop-part.invariant.0 _ (rw c.in_default.ensures.0 at c.loop-part.invariant.1) (rw c.if-many.true at c.loop-part.invariant.2)

@@ -4,13 +4,12 @@ use Rattle.std.specs.List.{slice_split}
 use Rattle.lapi_base.specs.declared.piece.Piece.{Piece}
 use Rattle.lapi_base.specs.Input.Tokens.{pieces_of}
 use Rattle.lapi_script.specs.Vectors.{address_by}
-use Rattle.lapi_script.proofs.PieceLists.{with_front, IsSeen, are_plain_pieces}
+use Rattle.lapi_script.proofs.PieceLists.{with_front, IsSeen}
 use Rattle.lapi_script.proofs.pieces.listed_of.Given as goal
 
 abbrev pub invariant-loop-part : goal.invariant-loop-part
 invariant-loop-part l = (seen : List Piece)
     × (with_front seen (pieces_of (address_by l.side) l.parts) ≡ pieces_of (address_by l.side) (slice_split (λ b. b == 44) l.text)) × IsSeen l.many l.list seen
-    × (l.are_plain ≡ are_plain_pieces seen)
 
 abbrev pub decreases-loop-part : goal.decreases-loop-part
 decreases-loop-part l = length l.parts

@@ -9,4 +9,4 @@ returns-in-Statement c read holds =
 pub returns-in-TooManyPieces : goal.returns-in-TooManyPieces
 returns-in-TooManyPieces c read holds =
     let many = rw c.in-TooManyPieces.is at holds in
-    too_many_pieces_line c.in-TooManyPieces.is_built c.args.script c.args.current c.too_many_pieces.result c.too_many_pieces.ensures read many
+    too_many_pieces_line c.args.script c.args.current c.too_many_pieces.result c.too_many_pieces.ensures read many

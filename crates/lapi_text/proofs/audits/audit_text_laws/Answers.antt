@@ -15,4 +15,4 @@ pub returns-clause-long : goal.returns-clause-long
 returns-clause-long c = λ bytes many. audit_long bytes many
 
 pub returns-clause-written : goal.returns-clause-written
-returns-clause-written c = λ script rules events valid built few there. audit_canon script rules valid events built few there
+returns-clause-written c = λ script rules events valid few there. audit_canon script rules valid events few there
