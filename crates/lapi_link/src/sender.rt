@@ -4,7 +4,7 @@ ghost use Rattle.lapi_window.specs.SendWindow.{MaySend, sent_count, unacked};
 ghost use Rattle.lapi_link.specs.Sender.{IsNewSender, appended, sendable, sent, kept, entries_to, IsAcked, newly_covered_tag, newly_acked};
 
 use crate::tags::Tags;
-use lapi_base::{Bytes, Entries, FRAME_ROOM, Frame, Memory, WireEntry};
+use lapi_base::{Bytes, Entries, FRAME_ROOM, Memory, WireEntry};
 use lapi_window::{SendWindow, covers};
 use std::alloc::Global;
 use std::collections::VecDeque;
@@ -54,7 +54,7 @@ impl Sender {
             return Err(Memory);
         }
         self.tags.reserve(1)?;
-        self.waiting.push_back(packet)?;
+        self.waiting.push_back(packet.into_shared()?)?;
         self.tags.push_back_reserved(tag);
         self.window.append(1);
         Ok(())
@@ -66,23 +66,23 @@ impl Sender {
         ensures entries { OnOk result (entries.new ≡ entries.old ++ entries_to to (take (sendable self.old) self.old.waiting)) }
     {
         for _ in 0..self.window.room() {
-            let entry = self.send_next(to);
+            let entry = self.send_next(to)?;
             entries.push(entry)?;
         }
         Ok(())
     }
 
-    // Sends the packet that has waited longest.
-    fn send_next(&mut self, to: u32) -> WireEntry
+    // Sends the packet that has waited longest, and keeps it: entry and window share its bytes.
+    fn send_next(&mut self, to: u32) -> Result<WireEntry, Memory>
         requires { MaySend self.old.window }
-        ensures sent { self.new ≡ sent self.old 1 }
-        ensures entry { entries_to to (take 1 self.old.waiting) ≡ result ∷ [] }
+        ensures sent { OnOk result (self.new ≡ sent self.old 1) }
+        ensures entry { IfOk result (λ entry. entries_to to (take 1 self.old.waiting) ≡ entry ∷ []) }
     {
-        let bytes = self.waiting.pop_front().unwrap();
-        let mut frame = Frame::new();
-        frame.extend_from_slice(bytes.as_slice());
-        self.window.sent(&frame);
-        WireEntry { to, bytes }
+        let alloc = *self.waiting.allocator();
+        let bytes = self.waiting.front().unwrap().copy(alloc)?;
+        let kept = self.waiting.pop_front().unwrap();
+        self.window.sent(kept);
+        Ok(WireEntry { to, bytes })
     }
 
     /// Sends again what was sent and is not acknowledged.
@@ -90,8 +90,8 @@ impl Sender {
         ensures { OnOk result (entries.new ≡ entries.old ++ entries_to to (kept self.now)) }
     {
         for number in self.window.base()..self.window.sent_end() {
-            if let Some(frame) = self.window.packet(number) {
-                let bytes = Bytes::from_slice(alloc, frame.as_slice())?;
+            if let Some(packet) = self.window.packet(number) {
+                let bytes = packet.copy(alloc)?;
                 entries.push(WireEntry { to, bytes })?;
             }
         }

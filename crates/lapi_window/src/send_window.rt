@@ -4,7 +4,7 @@ ghost use Rattle.lapi_window.specs.SendWindow.{sent_count, is_acked, base_of, by
 
 use crate::number_set::NumberSet;
 use circular_buffer::HeapCircularBuffer;
-use lapi_base::{Frame, Memory};
+use lapi_base::{Bytes, Memory};
 use std::alloc::Global;
 use std::marker::Model;
 
@@ -16,7 +16,7 @@ pub struct SendWindow {
     numbers: u32,
     acked: NumberSet,
     // The packets of the numbers from the least that is not acknowledged up to the last that was sent.
-    packets: HeapCircularBuffer<Frame>,
+    packets: HeapCircularBuffer<Bytes>,
 }
 
 impl Model for SendWindow {
@@ -92,16 +92,14 @@ impl SendWindow {
         }
     }
 
-    /// Notes that the next number was sent in this packet.
-    pub fn sent(&mut self, bytes: &Frame)
+    /// Notes that the next number was sent in this packet, and keeps it.
+    pub fn sent(&mut self, bytes: Bytes)
         requires { MaySend self.old }
-        ensures all { self.new ≡ record self.old { packets = self.old.packets ++ bytes.now ∷ [] } }
-        ensures bytes { bytes_of self.new (sent_count self.old) ≡ Some bytes.now }
+        ensures all { self.new ≡ record self.old { packets = self.old.packets ++ bytes ∷ [] } }
+        ensures bytes { bytes_of self.new (sent_count self.old) ≡ Some bytes }
         ensures others { (n : ℕ) → n < sent_count self.old → bytes_of self.new n ≡ bytes_of self.old n }
     {
-        let mut frame = Frame::new();
-        frame.extend_from_slice(bytes.as_slice());
-        self.packets.push_back(frame);
+        self.packets.push_back(bytes);
     }
 
     /// Notes what an acknowledgement covers.
@@ -128,7 +126,7 @@ impl SendWindow {
     }
 
     /// The number at this place among those that were sent and are not acknowledged, and its packet.
-    pub fn unacked(&self, i: usize) -> (u32, &Frame)
+    pub fn unacked(&self, i: usize) -> (u32, &Bytes)
         requires { i < length (unacked self.now) }
         ensures number { slice_get (unacked self.now) i ≡ Some result.0 }
         ensures bytes { bytes_of self.now result.0 ≡ Some result.1.now }
@@ -161,8 +159,8 @@ impl SendWindow {
     }
 
     /// The packet of a number that was sent and is not acknowledged; none of any other number.
-    pub fn packet(&self, number: u32) -> Option<&Frame>
-        ensures { option_map (λ frame. frame.now) result ≡ packet_of self.now number }
+    pub fn packet(&self, number: u32) -> Option<&Bytes>
+        ensures { option_map (λ bytes. bytes.now) result ≡ packet_of self.now number }
     {
         if !self.is_unacked(number) {
             return None;

@@ -23,7 +23,7 @@ loop-number-preserved c =
           v.entries-is
           ∙ v.in_ok-push.ensures.ok
           ∙ ap (λ (es : List WireEntry). es ++ record { to = c.args.to; bytes = v.in_ok-bytes.bytes } ∷ []) c.loop-number.invariant
-          ∙ resent-one c.args.entries.now c.args.to w n v.in_ok-bytes.bytes (told ∙ sym v.in-Some.ensures ∙ ap (λ (b : List ℕ). Some b) (sym (v.in_ok-bytes.ensures ∙ v.as_slice.ensures.items)))
+          ∙ resent-one c.args.entries.now c.args.to w n v.in_ok-bytes.bytes (told ∙ sym v.in-Some.ensures ∙ ap (λ (b : List ℕ). Some b) (sym v.in_ok-bytes.ensures))
       | in_default v ↦
           v.entries-is ∙ c.loop-number.invariant ∙ resent-none c.args.entries.now c.args.to w n (told ∙ sym v.in_default.ensures)
     ]

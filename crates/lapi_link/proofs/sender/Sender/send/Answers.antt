@@ -6,12 +6,12 @@ use Rattle.lapi_link.proofs.sender.Sender.send.Goals as goal
 
 pub loop-preserved : goal.loop-preserved
 loop-preserved c =
-    let entry = sym (ap (λ (s : SendingEnd). entries_to c.args.to (take 1 s.waiting)) c.loop.invariant.sent) ∙ c.send_next-entry.ensures.entry in
+    let entry = sym (ap (λ (s : SendingEnd). entries_to c.args.to (take 1 s.waiting)) c.loop.invariant.sent) ∙ c.in_ok-entry.ensures.entry in
     record {
-      sent = c.send_next-entry.ensures.sent ∙ ap (λ (s : SendingEnd). sent s 1) c.loop.invariant.sent ∙ sent_one_more c.args.self.now c.loop.counter;
+      sent = c.in_ok-entry.ensures.sent ∙ ap (λ (s : SendingEnd). sent s 1) c.loop.invariant.sent ∙ sent_one_more c.args.self.now c.loop.counter;
       entries =
           c.in_ok-push.ensures.ok
-          ∙ ap (λ (es : List WireEntry). es ++ c.send_next-entry.result ∷ []) c.loop.invariant.entries
-          ∙ entries_one_more c.args.entries.now c.args.to c.loop.counter c.args.self.now.waiting c.send_next-entry.result entry;
+          ∙ ap (λ (es : List WireEntry). es ++ c.in_ok-entry.entry ∷ []) c.loop.invariant.entries
+          ∙ entries_one_more c.args.entries.now c.args.to c.loop.counter c.args.self.now.waiting c.in_ok-entry.entry entry;
       room = c.loop.invariant.room;
     }

@@ -1,4 +1,4 @@
-use Rattle.std.proofs.Common.{◌≡◌, ◌-◌, true, slice_get, sym, ap, ◌∙◌, arith}
+use Rattle.std.proofs.Common.{◌-◌, slice_get, sym, ap, ◌∙◌, arith}
 use Rattle.lapi_window.specs.SendWindow.{Sending, is_unacked, packet_of}
 use Rattle.lapi_window.proofs.SendLaws.{packet-kept, unacked-above, copied-map}
 use Rattle.lapi_window.proofs.send_window.SendWindow.packet.Goals as goal
