@@ -28,11 +28,11 @@ pub joined_at : (tasks : ℕ) (rows : List Round) (t r : ℕ) (row : Round) → 
 joined_at tasks rows t r row known lt =
     ap (λ xs. get_or xs t None) (row_at tasks rows r row lt) ∙ over-at (joined_in (get_or rows r row)) tasks t None known
 
-joined_past : (tasks : ℕ) (rows : List Round) (t r : ℕ) → length rows ≤ r → joined (joins_of tasks rows) t r ≡ None
+pub joined_past : (tasks : ℕ) (rows : List Round) (t r : ℕ) → length rows ≤ r → joined (joins_of tasks rows) t r ≡ None
 joined_past tasks rows t r ge =
     ap (λ xs. get_or xs t None) (get_or_past (joins_of tasks rows).rounds r [] (let e = length-joins tasks rows in omega arith))
 
-joined_unknown : (tasks : ℕ) (rows : List Round) (t r : ℕ) (row : Round) → tasks ≤ t → joined (joins_of tasks rows) t r ≡ None
+pub joined_unknown : (tasks : ℕ) (rows : List Round) (t r : ℕ) (row : Round) → tasks ≤ t → joined (joins_of tasks rows) t r ≡ None
 joined_unknown tasks rows t r row ge =
     ⊎_elim
     (λ (lt : r < length rows).

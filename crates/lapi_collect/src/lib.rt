@@ -8,5 +8,5 @@ mod rounds;
 mod unacknowledged;
 
 pub use outstanding::Outstanding;
-pub use rounds::{AddressTable, Rounds};
+pub use rounds::{AddressTable, MOST_ROUNDS, Rounds};
 pub use unacknowledged::Unacknowledged;

@@ -1,9 +1,12 @@
-ghost use Rattle.std.specs.Prelude.{◌≡◌, ℕ, ◌<◌, ◌≤◌, ◌==◌, ◌&&◌, IfOk, cond, Some, None, length};
+ghost use Rattle.std.specs.Prelude.{◌≡◌, ℕ, ◌<◌, ◌≤◌, ◌==◌, ◌&&◌, IfOk, cond, Some, None, true, false, length};
 ghost use Rattle.lapi_collect.specs.Rounds.{joined, is_complete};
 
 use lapi_base::Memory;
 use std::alloc::Global;
 use std::marker::Model;
+
+/// The most rounds of one kind: as many as a task may have statements.
+pub const MOST_ROUNDS: u32 = 512;
 
 /// One round: bit t of `joined` tells whether task t joined, and `values` with which value.
 #[derive(Clone, Copy, Debug)]
@@ -67,15 +70,25 @@ impl Rounds {
         self.rounds[round as usize].joined as u32 == (1 << self.tasks) - 1
     }
 
-    /// The value with which the task joined the round, once every task joined it.
+    /// The value with which the task joined the round, once every task joined it. None where there is no such task or round.
     pub fn entry(&self, round: u32, task: u32) -> Option<u32>
-        requires { (task < self.now.tasks) × (round < length self.now.rounds) }
         ensures { result ≡ cond (is_complete self.now round) (joined self.now task round) None }
     {
+        if !self.has(task, round) {
+            return None;
+        }
         if self.complete(round) {
             Some(self.rounds[round as usize].values[task as usize])
         } else {
             None
         }
+    }
+
+    /// Whether there are such a task and such a round.
+    fn has(&self, task: u32, round: u32) -> bool
+        ensures known { result ≡ true → (task < self.now.tasks) × (round < length self.now.rounds) }
+        ensures none { result ≡ false → joined self.now task round ≡ None }
+    {
+        task < self.tasks && (round as usize) < self.rounds.len()
     }
 }

@@ -41,7 +41,7 @@ module _ (script : Script) where
 
   module _ (t : ℕ) (task : Task) (from : ℕ) (ps : List Packet) (taken : HasTaken script t task from ps) (end : ReceivingEnd) (read : end ≡ get_or task.receivers.items from end) where
     pub answers-for : (window_of script ≤ 32) × ReceivesFor script end ps
-    answers-for = (let e = first-window script taken.performed.valid in omega (arith, e), receives-at ps task.receivers.items from end taken.receiver read)
+    answers-for = (let e = first-window script taken.valid in omega (arith, e), receives-at ps task.receivers.items from end taken.receiver read)
 
     -- so much is told
     module _ (base bits : ℕ) (told : ReceivesFor script end ps → (base ≡ least_number ps) × (bits ≡ bits_of (window_of script) (λ i. has_number ps (least_number ps + i)))) where
@@ -49,7 +49,7 @@ module _ (script : Script) where
       is = told-is ps from t task.state.number base bits taken.number (told answers-for.1)
 
       pub answer-spelled : HasSpelling (Ack task.state.number from base bits)
-      answer-spelled = subst HasSpelling (sym is) (ack-spelled script taken.performed.valid ps from t answers-for.1.numbers taken.from_known taken.known)
+      answer-spelled = subst HasSpelling (sym is) (ack-spelled script taken.valid ps from t answers-for.1.numbers taken.from_known taken.known)
 
       pub answer-put : (old new : List WireEntry) (bytes : List ℕ) → bytes ≡ written.packet (Ack task.state.number from base bits) → new ≡ old ++ record { to = from; bytes = bytes } ∷ [] → new ≡ old ++ answer script ps from t ∷ []
       answer-put old new bytes spells put = put ∙ ap (λ (bs : List ℕ). old ++ record { to = from; bytes = bs } ∷ []) (spells ∙ ap written.packet is)

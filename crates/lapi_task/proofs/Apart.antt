@@ -1,5 +1,5 @@
 -- A line at another task leaves a task's part of the record, and by its part it stands for the record.
-use Rattle.std.proofs.Common.{◌≡◌, ℕ, not, ◌&&◌, List, length, map, Option, Some, None, refl, sym, ap, ◌∙◌, subst}
+use Rattle.std.proofs.Common.{◌≡◌, ℕ, ◌==◌, not, cond, List, length, map, Option, Some, None, refl, sym, ap, ◌∙◌, subst}
 use Rattle.std.specs.Prelude.{slice_get, option_map}
 use Rattle.lapi_base.specs.declared.script.Script.{Script}
 use Rattle.lapi_base.specs.declared.rule.Rules.{Rules}
@@ -8,8 +8,8 @@ use Rattle.lapi_base.specs.declared.message.MsgName.{MsgName}
 use Rattle.lapi_base.specs.declared.packet.Packet.{Packet}
 use Rattle.lapi_base.specs.Record.Below.{below}
 use Rattle.lapi_base.specs.Laws.Locality.{SameStatements, SameLinks}
-use Rattle.lapi_base.specs.Record.Names.{Issued, Copied, happened, message}
-use Rattle.lapi_base.specs.Record.Operations.{numbers_below, statements, statement, is_data}
+use Rattle.lapi_base.specs.Record.Names.{Issued, Entered, Copied, happened, message}
+use Rattle.lapi_base.specs.Record.Operations.{numbers_below, statements, table_rounds, entry}
 use Rattle.lapi_base.specs.Record.Packets.{data_packet}
 use Rattle.lapi_base.specs.Record.Wires.{Run, numbered, is_acked, has_number, has_ack}
 use Rattle.lapi_base.specs.Record.WorldView.{performed, IsRecord}
@@ -35,7 +35,12 @@ use Rattle.lapi_parts.proofs.CopiedCounts.{count_in, count-is, counted-same}
 use Rattle.lapi_task.proofs.UnfinishedLaws.{StaysAt, tracks-stay}
 use Rattle.lapi_base.specs.Record.Operations.{receiver}
 use Rattle.lapi_base.specs.Record.Names.{Landed}
-use Rattle.lapi_base.specs.declared.message.Leg.TheVariants.{Back}
+use Rattle.lapi_base.specs.declared.message.Leg.TheVariants.{Back, Join}
+use Rattle.lapi_base.specs.Record.Refusals.{gfence_rounds, join_landed, next}
+use Rattle.lapi_collect.specs.Rounds.{Joins}
+use Rattle.lapi_task.specs.declared.collective.Collective.{Collective}
+use Rattle.lapi_task.specs.HasRounds.{has_entered, AreJoined, HasRounds}
+use Rattle.lapi_task.proofs.UncopiedLaws.{uncopied-same}
 
 module _ (script : Script) (rules : Rules) (t : ℕ) where
   -- Two records with the same part at the task.
@@ -49,11 +54,37 @@ module _ (script : Script) (rules : Rules) (t : ℕ) where
     links : SameLinks script rules t r s
     links = told-links script rules t r s ir is e
 
-    uncopied-same : is_uncopied script r.journal t ≡ is_uncopied script s.journal t
-    uncopied-same =
-        by_points _ _ (λ i.
-        ap (λ x. is_data (statement script t i) && (x && not (happened (Copied (message t i Go)) r.journal))) (acts.same_events (Issued t i) refl)
-        ∙ ap (λ x. is_data (statement script t i) && (happened (Issued t i) s.journal && not x)) (acts.same_events (Copied (message t i Go)) refl))
+    -- what the task may copy, and what it knows of rounds
+    uncopied-told : is_uncopied script r.journal t ≡ is_uncopied script s.journal t
+    uncopied-told =
+        by_points _ _ (λ i. uncopied-same script t r.journal s.journal i (record {
+          issued = sym (acts.same_events (Issued t i) refl);
+          entered = sym (acts.same_events (Entered t i) refl);
+          data_copied = sym (acts.same_events (Copied (message t i Go)) refl);
+          joins_copied = λ d. sym (acts.same_events (Copied (message t i (Join d))) refl);
+        }))
+
+    entered-told : (o : Option ℕ) → has_entered r.journal t o ≡ has_entered s.journal t o
+    entered-told None = refl
+    entered-told (Some i) = acts.same_events (Entered t i) refl
+
+    landed-told : (d : ℕ) (o : Option ℕ) → join_landed r.journal t d o ≡ join_landed s.journal t d o
+    landed-told d None = refl
+    landed-told d (Some j) = acts.same_events (Landed (message d j (Join t))) refl
+
+    joined-told : (rounds : (task : ℕ) → List ℕ) (value : (round task : ℕ) → ℕ) (joins : Joins) → AreJoined script t rounds value joins r.journal → AreJoined script t rounds value joins s.journal
+    joined-told rounds value joins h = record {
+      tasks = h.tasks;
+      size = h.size;
+      joined = λ d round. h.joined d round ∙ (λ k. cond (cond (d == t) (entered-told (slice_get (rounds d) round) k) (landed-told d (slice_get (rounds d) round) k)) (Some (value round d)) None);
+    }
+
+    rounds-told : (c : Collective) → HasRounds script t c r.journal → HasRounds script t c s.journal
+    rounds-told c h = record {
+      entered = h.entered ∙ acts.same_events (Entered t (next r.journal t)) refl ∙ ap (λ i. happened (Entered t i) s.journal) acts.next;
+      fences = joined-told (gfence_rounds script) (λ _ _. 0) c.fences h.fences;
+      tables = joined-told (table_rounds script) (entry script) c.tables h.tables;
+    }
 
     memory-same : memory_bytes script rules r.journal t ≡ memory_bytes script rules s.journal t
     unfolding memory_bytes
@@ -69,8 +100,9 @@ module _ (script : Script) (rules : Rules) (t : ℕ) where
       memory = h.memory ∙ memory-same;
       counter_count = h.counter_count;
       counters = λ c lt. h.counters c lt ∙ acts.counters c;
-      uncopied = h.uncopied ∙ ap (below (length (statements script t))) uncopied-same;
+      uncopied = h.uncopied ∙ ap (below (length (statements script t))) uncopied-told;
       jobs = let jobs = told-jobs script rules t r s ir is e in jobs-same script rules t r.journal s.journal state.jobs state.jobs refl (sym jobs.waiting) (λ w. sym (jobs.running w)) h.jobs;
+      rounds = rounds-told state.collective h.rounds;
     }
 
     -- the packet of a number

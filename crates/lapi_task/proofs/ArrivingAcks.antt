@@ -127,7 +127,7 @@ module _ (script : Script) (rules : Rules) (r : Run) (from t k x y base bits : â
   stands-after task old new u tracks there g own h =
       let ends = task.senders.items in
       record {
-        calls = record { supported = h.calls.supported; rules_valid = h.calls.rules_valid; sizes = h.calls.sizes; statements = h.calls.statements; limits = h.calls.limits };
+        calls = record { valid = h.calls.valid; rules_valid = h.calls.rules_valid; sizes = h.calls.sizes; statements = h.calls.statements; limits = h.calls.limits; rounds = h.calls.rounds };
         holds = h.holds;
         unfinished = tracks;
         sender_count = length-set ends from new âˆ™ h.sender_count;

@@ -1,5 +1,5 @@
 -- What is not done after a packet with data came.
-use Rattle.std.proofs.Common.{◌≡◌, ℕ, ◌<◌, Bool, true, false, cond, ◌&&◌, List, [], ◌∷◌, ◌++◌, length, Option, Some, None, sym, ap, ◌∙◌, subst}
+use Rattle.std.proofs.Common.{◌≡◌, ℕ, ◌<◌, Bool, true, false, cond, ◌&&◌, List, [], ◌∷◌, ◌++◌, length, Option, Some, None, refl, sym, ap, ◌∙◌, subst}
 use Rattle.std.specs.List.{AllByRecursion}
 use Rattle.std.proofs.lemmas.Bool.{and_parts, ltb-true}
 use Rattle.lapi_base.specs.declared.script.Script.{Script}
@@ -7,7 +7,7 @@ use Rattle.lapi_base.specs.declared.rule.Rules.{Rules}
 use Rattle.lapi_base.specs.declared.event.Event.{Event}
 use Rattle.lapi_base.specs.declared.event.Event.TheVariants.{Land}
 use Rattle.lapi_base.specs.declared.head.Head.{Head}
-use Rattle.lapi_base.specs.declared.message.Leg.TheVariants.{Back}
+use Rattle.lapi_base.specs.declared.message.Leg.TheVariants.{Go, Back}
 use Rattle.lapi_base.specs.declared.message.MsgName.{MsgName}
 use Rattle.lapi_base.specs.Record.Acts.{followed}
 use Rattle.lapi_base.specs.Record.Atomic.{Atomic}
@@ -23,7 +23,7 @@ use Rattle.lapi_task.specs.Answered.{completes_in}
 use Rattle.lapi_task.specs.Landed.{Follower, follower, called, events_of}
 use Rattle.lapi_task.specs.Unfinished.{flags_closed, flags_landed, IsOfStatement, Tracks}
 use Rattle.lapi_task.proofs.FollowerParts.{copies, follows-is}
-use Rattle.lapi_task.proofs.ReceiveEvents.{IsMild, come, come-mild, followed-append}
+use Rattle.lapi_task.proofs.ReceiveEvents.{IsMild, polled-apart, come, come-mild, followed-append}
 use Rattle.lapi_task.proofs.UnfinishedLaws.{tracks-told, tracks-headed, tracks-landed, tracks-followed}
 
 module _ (script : Script) (rules : Rules) (t : ℕ) where
@@ -48,7 +48,7 @@ module _ (script : Script) (rules : Rules) (t : ℕ) where
     followed-tracks : (m : MsgName) → IsOwnAnswer m → (o : Option Follower) → AllByRecursion IsMild (copies o) → Atomic script rules (followed (Land m ∷ r.journal) (copies o)) → Tracks script rules t (record u { undone = flags_closed m u.undone }) (record r { journal = followed (Land m ∷ r.journal) (copies o) })
     unfolding followed
     followed-tracks m own None mild atomic = tracks-landed script rules t u r m own tracks
-    followed-tracks m own (Some x) mild atomic = tracks-followed script rules t (record u { undone = flags_closed m u.undone }) (record r { journal = Land m ∷ r.journal }) x.packet.name mild.0 atomic (tracks-landed script rules t u r m own tracks)
+    followed-tracks m own (Some x) mild atomic = tracks-followed script rules t (record u { undone = flags_closed m u.undone }) (record r { journal = Land m ∷ r.journal }) x.packet.name (polled-apart Go x.packet.name.leg refl mild.0) atomic (tracks-landed script rules t u r m own tracks)
 
     landing-tracks : (count : ℕ) (whole : Bool) (m : MsgName) (h : Head) (bytes : List ℕ) (out : Option HeaderOut) (memory : List ℕ) (a : ℕ) → Atomic script rules (followed r.journal (events_of count (come whole m h bytes out))) → IsOwnAnswer m → Tracks script rules t (record u { undone = flags_landed (come whole m h bytes out) u.undone }) (record r { journal = followed r.journal (events_of count (come whole m h bytes out)) })
     unfolding followed

@@ -28,9 +28,8 @@ use Rattle.lapi_parts.proofs.ExactBytes.{Exact, record-exact}
 use Rattle.lapi_parts.proofs.InReach.{packets-in-reach}
 use Rattle.lapi_parts.proofs.Receivable.{packets-fit, heads-agree, new-open, new-room}
 use Rattle.lapi_parts.proofs.Records.{record-sound}
-use Rattle.lapi_task.specs.Supported.{IsSupported}
+use Rattle.lapi_base.specs.Record.Valid.{ValidScript, ValidRules}
 use Rattle.lapi_parts.proofs.FirstLayout.{first-unit, first-longest}
-use Rattle.lapi_base.specs.Record.Valid.{ValidRules, ValidScript}
 use Rattle.lapi_base.proofs.BelowLaws.{every_below-at}
 use Rattle.lapi_base.proofs.ListLaws.{all-get}
 use Rattle.lapi_base.proofs.PacketNumbers.{some-there}
@@ -75,20 +74,20 @@ module _ (script : Script) (rules : Rules) where
   all-in-part J ps [] exact all = tt
   all-in-part J ps (m ∷ ms) exact all = (in-part J ps m exact all.0, all-in-part J ps ms exact all.1)
 
-  pub arriving-fits : IsSupported script → ValidRules rules → (r : Run) (a b k : ℕ) (p : DataPacket) → IsRecord script rules r → slice_get (r.wire a b) k ≡ Some (Data p) → MayArrive script (r.handed a b) p
-  arriving-fits performed ok r a b k p is at =
+  pub arriving-fits : ValidScript script → ValidRules rules → (r : Run) (a b k : ℕ) (p : DataPacket) → IsRecord script rules r → slice_get (r.wire a b) k ≡ Some (Data p) → MayArrive script (r.handed a b) p
+  arriving-fits valid ok r a b k p is at =
       let J = r.journal in
       let ps = r.handed a b in
       let sound = record-sound script rules r is in
       let exact = record-exact script rules r is in
       let own = all-get (Exact script rules J) (r.wire a b) k (Data p) (exact.wires a b) at in
       let copied = (numbered-copied script J a b p.seq (p.name, p.fragment) (all-get (IsOf script rules J r.handed a b) (r.wire a b) k (Data p) (sound.wires a b) at)).0 in
-      let fits : FitsScript script rules p = packets-fit script rules r is performed.valid ok a b k p at in
+      let fits : FitsScript script rules p = packets-fit script rules r is valid ok a b k p at in
       let missing : is_delivered r a b p.seq ≡ false → has_fragment ps p.name p.fragment ≡ false = λ fresh. (new-open script rules r is a b k p at fresh).1 in
       record {
         number = fits.number;
         reach = packets-in-reach script rules r is a b k p at;
-        size = fits-size performed.valid p.length (subst (λ (n : ℕ). n ≤ 16384) (sym (length-is script rules J p own)) (subst (λ (n : ℕ). message_length script p.name ≤ n) (first-longest script performed.valid) (copied-short script rules J p.name sound.atomic copied)));
+        size = fits-size valid p.length (subst (λ (n : ℕ). n ≤ 16384) (sym (length-is script rules J p own)) (subst (λ (n : ℕ). message_length script p.name ≤ n) (first-longest script valid) (copied-short script rules J p.name sound.atomic copied)));
         fragment = fits.fragment;
         payload = fits.payload;
         heads = λ j q there name. heads-agree script rules r is a b k j p q at there name;

@@ -204,7 +204,7 @@ module _ (script : Script) (rules : Rules) where
           let sound = record-sound script rules r at.recorded in
           let copied = landed-copied script rules J first.m sound.atomic waiting.1 in
           let most = copied-short script rules J first.m sound.atomic copied in
-          let longest = first-longest script at.stands.calls.supported.valid in
+          let longest = first-longest script at.stands.calls.valid in
           omega (arith, most, longest)
 
       pub buffer-there : (span : Span) → job.buffer ≡ Some span → span.at + span.len ≤ length before.state.memory

@@ -1,8 +1,8 @@
 -- The copy of a statement's data: what its task and its record have then.
 use Rattle.std.proofs.Common.{◌≡◌, ℕ, ◌+◌, ◌*◌, ◌<◌, ◌≤◌, ◌==◌, Bool, true, false, cond, not, ◌&&◌, List, [], ◌∷◌, ◌++◌, map, length, set, Option, Some, None, refl, sym, ap, ◌∙◌, subst, arith, inl}
-use Rattle.std.specs.Prelude.{slice_get, slice_index, slice_set, option_to_list}
+use Rattle.std.specs.Prelude.{slice_get, slice_index, slice_set}
 use Rattle.std.specs.List.{AllByRecursion, flat_map}
-use Rattle.std.proofs.lemmas.Bool.{cond-true, and_parts, and_right, not-true}
+use Rattle.std.proofs.lemmas.Bool.{cond-true}
 use Rattle.std.proofs.lemmas.List.Elements.{All-from_recursion}
 use Rattle.std.proofs.Math.ListN.{length-set}
 use Rattle.lapi_base.specs.declared.piece.Piece.{Piece}
@@ -19,21 +19,24 @@ use Rattle.lapi_base.specs.Record.Counters.{count, reads, tells, is_counter}
 use Rattle.lapi_base.specs.Laws.Entries.{carried}
 use Rattle.lapi_base.specs.Packet.Layout.{layout_of, unit, unit_of}
 use Rattle.lapi_base.specs.Record.Names.{message, name_eq, happened, Issued, Copied}
-use Rattle.lapi_base.specs.Record.Operations.{numbers_below, statement, statements, is_data, has_back, target, message_length, fragment_count, address, spans, origin_pieces, org_counter}
-use Rattle.lapi_base.specs.Record.Operations as operations
+use Rattle.lapi_base.specs.Record.Operations.{numbers_below, statement, statements, is_data, has_back, has_join, target, message_length, fragment_count, address, spans, origin_pieces, org_counter}
 use Rattle.lapi_base.specs.Record.Packets.{data_packet}
 use Rattle.lapi_base.specs.Record.Valid.{ValidStatement}
 use Rattle.lapi_base.specs.Laws.Receiving.{NamesCounter}
 use Rattle.lapi_base.specs.Record.Wires.{Run}
 use Rattle.lapi_base.specs.Record.Refusals.{next, refusals, option_any}
+use Rattle.lapi_base.specs.Record.Acts.{followed, to_copy_of}
+use Rattle.lapi_base.specs.Record.Atomic.{Atomic}
 use Rattle.lapi_base.specs.Packet.Spelling.{HasSpelling}
 use Rattle.lapi_base.specs.Record.Values.{values, memory_bytes, gathered, at_origin}
 use Rattle.lapi_base.specs.Packet.PacketBytes as written
-use Rattle.lapi_base.proofs.BelowLaws.{below-all}
-use Rattle.lapi_base.proofs.ListLaws.{get-some, all-map}
+use Rattle.lapi_base.proofs.ListLaws.{all-map}
 use Rattle.lapi_base.proofs.NameLaws.{happened-head, happened-other, name_eq-refl}
 use Rattle.lapi_base.proofs.TestLaws.{eqb-refl}
-use Rattle.lapi_calls.specs.Calls.{IsSendable}
+use Rattle.lapi_calls.specs.Calls.{IsCall, IsSendable}
+use Rattle.lapi_calls.specs.Entries.{AreGiven}
+use Rattle.lapi_collect.specs.declared.rounds.TheConstants.{MOST_ROUNDS}
+use Rattle.lapi_laws.proofs.Backward.{Atomic-tail}
 use Rattle.lapi_laws.proofs.Shorts.{copied-short}
 use Rattle.lapi_link.specs.Sender.{SendingEnd}
 use Rattle.lapi_memory.specs.TaskMemory.{bytes_at}
@@ -47,13 +50,18 @@ use Rattle.lapi_vector.specs.Pieces.{AreWithin}
 use Rattle.lapi_task.specs.declared.copy.DataCopy.{DataCopy}
 use Rattle.lapi_task.specs.declared.state.State.{State}
 use Rattle.lapi_task.specs.declared.task.Task.{Task}
-use Rattle.lapi_task.specs.Copies.{copy_of, source, IsCopyable, IsCopied, CopiesNext}
+use Rattle.lapi_task.specs.declared.collective.Collective.{Collective}
+use Rattle.lapi_task.specs.Copies.{copy_of, copies_of, source, IsCopyable, IsCopied, CopiesNext, IsPopped, HasCopied}
 use Rattle.lapi_task.specs.Counting.{announced}
 use Rattle.lapi_task.specs.Outgoing.{with_message, AreSpelled}
 use Rattle.lapi_task.specs.StandsFor.{is_uncopied, task_unit, SenderAt, ReceiverAt, HasCalls, HoldsFor, StandsFor}
-use Rattle.lapi_task.proofs.CopyLists.{below-less, other-message}
-use Rattle.lapi_task.proofs.CopySendable.{no_round, no_entry, may-send}
-use Rattle.lapi_task.proofs.Forms.{statement-is}
+use Rattle.lapi_task.proofs.CallsStay.{calls-kept}
+use Rattle.lapi_task.proofs.CopyFirst.{first-is, uncopied-then, no-statement, found}
+use Rattle.lapi_task.proofs.CopyLists.{copies, followed-one}
+use Rattle.lapi_task.proofs.CopySendable.{may-send}
+use Rattle.lapi_task.proofs.KnownRounds.{knows_round, address_given, are-given, passed-complete}
+use Rattle.lapi_task.proofs.RoundsStay.{rounds-stay}
+use Rattle.lapi_task.proofs.UncopiedLaws.{waiting-data}
 use Rattle.lapi_task.proofs.JobsStay.{jobs-stay}
 use Rattle.lapi_task.proofs.MessageCopies.{packet-is, count-is, copied-ends}
 use Rattle.lapi_task.proofs.ReceiveCounts.{announced-length, announced-at}
@@ -111,15 +119,6 @@ module _ (script : Script) (rules : Rules) (t i : ℕ) where
 
 -- ---- the task
 
--- what the first of the listed numbers is
-first-of : (n i : ℕ) (p : ℕ → Bool) (rest : List ℕ) → below n p ≡ i ∷ rest → (i < n) × (p i ≡ true)
-first-of n i p rest e = (subst (AllByRecursion (λ k. (k < n) × (p k ≡ true))) e (below-all n p)).0
-
--- a task whose first number was taken off the list
-pub record IsPopped (before after : Task) (rest : List ℕ) : Type 0 where
-  pub list : after.state.uncopied.items ≡ rest
-  pub others : after ≡ record before { state = record before.state { uncopied = after.state.uncopied } }
-
 -- what a task has but for its data that are not done
 record StandsBut (script : Script) (rules : Rules) (t : ℕ) (task : Task) (r : Run) : Type 0 where
   pub calls : HasCalls script rules t task
@@ -129,38 +128,50 @@ record StandsBut (script : Script) (rules : Rules) (t : ℕ) (task : Task) (r : 
   pub senders : (b : ℕ) → b < script.tasks → SenderAt script rules r t b (slice_get task.senders.items b)
   pub receivers : (a : ℕ) → a < script.tasks → ReceiverAt script rules (r.handed a t) (slice_get task.receivers.items a)
 
-module _ (script : Script) (rules : Rules) (t : ℕ) (task : Task) (r : Run) (i : ℕ) (rest : List ℕ) (h : CopiesNext script rules t task r i rest) where
+module _ (script : Script) (rules : Rules) (t : ℕ) (task : Task) (r : Run) (i : ℕ) (rest : List ℕ) (h : CopiesNext script rules t task r i rest) (plain : has_join (statement script t i) ≡ false) where
   abbrev go : MsgName
   go = message t i Go
 
   abbrev L : List Event
   L = Copy go ∷ r.journal
 
-  listed : below (length (statements script t)) (is_uncopied script r.journal t) ≡ i ∷ rest
-  listed = sym h.stands.holds.uncopied ∙ h.first
+  within-list : i < length (statements script t)
+  within-list = (first-is script rules t task r i rest h).0
 
-  first-is : (i < length (statements script t)) × (is_uncopied script r.journal t i ≡ true)
-  first-is = first-of (length (statements script t)) i (is_uncopied script r.journal t) rest listed
+  waiting : (is_data (statement script t i) ≡ true) × (happened (Issued t i) r.journal ≡ true) × (happened (Copied go) r.journal ≡ false) × (to_copy_of script r.journal t i ≡ go ∷ [])
+  waiting = waiting-data script t r.journal i plain (first-is script rules t task r i rest h).1
 
-  pub within-list : i < length (statements script t)
-  within-list = first-is.0
+  -- its data are all that is copied
+  pub copies-are : copies_of script r.journal t i ≡ Copy go ∷ []
+  copies-are = ap copies waiting.3
 
-  pub has-data : is_data (statement script t i) ≡ true
-  has-data = (and_parts (is_data (statement script t i)) _ first-is.1).0
+  then-is : followed r.journal (copies_of script r.journal t i) ≡ L
+  then-is = ap (followed r.journal) copies-are ∙ followed-one r.journal (Copy go)
+
+  atomic : Atomic script rules L
+  atomic = subst (Atomic script rules) then-is h.atomic
 
   -- no reason holds against the statement,
   unrefused : Accepted script rules (target script t i) (statement script t i)
-  unrefused = copied-accepted script rules L go h.atomic (happened-head (Copy go) r.journal)
+  unrefused = copied-accepted script rules L go atomic (happened-head (Copy go) r.journal)
 
   short : message_length script go ≤ 16384
-  short = subst (λ n. message_length script go ≤ n) (first-longest script h.stands.calls.supported.valid) (copied-short script rules L go h.atomic (happened-head (Copy go) r.journal))
+  short = subst (λ n. message_length script go ≤ n) (first-longest script h.stands.calls.valid) (copied-short script rules L go atomic (happened-head (Copy go) r.journal))
 
   -- and it may be sent.
-  pub is-sendable : IsSendable no_round no_entry t (statement script t i)
-  is-sendable = may-send script h.stands.calls.supported rules t i r.journal h.atomic (and_parts (happened (Issued t i) r.journal) _ (and_parts (is_data (statement script t i)) _ first-is.1).1).0
+  abbrev known : Collective
+  known = task.state.collective
 
-  pub is-valid : ValidStatement (statement script t i)
-  is-valid = statement-valid script h.stands.calls.supported.valid t i
+  before : Atomic script rules r.journal
+  before = Atomic-tail script rules (Copy go) r.journal atomic
+
+  given : AreGiven script (knows_round known) (address_given known)
+  given = are-given script rules h.stands.calls.valid r.journal before t h.known known h.stands.holds.rounds
+
+  is-sendable : IsSendable (knows_round known) (address_given known) t (statement script t i)
+  is-sendable =
+      may-send script rules (knows_round known) (address_given known) given t i r.journal h.stands.calls.valid atomic waiting.1
+      (passed-complete script rules h.stands.calls.valid r.journal before t h.known known h.stands.holds.rounds)
 
   abbrev copy : DataCopy
   copy = copy_of script t i
@@ -188,17 +199,17 @@ module _ (script : Script) (rules : Rules) (t : ℕ) (task : Task) (r : Run) (i 
   source-spelled n j ln lj =
       let count : j < fragment_count script go = subst (λ (k : ℕ). j < k) (sym (count-is script rules go)) lj in
       subst HasSpelling (packet-is script rules go n j (carried script rules L go))
-      (written.packet (data_packet script go n j (carried script rules L go)), message-spelled script rules h.stands.calls.supported.valid h.stands.calls.rules_valid L go n j h.atomic (happened-head (Copy go) r.journal) ln count)
+      (written.packet (data_packet script go n j (carried script rules L go)), message-spelled script rules h.stands.calls.valid h.stands.calls.rules_valid L go n j atomic (happened-head (Copy go) r.journal) ln count)
 
   copyable-then : IsCopyable (task_unit task) task copy
   copyable-then =
-      let unit256 = first-unit script h.stands.calls.supported.valid in
+      let unit256 = first-unit script h.stands.calls.valid in
       let few = short in
       record {
         target = subst (λ n. target script t i < n) (sym h.stands.sender_count) unrefused.target;
         within = pieces-within script (target script t i) (length task.state.memory) (has_back (statement script t i)) (origin_pieces (statement script t i)) (ap length h.stands.holds.memory ∙ memory-length script rules r.journal t) unrefused.from;
         size = subst (λ (u : ℕ). IsUnit u × (u ≤ 256)) (sym unit-here) (inl unit256, (let e : unit_of script ≤ 256 = omega (arith, unit256) in e));
-        long = (ap length carries ∙ carried-length script rules L go h.atomic (happened-head (Copy go) r.journal), subst (λ (u : ℕ). message_length script go ≤ 64 * u) (sym unit-here) (omega (arith, unit256, few)));
+        long = (ap length carries ∙ carried-length script rules L go atomic (happened-head (Copy go) r.journal), subst (λ (u : ℕ). message_length script go ≤ 64 * u) (sym unit-here) (omega (arith, unit256, few)));
         counter = λ c at. subst (λ n. c < n) (sym h.stands.holds.counter_count) (counter-named script (has_back (statement script t i)) (org_counter (statement script t i)) c unrefused.org at);
         spelled =
             subst (λ (u : ℕ). AreSpelled u copy.message (source task.state.memory copy)) (sym unit-here)
@@ -216,15 +227,6 @@ module _ (script : Script) (rules : Rules) (t : ℕ) (task : Task) (r : Run) (i 
   })
 
   -- What stands then.
-  uncopied-then : below (length (statements script t)) (is_uncopied script L t) ≡ rest
-  uncopied-then =
-      below-less (length (statements script t)) (is_uncopied script r.journal t) (is_uncopied script L t) i rest listed
-      (and_right (is_data-of i) _ (and_right (happened (Issued t i) L) _ (ap not (happened-head (Copy go) r.journal))))
-      (λ k ne. λ j. is_data-of k && (happened-other (Issued t k) (Copy go) r.journal refl j && not (happened-other (Copied (message t k Go)) (Copy go) r.journal (other-message t i k ne) j)))
-    where
-      is_data-of : ℕ → Bool
-      is_data-of k = operations.is_data (statement script t k)
-
   holds-then : (after : State) → after ≡ record task.state { uncopied = after.uncopied; counters = after.counters } → after.uncopied.items ≡ rest → after.counters ≡ announced task.state.counters copy.counter → HoldsFor script rules t after L
   unfolding next refusals reads
   holds-then after same list counters =
@@ -237,15 +239,13 @@ module _ (script : Script) (rules : Rules) (t : ℕ) (task : Task) (r : Run) (i 
         memory = ap (λ (x : State). x.memory) same ∙ g.memory ∙ sym (memory-none script rules (Copy go) r.journal t refl);
         counter_count = ap length counters ∙ announced-length task.state.counters copy.counter ∙ g.counter_count;
         counters = λ c l. ap (λ xs. slice_index xs c) counters ∙ counters-then task.state.counters g.counter_count g.counters c l;
-        uncopied = list ∙ sym uncopied-then;
+        uncopied = list ∙ sym (uncopied-then script rules t task r i rest h) ∙ ap (λ K. below (length (statements script t)) (is_uncopied script K t)) then-is;
         jobs = jobs-stay script rules t (Copy go) r.journal task.state.jobs after.jobs tt (ap (λ (x : State). x.jobs) same) g.jobs;
+        rounds = rounds-stay script t (Copy go) r.journal (record { entered = λ _. refl; landed = λ _ _. refl }) task.state.collective after.collective (ap (λ (x : State). x.collective) same) refl g.rounds;
       }
 
-  uncopied-yet : happened (Copied go) r.journal ≡ false
-  uncopied-yet = not-true _ (and_parts (happened (Issued t i) r.journal) _ (and_parts (is_data (statement script t i)) _ first-is.1).1).1
-
   tracks-then : Tracks script rules t (record task.unfinished { left = slice_set task.unfinished.left i (fragment_count script go) }) (record r { journal = L })
-  tracks-then = tracks-copied script rules t task.unfinished r i h.atomic within-list uncopied-yet h.told h.stands.unfinished
+  tracks-then = tracks-copied script rules t task.unfinished r i atomic within-list waiting.2 h.told h.stands.unfinished
 
   -- there is a count for it
   pub has-count : i < length task.unfinished.left
@@ -258,22 +258,22 @@ module _ (script : Script) (rules : Rules) (t : ℕ) (task : Task) (r : Run) (i 
       let list = ap (λ (x : Task). x.state.uncopied) g.rest in
       let state : after.state ≡ record task.state { uncopied = after.state.uncopied; counters = after.state.counters } =
       ap (λ (x : Task). x.state) g.rest
-      ∙ (λ k. record { number = (p.others k).state.number; next = (p.others k).state.next; memory = (p.others k).state.memory; counters = after.state.counters; reads = (p.others k).state.reads; refusals = (p.others k).state.refusals; uncopied = sym list k; jobs = (p.others k).state.jobs }) in
+      ∙ (λ k. record { number = (p.others k).state.number; next = (p.others k).state.next; memory = (p.others k).state.memory; counters = after.state.counters; reads = (p.others k).state.reads; refusals = (p.others k).state.refusals; uncopied = sym list k; jobs = (p.others k).state.jobs; collective = (p.others k).state.collective }) in
       let ends = ap (λ (x : Task). x.senders.items) p.others in
       let senders : after.senders.items ≡ set task.senders.items to g.sender = g.senders ∙ ap (λ (xs : List SendingEnd). set xs to g.sender) ends in
       let receivers : after.receivers.items ≡ task.receivers.items = ap (λ (x : Task). x.receivers.items) g.rest ∙ ap (λ (x : Task). x.receivers.items) p.others in
       record {
-        calls = record {
-          supported = h.stands.calls.supported;
-          rules_valid = h.stands.calls.rules_valid;
-          sizes = ap (λ (x : Task). x.sizes) g.rest ∙ ap (λ (x : Task). x.sizes) p.others ∙ h.stands.calls.sizes;
-          statements = ap (λ (x : Task). x.statements) g.rest ∙ ap (λ (x : Task). x.statements) p.others ∙ h.stands.calls.statements;
-          limits = ap (λ (x : Task). x.limits) g.rest ∙ ap (λ (x : Task). x.limits) p.others ∙ h.stands.calls.limits;
-        };
+        calls =
+            calls-kept script rules t task after
+            (ap (λ (x : Task). x.sizes) g.rest ∙ ap (λ (x : Task). x.sizes) p.others)
+            (ap (λ (x : Task). x.statements) g.rest ∙ ap (λ (x : Task). x.statements) p.others)
+            (ap (λ (x : Task). x.limits) g.rest ∙ ap (λ (x : Task). x.limits) p.others)
+            (ap (λ (x : Task). x.rounds.items) g.rest ∙ ap (λ (x : Task). x.rounds.items) p.others)
+            h.stands.calls;
         holds = holds-then after.state state (ap (λ (x : _). x.items) list ∙ p.list) (g.counters ∙ ap (λ (x : Task). announced x.state.counters copy.counter) p.others);
         sender_count = ap length senders ∙ length-set task.senders.items to g.sender ∙ h.stands.sender_count;
         receiver_count = ap length receivers ∙ h.stands.receiver_count;
-        senders = copied-ends script rules go r t task.senders.items after.senders.items g.sender (source task.state.memory copy) refl copyable-then.target senders h.atomic carries
+        senders = copied-ends script rules go r t task.senders.items after.senders.items g.sender (source task.state.memory copy) refl copyable-then.target senders atomic carries
             (λ s at.
             g.change s (ap (λ (xs : List SendingEnd). slice_get xs to) ends ∙ at)
             ∙ (λ k. with_message (unit-then k) copy.message (source (p.others k).state.memory copy) s))
@@ -288,7 +288,7 @@ module _ (script : Script) (rules : Rules) (t : ℕ) (task : Task) (r : Run) (i 
       let size : count ≡ fragment_count script go = counted ∙ ap (λ (u : ℕ). fragments_in u copy.message.length) (ap task_unit p.others ∙ unit-here) ∙ sym (count-is script rules go) in
       let s = copied-stands popped after p g in
       record {
-        calls = record { supported = s.calls.supported; rules_valid = s.calls.rules_valid; sizes = s.calls.sizes; statements = s.calls.statements; limits = s.calls.limits };
+        calls = calls-kept script rules t after (record after { unfinished = record after.unfinished { left = slice_set after.unfinished.left i count } }) refl refl refl refl s.calls;
         holds = s.holds;
         unfinished = subst (λ (u : Unfinished). Tracks script rules t u (record r { journal = L })) (λ k. record { undone = (sym same k).undone; left = slice_set (sym same k).left i (sym size k) }) tracks-then;
         sender_count = s.sender_count;
@@ -297,36 +297,52 @@ module _ (script : Script) (rules : Rules) (t : ℕ) (task : Task) (r : Run) (i 
         receivers = s.receivers;
       }
 
--- ---- the first number, taken off its list
+  -- ---- the task whose list lacks the number
 
-pub popped-is : (o : Option ℕ) (old new rest : List ℕ) (x i : ℕ) → old ≡ option_to_list o ++ new → o ≡ Some x → old ≡ i ∷ rest → (x ≡ i) × (new ≡ rest)
-popped-is None old new rest x i made is first = absurd (cc)
-popped-is (Some y) old new rest x i made is first =
-    let same : y ∷ new ≡ i ∷ rest = sym made ∙ first in
-    ((let q : x ≡ i = cc in q), (let q : new ≡ rest = cc in q))
+  module _ (popped : Task) (p : IsPopped task popped rest) where
+    pub popped-number : popped.state.number ≡ t
+    popped-number = ap (λ (x : Task). x.state.number) p.others ∙ h.stands.holds.number
 
-module _ (script : Script) (rules : Rules) (t : ℕ) (task : Task) (r : Run) (i : ℕ) (rest : List ℕ) (h : CopiesNext script rules t task r i rest) where
-  -- the statement is there,
-  there : (s : Statement) × (slice_get task.statements i ≡ Some s) × (statement script t i ≡ s)
-  there =
-      let some = get-some (statements script t) i (within-list script rules t task r i rest h) in
-      (some.0, ap (λ (list : List Statement). slice_get list i) h.stands.calls.statements ∙ some.1, statement-is script t i some.0 some.1)
+    pub popped-asked : length popped.state.collective.tables.rounds ≡ MOST_ROUNDS
+    popped-asked = ap (λ (x : Task). length x.state.collective.tables.rounds) p.others ∙ h.stands.holds.rounds.tables.size
 
-  pub no-statement : (x : ℕ) (o : Option Statement) → x ≡ i → o ≡ slice_get task.statements x → o ≡ None → ⊥
-  no-statement x o at made is = let e : None ≡ Some there.0 = sym is ∙ made ∙ ap (slice_get task.statements) at ∙ there.1 in absurd (cc)
+    popped-statements : popped.statements ≡ statements script t
+    popped-statements = ap (λ (x : Task). x.statements) p.others ∙ h.stands.calls.statements
 
-  -- and is the record's,
-  pub found : (x : ℕ) (s : Statement) → x ≡ i → Some s ≡ slice_get task.statements x → s ≡ statement script t i
-  found x s at made = let e : Some s ≡ Some there.0 = made ∙ ap (slice_get task.statements) at ∙ there.1 in (let q : s ≡ there.0 = cc in q) ∙ sym there.2
+    -- finds the statement,
+    pub popped-some : (o : Option Statement) → o ≡ slice_get popped.statements i → o ≡ None → ⊥
+    popped-some o made is = no-statement script t i popped.statements popped-statements within-list o made is
 
-  -- which may be copied.
-  pub found-data : (x : ℕ) (s : Statement) → x ≡ i → Some s ≡ slice_get task.statements x → ValidStatement s × (is_data s ≡ true)
-  found-data x s at made = subst (λ (s : Statement). ValidStatement s × (is_data s ≡ true)) (sym (found x s at made)) (is-valid script rules t task r i rest h, has-data script rules t task r i rest h)
+    module _ (s : Statement) (at : Some s ≡ slice_get popped.statements i) where
+      same : s ≡ statement script t i
+      same = found script t i popped.statements popped-statements within-list s at
 
-  pub found-sendable : (number x : ℕ) (s : Statement) → number ≡ t → x ≡ i → Some s ≡ slice_get task.statements x → IsSendable no_round no_entry number s
-  found-sendable number x s same at made =
-      subst (λ (a : ℕ). IsSendable no_round no_entry a s) (sym same)
-      (subst (IsSendable no_round no_entry t) (sym (found x s at made)) (is-sendable script rules t task r i rest h))
+      -- which may be copied,
+      pub found-data : ValidStatement s × (is_data s ≡ true)
+      found-data = subst (λ (s : Statement). ValidStatement s × (is_data s ≡ true)) (sym same) (statement-valid script h.stands.calls.valid t i, waiting.0)
 
-  pub found-copy : (number x : ℕ) (s : Statement) (c : DataCopy) → number ≡ t → x ≡ i → Some s ≡ slice_get task.statements x → ((script : Script) → s ≡ statement script number x → c ≡ copy_of script number x) → c ≡ copy_of script t i
-  found-copy number x s c same at listed made = made script (found x s at listed ∙ (λ k. statement script (sym same k) (sym at k))) ∙ (λ k. copy_of script (same k) (at k))
+      pub found-sendable : IsSendable (knows_round popped.state.collective) (address_given popped.state.collective) popped.state.number s
+      found-sendable =
+          subst (λ (x : Task). IsSendable (knows_round x.state.collective) (address_given x.state.collective) x.state.number s) (sym p.others)
+          (subst (λ (a : ℕ). IsSendable (knows_round known) (address_given known) a s) (sym h.stands.holds.number)
+          (subst (IsSendable (knows_round known) (address_given known) t) (sym same) is-sendable))
+
+      -- and its copy is the record's.
+      pub found-copy : (c : DataCopy) → ((script : Script) → IsCall script (knows_round popped.state.collective) (address_given popped.state.collective) popped.state.number i s → c ≡ copy_of script popped.state.number i) → c ≡ copy_of script t i
+      found-copy c made =
+          made script (record {
+            is_statement = same ∙ ap (λ a. statement script a i) (sym popped-number);
+            are_given = subst (λ (x : Task). AreGiven script (knows_round x.state.collective) (address_given x.state.collective)) (sym p.others) given;
+          })
+          ∙ ap (λ a. copy_of script a i) popped-number
+
+    -- After the copy, what was told of its fragments, and the event:
+    pub has-copied : (after : Task) (u : Unfinished) (old new : List Event) → IsCopied (task_unit popped) copy popped after → (count : ℕ) → count ≡ fragments_in (task_unit popped) copy.message.length → u ≡ record after.unfinished { left = slice_set after.unfinished.left i count } → new ≡ old ++ Copy go ∷ [] → HasCopied script rules t r i rest (record after { unfinished = u }) old new
+    has-copied after u old new g count counted same put = record {
+      added = put ∙ ap (λ (es : List Event). old ++ es) (sym copies-are);
+      left = ap (λ (x : Task). x.state.uncopied.items) g.rest ∙ p.list;
+      stands =
+          subst (λ (K : List Event). StandsFor script rules t (record after { unfinished = u }) (record r { journal = K })) (sym then-is)
+          (subst (λ (v : Unfinished). StandsFor script rules t (record after { unfinished = v }) (record r { journal = L })) (sym same)
+          (copied-counted popped after count p g counted));
+    }

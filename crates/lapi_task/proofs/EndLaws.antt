@@ -98,7 +98,7 @@ module _ (script : Script) (rules : Rules) (t : ℕ) (before : Task) (r : Run) (
 
   -- The record after it.
   silent : after_end script rules m ≡ noted m (cmpl_counter s)
-  silent = cond-false _ _ (noted m (cmpl_counter s)) (no-answers script rules at.stands.calls.supported.valid at.stands.calls.rules_valid m)
+  silent = cond-false _ _ (noted m (cmpl_counter s)) (no-answers script rules at.stands.calls.valid at.stands.calls.rules_valid m)
 
   ends : end script rules r t f.worker ≡ reply_with script rules (with_events script rules r (ended ∷ noted m (cmpl_counter s))) Did
   unfolding end
@@ -136,14 +136,14 @@ module _ (script : Script) (rules : Rules) (t : ℕ) (before : Task) (r : Run) (
   pub link-there : (m.origin < length before.senders.items) × (task_unit before ≤ 256)
   link-there = (
     (let n = at.stands.sender_count in let l = origin-known in omega (arith, n, l)),
-    (let e = unit-is script rules t before at.stands.calls in let u = first-unit script at.stands.calls.supported.valid in omega (arith, e, u)),
+    (let e = unit-is script rules t before at.stands.calls in let u = first-unit script at.stands.calls.valid in omega (arith, e, u)),
   )
 
   pub note-leaves : (c : ℕ) → cmpl_counter s ≡ Some c → MayLeave (task_unit before) (end_note before.state.number m c)
   note-leaves c e =
       subst (λ (u : ℕ). MayLeave u (end_note before.state.number m c)) (sym (unit-is script rules t before at.stands.calls))
       (subst (λ (n : ℕ). MayLeave (unit_of script) (end_note n m c)) (sym at.stands.holds.number)
-      (may-leave script rules at.stands.calls.supported at.stands.calls.rules_valid (ended ∷ J) t m.origin (end_note t m c) (notice-follows script rules t m begun.0 c e (ended ∷ J)) (atomic-noted c e)))
+      (may-leave script rules at.stands.calls.valid at.stands.calls.rules_valid (ended ∷ J) t m.origin (end_note t m c) (notice-follows script rules t m begun.0 c e (ended ∷ J)) (atomic-noted c e)))
 
   -- What the task holds then.
   abbrev mid : (jobs : Works) (memory counters : List ℕ) → State
@@ -181,7 +181,7 @@ module _ (script : Script) (rules : Rules) (t : ℕ) (before : Task) (r : Run) (
     stands-from L after same holds tracks count links =
         let h = at.stands in
         subst (λ (x : Task). StandsFor script rules t x (record r { journal = L })) (sym same) (record {
-          calls = record { supported = h.calls.supported; rules_valid = h.calls.rules_valid; sizes = h.calls.sizes; statements = h.calls.statements; limits = h.calls.limits };
+          calls = record { valid = h.calls.valid; rules_valid = h.calls.rules_valid; sizes = h.calls.sizes; statements = h.calls.statements; limits = h.calls.limits; rounds = h.calls.rounds };
           holds = holds;
           unfinished = tracks;
           sender_count = count;

@@ -1,34 +1,25 @@
 -- What the step of a fence does.
-use Rattle.std.proofs.Common.{◌≡◌, ℕ, suc, true, false, List, [], ◌∷◌, ◌++◌, length, Some, None, refl, sym, ap, ◌∙◌, subst, arith}
-use Rattle.std.specs.Prelude.{slice_get, slice_index}
+use Rattle.std.proofs.Common.{◌≡◌, ℕ, true, false, List, [], ◌∷◌, ◌++◌, Some, None, refl, sym, ap, ◌∙◌, subst}
+use Rattle.std.specs.Prelude.{slice_get}
 use Rattle.lapi_base.specs.declared.script.Script.{Script}
 use Rattle.lapi_base.specs.declared.rule.Rules.{Rules}
-use Rattle.lapi_base.specs.declared.statement.Statement.{Statement}
-use Rattle.lapi_base.specs.declared.statement.Statement.TheVariants.{Fence}
+use Rattle.lapi_base.specs.declared.statement.Statement.TheVariants.{Fence, Wait}
 use Rattle.lapi_base.specs.declared.event.Event.{Event}
 use Rattle.lapi_base.specs.declared.event.Event.TheVariants.{Pass}
 use Rattle.lapi_base.specs.declared.reply.Reply.TheVariants.{Did, Blocked}
 use Rattle.lapi_base.specs.Record.Acts.{step, event_if, add_event, reply_with}
-use Rattle.lapi_base.specs.Record.Counters.{count, passed_count}
-use Rattle.lapi_base.specs.Record.Names.{Issued}
-use Rattle.lapi_base.specs.Record.Operations.{statement, statements}
-use Rattle.lapi_base.specs.Record.Refusals.{next}
+use Rattle.lapi_base.specs.Record.Operations.{statement}
 use Rattle.lapi_base.specs.Record.Wires.{Run, data_clear}
-use Rattle.lapi_base.proofs.BelowLaws.{below-same}
-use Rattle.lapi_base.proofs.NameLaws.{happened-other}
 use Rattle.lapi_task.specs.declared.outcome.Outcome.{Outcome}
 use Rattle.lapi_task.specs.declared.state.State.{State}
 use Rattle.lapi_task.specs.declared.task.Task.{Task}
 use Rattle.lapi_task.specs.HasEffect.{IsAt, HasEffect}
-use Rattle.lapi_task.specs.StandsFor.{is_uncopied, HoldsFor}
 use Rattle.lapi_task.specs.Steps.{IsPassed}
-use Rattle.lapi_task.specs.Supported.{IsSupported}
-use Rattle.lapi_task.proofs.JobsStay.{jobs-stay}
-use Rattle.lapi_task.proofs.StepFields.{after-pass, reads-pass, uncopied-same}
-use Rattle.lapi_task.proofs.StepLaws.{FindsReason, stepped, step-by, named, is, here, found-reason, pass-quiet, quiet-tracks, does-event, does-nothing}
-use Rattle.lapi_task.proofs.StepMemories.{memory-none}
+use Rattle.lapi_base.specs.Record.Valid.{ValidScript}
+use Rattle.lapi_task.proofs.StepFields.{stood-holds}
+use Rattle.lapi_task.proofs.StepLaws.{FindsReason, atomic, stepped, step-by, named, is, here, found-reason, pass-quiet, quiet-tracks, does-event, does-nothing}
 
-module _ (script : Script) (rules : Rules) (p : IsSupported script) (before : Task) (t : ℕ) (r : Run) (at : IsAt script rules t before r) (found : slice_get before.statements before.state.next ≡ Some Fence) (accepted : FindsReason before Fence None) where
+module _ (script : Script) (rules : Rules) (p : ValidScript script) (before : Task) (t : ℕ) (r : Run) (at : IsAt script rules t before r) (found : slice_get before.statements before.state.next ≡ Some Fence) (accepted : FindsReason before Fence None) where
   abbrev place : ℕ
   place = before.state.next
 
@@ -48,37 +39,16 @@ module _ (script : Script) (rules : Rules) (p : IsSupported script) (before : Ta
       step-by script rules p r t place Fence at.stands.holds.next (here script rules p before t r at Fence found) (found-reason script rules p before t r at Fence found None accepted)
       ∙ ap (λ b. add_event script rules r (event_if script rules b (Pass t place))) h
 
-  count-fence : (c : ℕ) → count script rules (Pass t place ∷ J) t c ≡ count script rules J t c
-  unfolding count
-  count-fence c = ap (λ (s : Statement). passed_count script rules s t t c (count script rules J t c)) is-fence
-
-  holds-then : (after : State) (old new : List Event) → IsPassed before.state after old new → HoldsFor script rules t after (Pass t place ∷ J)
-  holds-then after old new g =
-      let h = at.stands.holds in
-      let step = g.past.next in
-      let was = h.next in
-      let e = Pass t place in
-      let past = after-pass script rules t J place in
-      record {
-        number = g.past.number ∙ h.number;
-        next = (let x : after.next ≡ suc (next J t) = omega (arith, step, was) in x) ∙ sym past.0;
-        ahead = λ k l. happened-other (Issued t k) e J refl ∙ h.ahead k (omega (arith, l, step));
-        reads = ap (λ (x : State). x.reads.items) g.rest ∙ h.reads ∙ sym (reads-pass script rules t J place);
-        refusals = ap (λ (x : State). x.refusals.items) g.rest ∙ h.refusals ∙ sym past.1;
-        memory = ap (λ (x : State). x.memory) g.rest ∙ h.memory ∙ sym (memory-none script rules e J t refl);
-        counter_count = ap (λ (x : State). length x.counters) g.rest ∙ h.counter_count;
-        counters = λ c l. ap (λ (x : State). slice_index x.counters c) g.rest ∙ h.counters c l ∙ sym (count-fence c);
-        uncopied = ap (λ (x : State). x.uncopied.items) g.rest ∙ h.uncopied ∙ below-same (length (statements script t)) (is_uncopied script J t) (is_uncopied script (e ∷ J) t) (λ k _. uncopied-same script rules t J e k refl refl);
-        jobs = jobs-stay script rules t e J before.state.jobs after.jobs tt (ap (λ (x : State). x.jobs) g.rest) h.jobs;
-      }
+  no-wait : (counter value : ℕ) → statement script t place ≡ Wait counter value → ⊥
+  no-wait counter value e = let same : Fence ≡ Wait counter value = sym is-fence ∙ e in cc
 
   -- It passes where the data before it are done,
   pub fence-passes : (after : State) (old new : Outcome) → data_clear script r t place ≡ true → new.entries ≡ old.entries → IsPassed before.state after old.events new.events → HasEffect script rules t r (step script rules r t) (record before { state = after }) old new
   fence-passes after old new clear same g =
       subst (λ x. HasEffect script rules t r x (record before { state = after }) old new) (sym (fenced clear))
       (does-event script rules t r (Pass t place) before after before.unfinished old new (pass-quiet script rules t place J) at.stands
-      (named script rules p before t r at Pass after old.events new.events g.past) same
-      (holds-then after old.events new.events g)
+      (named script rules p before t r at Pass old.events new.events g.past.events) same
+      (stood-holds script rules t J before.state after old.events new.events no-wait at.stands.holds g (atomic script rules p before t r at))
       (quiet-tracks script rules t r (Pass t place) before.unfinished (pass-quiet script rules t place J) (λ i. (refl, refl, refl)) at.stands.unfinished))
 
   pub fence-replies : data_clear script r t place ≡ true → (step script rules r t).replies ≡ r.replies ++ Did ∷ []

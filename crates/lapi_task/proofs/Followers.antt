@@ -25,7 +25,7 @@ use Rattle.lapi_base.specs.Record.HeadSays.{back_head, note_head, asked_pieces, 
 use Rattle.lapi_base.specs.Record.Names.{message, name_eq}
 use Rattle.lapi_base.specs.Record.Operations.{fragment_count, message_length}
 use Rattle.lapi_base.specs.Record.Packets.{data_packet}
-use Rattle.lapi_base.specs.Record.Valid.{ValidRules}
+use Rattle.lapi_base.specs.Record.Valid.{ValidRules, ValidScript}
 use Rattle.lapi_base.specs.Record.Values.{values, memory_bytes}
 use Rattle.lapi_base.specs.Record.Wires.{Run, IsEntry, is_delivered}
 use Rattle.lapi_base.specs.Record.WorldView.{IsRecord, performed}
@@ -46,7 +46,6 @@ use Rattle.lapi_parts.proofs.SpelledPackets.{message-spelled}
 use Rattle.lapi_task.specs.Answered.{completes_in}
 use Rattle.lapi_task.specs.Landed.{Follower, note_of, back_of, note_now, follower, MayLeave, called, events_of}
 use Rattle.lapi_task.specs.Outgoing.{outgoing, packet_of}
-use Rattle.lapi_task.specs.Supported.{IsSupported}
 use Rattle.lapi_task.proofs.Landings.{picked-is}
 use Rattle.lapi_task.proofs.MessageCopies.{packet-is}
 use Rattle.lapi_task.proofs.HeaderAnswers.{is-told}
@@ -83,21 +82,21 @@ module _ (script : Script) (rules : Rules) where
   note-carries m J = let n = message m.origin m.statement Note in sym (cond-true (name_eq n n) [] (carried script rules J n) (name_eq-refl n))
 
   -- It may leave, once it is copied.
-  pub may-leave : IsSupported script → ValidRules rules → (before : List Event) (t a : ℕ) (x : Follower) → Follows before t a x → Atomic script rules (Copy x.packet.name ∷ before) → MayLeave (unit_of script) x
+  pub may-leave : ValidScript script → ValidRules rules → (before : List Event) (t a : ℕ) (x : Follower) → Follows before t a x → Atomic script rules (Copy x.packet.name ∷ before) → MayLeave (unit_of script) x
   unfolding fragment_count
-  may-leave supported ok before t a x f atomic =
+  may-leave valid ok before t a x f atomic =
       let m = x.packet.name in
       let K = Copy m ∷ before in
       let copied = happened-head (Copy m) before in
       let size : message_length script m ≡ x.packet.length = ap (λ (o : DataPacket). o.length) f.is in
       let short = copied-short script rules K m atomic copied in
-      let longest = first-longest script supported.valid in
-      let unit = first-unit script supported.valid in
+      let longest = first-longest script valid in
+      let unit = first-unit script valid in
       record {
         size = ap length f.bytes ∙ carried-length script rules K m atomic copied ∙ size;
         short = omega (arith, short, longest, unit, size);
         spelled = λ n j few lj.
-            let spells = message-spelled script rules supported.valid ok K m n j atomic copied few (subst (λ (o : DataPacket). j < fragments_in (unit_of script) o.length) (sym f.is) lj) in
+            let spells = message-spelled script rules valid ok K m n j atomic copied few (subst (λ (o : DataPacket). j < fragments_in (unit_of script) o.length) (sym f.is) lj) in
             subst HasSpelling (packet-is script rules m n j (carried script rules K m) ∙ (λ i. packet_of (f.is i) (unit_of script) n j (sym f.bytes i))) (_, spells);
       }
 
@@ -172,7 +171,7 @@ module _ (script : Script) (rules : Rules) where
       follower-is x e = follower-by (back_head p.head) (note_now p.head later) refl refl x e
 
       -- What follows may leave, whatever was answered to the header.
-      module _ (supported : IsSupported script) (ok : ValidRules rules) (atomic : Atomic script rules (followed r.journal (events_now script rules t r a p))) where
+      module _ (valid : ValidScript script) (ok : ValidRules rules) (atomic : Atomic script rules (followed r.journal (events_now script rules t r a p))) where
         note-leaves : (head : Head) → note_head p.head ≡ Some head → MayLeave (unit_of script) (note_of t a p.name head)
         unfolding fragment_count
         note-leaves head e =
@@ -182,7 +181,7 @@ module _ (script : Script) (rules : Rules) where
               size = refl;
               short = omega arith;
               spelled = λ n j few lj.
-                  let spells = note-spelled script rules supported.valid ok r is a t k p head entry e n j few (subst (λ (o : DataPacket). j < fragments_in (unit_of script) o.length) (sym f.is) lj) in
+                  let spells = note-spelled script rules valid ok r is a t k p head entry e n j few (subst (λ (o : DataPacket). j < fragments_in (unit_of script) o.length) (sym f.is) lj) in
                   subst HasSpelling (packet-is script rules m n j [] ∙ (λ i. packet_of (f.is i) (unit_of script) n j [])) (_, spells);
             }
 
@@ -190,7 +189,7 @@ module _ (script : Script) (rules : Rules) where
         unfolding followed
         back-leaves head e =
             let x = back_of t a p.name (asked_pieces p.head) memory head in
-            may-leave supported ok J t a x (back-follows head e)
+            may-leave valid ok J t a x (back-follows head e)
             (subst (Atomic script rules) (copied-then (Some x) (back-given later head e)) atomic)
 
         leaves-by : (c : Bool) (ob on : Option Head) → back_head p.head ≡ ob → note_now p.head c ≡ on → (x : Follower) → option_or (option_map (back_of t a p.name (asked_pieces p.head) memory) ob) (option_map (note_of t a p.name) on) ≡ Some x → MayLeave (unit_of script) x

@@ -6,6 +6,10 @@ pub mod ArrivingAcks
 pub mod ArrivingData
 pub mod ArrivingFits
 pub mod BeginLaws
+pub mod CallsStay
+pub mod CompleteRounds
+pub mod CopyFirst
+pub mod CopyJoins
 pub mod CopyLaws
 pub mod CopyLists
 pub mod CopyParts
@@ -13,6 +17,9 @@ pub mod CopySendable
 pub mod EffectLaws
 pub mod EndLaws
 pub mod EndNotes
+pub mod EnterFields
+pub mod EnterSteps
+pub mod EnteredCalls
 pub mod FenceLaws
 pub mod FenceSteps
 pub mod FollowerParts
@@ -22,7 +29,10 @@ pub mod HeaderAnswers
 pub mod JobCounts
 pub mod JobsLand
 pub mod JobsStay
+pub mod JoinSteps
+pub mod JoinsLand
 pub mod KeptAnswers
+pub mod KnownRounds
 pub mod Landings
 pub mod MessageCopies
 pub mod MessagePackets
@@ -38,6 +48,9 @@ pub mod ReceiveHolds
 pub mod ReceiveKinds
 pub mod ReceiveLaws
 pub mod ReceiveLinks
+pub mod ReceiveSuits
+pub mod RoundNumbers
+pub mod RoundsStay
 pub mod SenderLaws
 pub mod StepFields
 pub mod StepLaws
@@ -46,6 +59,7 @@ pub mod StillLaws
 pub mod Tags
 pub mod TickLaws
 pub mod TimesLaws
+pub mod UncopiedLaws
 pub mod UnfinishedAcks
 pub mod UnfinishedLaws
 pub mod WorkStays

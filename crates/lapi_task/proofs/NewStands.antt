@@ -1,8 +1,8 @@
 -- A task before its first statement.
-use Rattle.std.proofs.Common.{◌≡◌, ℕ, zero, suc, ◌<◌, ◌^◌, false, replicate, [], length, None, refl, sym, ap, ◌∙◌, subst, arith}
+use Rattle.std.proofs.Common.{◌≡◌, ℕ, zero, suc, ◌<◌, ◌^◌, ◌==◌, false, cond, List, replicate, [], length, Option, Some, None, refl, sym, ap, ◌∙◌, subst, arith}
 use Rattle.std.specs.Prelude.{slice_get, slice_index, nat_lt}
 use Rattle.std.specs.List.{AllByRecursion}
-use Rattle.std.proofs.lemmas.Bool.{and_right, le-ltb, false≢true}
+use Rattle.std.proofs.lemmas.Bool.{and_right, cond_both, le-ltb, false≢true}
 use Rattle.std.proofs.lemmas.List.{length-replicate, get_or-replicate}
 use Rattle.lapi_base.specs.declared.script.Script.{Script}
 use Rattle.lapi_base.specs.declared.rule.Rules.{Rules}
@@ -10,9 +10,9 @@ use Rattle.lapi_base.specs.Record.Counters.{count, reads}
 use Rattle.lapi_base.specs.Record.Jobs.{landed_jobs, queue, runs}
 use Rattle.lapi_base.specs.Packet.Layout.{sizes_of, window_of, unit_of}
 use Rattle.lapi_base.specs.Record.Names.{happened}
-use Rattle.lapi_base.specs.Record.Operations.{statements, statement, is_data}
+use Rattle.lapi_base.specs.Record.Operations.{statements, statement, is_data, table_rounds, entry}
 use Rattle.lapi_base.specs.Record.Wires.{start, numbered, has_number, has_ack}
-use Rattle.lapi_base.specs.Record.Refusals.{next, refusals}
+use Rattle.lapi_base.specs.Record.Refusals.{next, refusals, gfence_rounds}
 use Rattle.lapi_jobs.specs.Jobs.{Works, run_by}
 use Rattle.lapi_link.specs.Sender.{SendingEnd, IsNewSender}
 use Rattle.lapi_task.specs.declared.state.State.{State}
@@ -20,6 +20,10 @@ use Rattle.lapi_task.specs.declared.task.Task.{Task}
 use Rattle.lapi_task.specs.Sends.{packet_at, SendsFor}
 use Rattle.lapi_task.specs.StandsFor.{HasCalls, IsNewState, SenderAt, ReceiverAt, is_uncopied, HoldsFor, StandsFor}
 use Rattle.lapi_link.specs.Receiver.{IsNewReceiver}
+use Rattle.lapi_collect.specs.Rounds.{Joins}
+use Rattle.lapi_task.specs.declared.collective.Collective.{Collective}
+use Rattle.lapi_task.specs.HasRounds.{knows_join, AreJoined, HasRounds, AreNewRounds, IsNewCollective}
+use Rattle.lapi_task.proofs.UncopiedLaws.{nothing-yet}
 use Rattle.lapi_task.proofs.StepMemories.{memory-blank}
 use Rattle.lapi_base.proofs.BelowLaws.{below-none}
 use Rattle.lapi_base.proofs.ListLaws.{all-get, get-some}
@@ -40,7 +44,28 @@ pub record IsNew (script : Script) (rules : Rules) (t : ℕ) (task : Task) : Typ
 module _ (script : Script) (rules : Rules) where
   nothing-uncopied : (t k : ℕ) → is_uncopied script [] t k ≡ false
   unfolding happened
-  nothing-uncopied t k = and_right (is_data (statement script t k)) false refl
+  nothing-uncopied t k = nothing-yet script t [] k refl refl
+
+  -- nobody is known to have joined a round
+  none-known : (t d : ℕ) (o : Option ℕ) → knows_join [] t d o ≡ false
+  unfolding happened
+  none-known t d None = cond_both (d == t) false false (λ b. b ≡ false) (λ _. refl) (λ _. refl)
+  none-known t d (Some i) = cond_both (d == t) false false (λ b. b ≡ false) (λ _. refl) (λ _. refl)
+
+  none-joined : (t : ℕ) (rounds : (task : ℕ) → List ℕ) (value : (round task : ℕ) → ℕ) (joins : Joins) → AreNewRounds script.tasks joins → AreJoined script t rounds value joins []
+  none-joined t rounds value joins h = record {
+    tasks = h.tasks;
+    size = h.size;
+    joined = λ d round. h.none d round ∙ sym (ap (λ b. cond b (Some (value round d)) None) (none-known t d (slice_get (rounds d) round)));
+  }
+
+  new-rounds : (t : ℕ) (c : Collective) → IsNewCollective script.tasks c → HasRounds script t c []
+  unfolding happened
+  new-rounds t c h = record {
+    entered = h.entered;
+    fences = none-joined t (gfence_rounds script) (λ _ _. 0) c.fences h.fences;
+    tables = none-joined t (table_rounds script) (entry script) c.tables h.tables;
+  }
 
   new-holds : (t : ℕ) (state : State) → IsNewState (sizes_of script) t state → HoldsFor script rules t state []
   unfolding next happened reads refusals count runs queue landed_jobs
@@ -60,6 +85,7 @@ module _ (script : Script) (rules : Rules) where
       workers = ap (λ (x : Works). length x.workers) h.jobs ∙ length-replicate script.workers None;
       running = λ w l. ap (λ (x : Works). run_by x w) h.jobs ∙ get_or-replicate script.workers w None None l;
     };
+    rounds = new-rounds t state.collective h.rounds;
   }
 
   fresh-sends : (a b : ℕ) (s : SendingEnd) → IsNewSender (window_of script) s → SendsFor script rules s start a b

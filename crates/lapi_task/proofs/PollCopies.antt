@@ -1,92 +1,103 @@
--- The copies of a poll, one after another.
+-- The copies of a poll, one statement after another.
 use Rattle.std.proofs.Common.{◌≡◌, ℕ, ◌+◌, ◌<◌, ◌≤◌, List, [], ◌∷◌, ◌++◌, length, refl, sym, ap, ◌∙◌, subst, arith, append_assoc}
-use Rattle.std.proofs.lemmas.List.{append-nil, length-append, map-append}
+use Rattle.std.proofs.lemmas.Grind.{flat_map-append}
+use Rattle.std.proofs.lemmas.List.{append-nil, length-append}
 use Rattle.lapi_base.specs.declared.script.Script.{Script}
 use Rattle.lapi_base.specs.declared.rule.Rules.{Rules}
 use Rattle.lapi_base.specs.declared.event.Event.{Event}
-use Rattle.lapi_base.specs.declared.event.Event.TheVariants.{Copy}
-use Rattle.lapi_base.specs.declared.message.Leg.TheVariants.{Go}
 use Rattle.lapi_base.specs.Record.Atomic.{Atomic}
 use Rattle.lapi_base.specs.Record.Below.{below}
-use Rattle.lapi_base.specs.Record.Names.{message}
 use Rattle.lapi_base.specs.Record.Operations.{statements}
 use Rattle.lapi_base.specs.Record.Wires.{Run, numbered}
 use Rattle.lapi_base.specs.Record.Acts.{followed, copy_each, ready, poll}
+use Rattle.lapi_base.proofs.ListLaws.{flat_map-push}
 use Rattle.lapi_laws.proofs.Lines.{poll-sound}
 use Rattle.lapi_laws.proofs.Once.{atomic-end}
+use Rattle.lapi_laws.proofs.SentWindow.{grows-cons}
+use Rattle.lapi_parts.proofs.CopiedJoins.{joins-together}
+use Rattle.lapi_parts.proofs.Receivable.{sent-numbers, acked-sent}
 use Rattle.lapi_parts.proofs.Records.{record-sound}
 use Rattle.lapi_task.specs.declared.task.Task.{Task}
-use Rattle.lapi_task.specs.Copies.{CopiesNext, AllCopied}
+use Rattle.lapi_task.specs.Copies.{copies_of, CopiesNext, HasCopied, AllCopied}
 use Rattle.lapi_task.specs.HasEffect.{IsAt}
-use Rattle.lapi_task.specs.Supported.{IsSupported}
 use Rattle.lapi_task.specs.StandsFor.{is_uncopied, StandsFor}
-use Rattle.lapi_task.proofs.CopyLists.{copies, copies-push, followed-append, followed-none, followed-push, copies-all}
-use Rattle.lapi_laws.proofs.SentWindow.{grows-cons}
-use Rattle.lapi_parts.proofs.Receivable.{sent-numbers, acked-sent}
+use Rattle.lapi_task.proofs.CopyLists.{copies, all_copies, followed-append, followed-none, followed-push, ends-in, to-copy-later, copies-all}
 
--- the statements of a list were copied, and others wait
+-- the messages of the statements of a list were copied, and others wait
 pub record SomeCopied (script : Script) (rules : Rules) (t : ℕ) (r : Run) (task : Task) (old new : List Event) (turns : ℕ) : Type 0 where
   pub copied : List ℕ
   pub count : length copied ≡ turns
   pub listed : below (length (statements script t)) (is_uncopied script r.journal t) ≡ copied ++ task.state.uncopied.items
-  pub added : new ≡ old ++ copies t copied
-  pub stands : StandsFor script rules t task (record r { journal = followed r.journal (copies t copied) })
+  pub added : new ≡ old ++ all_copies script r.journal t copied
+  pub stands : StandsFor script rules t task (record r { journal = followed r.journal (all_copies script r.journal t copied) })
 
--- a journal that follows another ends in it
-ends-in : (es J : List Event) → (later : List Event) × (followed J es ≡ later ++ J)
-unfolding followed
-ends-in [] J = ([], refl)
-ends-in (e ∷ es) J = let x = ends-in es (e ∷ J) in (x.0 ++ e ∷ [], x.1 ∙ sym (append_assoc x.0 (e ∷ []) J))
+module _ (script : Script) (rules : Rules) (t : ℕ) (r : Run) where
+  abbrev J : List Event
+  J = r.journal
 
-module _ (script : Script) (rules : Rules) (perf : IsSupported script) (t : ℕ) (r : Run) where
+  abbrev then : List ℕ → List Event
+  then numbers = followed J (all_copies script J t numbers)
+
   pub none-copied : (task : Task) (events : List Event) → IsAt script rules t task r → SomeCopied script rules t r task events events 0
   none-copied task events at = record {
     copied = [];
     count = refl;
     listed = sym at.stands.holds.uncopied;
     added = sym (append-nil events);
-    stands = subst (λ (J : List Event). StandsFor script rules t task (record r { journal = J })) (sym (followed-none r.journal)) at.stands;
+    stands = subst (λ (K : List Event). StandsFor script rules t task (record r { journal = K })) (sym (followed-none J)) at.stands;
   }
 
-  polled-atomic : (first : Task) → IsAt script rules t first r → Atomic script rules (copy_each r.journal (ready script r.journal t))
+  polled-atomic : (first : Task) → IsAt script rules t first r → Atomic script rules (copy_each J (ready script J t))
   unfolding poll
   polled-atomic first at = (poll-sound script rules r t (record-sound script rules r at.recorded)).atomic
 
-  numbers-grow : (es J : List Event) (a b : ℕ) → length (numbered script J a b) ≤ length (numbered script (followed J es) a b)
+  polled-is : (first : Task) → IsAt script rules t first r → copy_each J (ready script J t) ≡ then (below (length (statements script t)) (is_uncopied script J t))
+  polled-is first at = copies-all script rules r (joins-together script rules r at.recorded) t
+
+  numbers-grow : (es K : List Event) (a b : ℕ) → length (numbered script K a b) ≤ length (numbered script (followed K es) a b)
   unfolding followed
-  numbers-grow [] J a b = omega arith
-  numbers-grow (e ∷ es) J a b = let one = grows-cons script rules e J a b in let rest = numbers-grow es (e ∷ J) a b in omega (arith, one, rest)
+  numbers-grow [] K a b = omega arith
+  numbers-grow (e ∷ es) K a b = let one = grows-cons script rules e K a b in let rest = numbers-grow es (e ∷ K) a b in omega (arith, one, rest)
+
+  -- what a statement may copy is the same after others were copied
+  later-same : (i : ℕ) (numbers : List ℕ) → copies_of script (then numbers) t i ≡ copies_of script J t i
+  later-same i numbers = ap copies (to-copy-later script t J J i numbers)
 
   -- the next one may be copied
-  pub copies-next : (first task : Task) (old new : List Event) (turns i : ℕ) (rest : List ℕ) → IsAt script rules t first r → (h : SomeCopied script rules t r task old new turns) → task.state.uncopied.items ≡ i ∷ rest → CopiesNext script rules t task (record r { journal = followed r.journal (copies t h.copied) }) i rest
+  pub copies-next : (first task : Task) (old new : List Event) (turns i : ℕ) (rest : List ℕ) → IsAt script rules t first r → (h : SomeCopied script rules t r task old new turns) → task.state.uncopied.items ≡ i ∷ rest → CopiesNext script rules t task (record r { journal = then h.copied }) i rest
   copies-next first task old new turns i rest at h list = record {
     known = at.known;
     stands = h.stands;
     first = list;
-    told = λ b n acked. let here = sent-numbers script rules r at.recorded t b n (acked-sent script rules r at.recorded t b n acked) in let more = numbers-grow (copies t h.copied) r.journal t b in omega (arith, here, more);
+    told = λ b n acked. let here = sent-numbers script rules r at.recorded t b n (acked-sent script rules r at.recorded t b n acked) in let more = numbers-grow (all_copies script J t h.copied) J t b in omega (arith, here, more);
     atomic =
-        let J = r.journal in
-        let whole : copy_each J (ready script J t) ≡ followed (followed J (copies t (h.copied ++ i ∷ []))) (copies t rest) =
-        copies-all script perf J t
-        ∙ ap (λ (is : List ℕ). followed J (copies t is)) (h.listed ∙ ap (λ (is : List ℕ). h.copied ++ is) list ∙ sym (append_assoc h.copied (i ∷ []) rest))
-        ∙ ap (followed J) (copies-both (h.copied ++ i ∷ []) rest)
-        ∙ followed-append J (copies t (h.copied ++ i ∷ [])) (copies t rest) in
-        let ends = ends-in (copies t rest) (followed J (copies t (h.copied ++ i ∷ []))) in
-        subst (Atomic script rules) (followed-push J t h.copied i)
-        (atomic-end script rules ends.0 (followed J (copies t (h.copied ++ i ∷ []))) (subst (Atomic script rules) (whole ∙ ends.1) (polled-atomic first at)));
+        let done = h.copied ++ i ∷ [] in
+        let whole : copy_each J (ready script J t) ≡ followed (then done) (all_copies script J t rest) =
+        polled-is first at
+        ∙ ap then (h.listed ∙ ap (λ (is : List ℕ). h.copied ++ is) list ∙ sym (append_assoc h.copied (i ∷ []) rest))
+        ∙ ap (followed J) (flat_map-append (copies_of script J t) done rest)
+        ∙ followed-append J (all_copies script J t done) (all_copies script J t rest) in
+        let ends = ends-in (all_copies script J t rest) (then done) in
+        subst (Atomic script rules) (followed-push script J J t h.copied i ∙ ap (followed (then h.copied)) (sym (later-same i h.copied)))
+        (atomic-end script rules ends.0 (then done) (subst (Atomic script rules) (whole ∙ ends.1) (polled-atomic first at)));
   }
-    where
-      copies-both : (xs ys : List ℕ) → copies t (xs ++ ys) ≡ copies t xs ++ copies t ys
-      copies-both xs ys = map-append (λ i. Copy (message t i Go)) xs ys
 
-  pub one-copied : (task after : Task) (old new newer : List Event) (turns i : ℕ) (rest : List ℕ) → (h : SomeCopied script rules t r task old new turns) → task.state.uncopied.items ≡ i ∷ rest → StandsFor script rules t after (record r { journal = Copy (message t i Go) ∷ followed r.journal (copies t h.copied) }) → newer ≡ new ++ Copy (message t i Go) ∷ [] → after.state.uncopied.items ≡ rest → SomeCopied script rules t r after old newer (turns + 1)
-  one-copied task after old new newer turns i rest h list stands event left = record {
-    copied = h.copied ++ i ∷ [];
-    count = length-append h.copied (i ∷ []) ∙ (let c = h.count in omega (arith, c));
-    listed = h.listed ∙ ap (λ (is : List ℕ). h.copied ++ is) (list ∙ ap (λ (is : List ℕ). i ∷ is) (sym left)) ∙ sym (append_assoc h.copied (i ∷ []) after.state.uncopied.items);
-    added = event ∙ ap (λ (es : List Event). es ++ Copy (message t i Go) ∷ []) h.added ∙ append_assoc old (copies t h.copied) (Copy (message t i Go) ∷ []) ∙ ap (λ (es : List Event). old ++ es) (sym (copies-push t h.copied i));
-    stands = subst (λ (J : List Event). StandsFor script rules t after (record r { journal = J })) (sym (followed-push r.journal t h.copied i)) stands;
-  }
+  pub one-copied : (task after : Task) (old new newer : List Event) (turns i : ℕ) (rest : List ℕ) → (h : SomeCopied script rules t r task old new turns) → task.state.uncopied.items ≡ i ∷ rest → HasCopied script rules t (record r { journal = then h.copied }) i rest after new newer → SomeCopied script rules t r after old newer (turns + 1)
+  one-copied task after old new newer turns i rest h list g =
+      let same = later-same i h.copied in
+      record {
+        copied = h.copied ++ i ∷ [];
+        count = length-append h.copied (i ∷ []) ∙ (let c = h.count in omega (arith, c));
+        listed = h.listed ∙ ap (λ (is : List ℕ). h.copied ++ is) (list ∙ ap (λ (is : List ℕ). i ∷ is) (sym g.left)) ∙ sym (append_assoc h.copied (i ∷ []) after.state.uncopied.items);
+        added =
+            g.added
+            ∙ (λ k. h.added k ++ same k)
+            ∙ append_assoc old (all_copies script J t h.copied) (copies_of script J t i)
+            ∙ ap (λ (es : List Event). old ++ es) (sym (flat_map-push (copies_of script J t) h.copied i));
+        stands =
+            subst (λ (K : List Event). StandsFor script rules t after (record r { journal = K }))
+            (ap (followed (then h.copied)) same ∙ sym (followed-push script J J t h.copied i)) g.stands;
+      }
 
   nothing-left : (xs ys : List ℕ) → length (xs ++ ys) ≡ length xs → ys ≡ []
   nothing-left xs [] e = refl
@@ -98,9 +109,9 @@ module _ (script : Script) (rules : Rules) (perf : IsSupported script) (t : ℕ)
       let total : length (h.copied ++ task.state.uncopied.items) ≡ length h.copied = ap length (sym h.listed ∙ sym at.stands.holds.uncopied) ∙ sym e ∙ sym h.count in
       let none = nothing-left h.copied task.state.uncopied.items total in
       record {
-        events = copies t h.copied;
+        events = all_copies script J t h.copied;
         added = h.added;
-        copied = ap (λ (is : List ℕ). followed r.journal (copies t is)) (sym (append-nil h.copied) ∙ ap (λ (is : List ℕ). h.copied ++ is) (sym none) ∙ sym h.listed) ∙ sym (copies-all script perf r.journal t);
+        copied = ap then (sym (append-nil h.copied) ∙ ap (λ (is : List ℕ). h.copied ++ is) (sym none) ∙ sym h.listed) ∙ sym (polled-is first at);
         stands = h.stands;
       }
 

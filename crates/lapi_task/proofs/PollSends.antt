@@ -32,6 +32,7 @@ use Rattle.lapi_task.specs.Copies.{AllCopied, AllSent, sent_now, packets_now}
 use Rattle.lapi_task.specs.HasEffect.{HasEffect}
 use Rattle.lapi_task.specs.Sends.{packet_at, spelled, SendsFor, of_end, entries_of}
 use Rattle.lapi_task.specs.StandsFor.{SenderAt, ReceiverAt, HoldsFor, StandsFor}
+use Rattle.lapi_task.proofs.CallsStay.{calls-kept}
 use Rattle.lapi_task.proofs.SenderLaws.{bytes-of-end, entries-within}
 use Rattle.lapi_task.proofs.StillLaws.{room}
 use Rattle.lapi_base.specs.Record.Valid.{ValidScript}
@@ -255,13 +256,7 @@ module _ (script : Script) (rules : Rules) (valid : ValidScript script) (t : ℕ
         events = h.events;
         entries = entries_of packets_now task.senders.items script.tasks;
         stands = record {
-          calls = record {
-            supported = stands.calls.supported;
-            rules_valid = stands.calls.rules_valid;
-            sizes = ap (λ (x : Task). x.sizes) rest ∙ stands.calls.sizes;
-            statements = ap (λ (x : Task). x.statements) rest ∙ stands.calls.statements;
-            limits = ap (λ (x : Task). x.limits) rest ∙ stands.calls.limits;
-          };
+          calls = calls-kept script rules t task after (ap (λ (x : Task). x.sizes) rest) (ap (λ (x : Task). x.statements) rest) (ap (λ (x : Task). x.limits) rest) (ap (λ (x : Task). x.rounds.items) rest) stands.calls;
           holds = subst (λ (x : State). HoldsFor script rules t x (copy_each r.journal (ready script r.journal t))) (sym (ap (λ (x : Task). x.state) rest)) stands.holds;
           unfinished = subst (λ (x : Task). Tracks script rules t x.unfinished (poll script rules r t)) (sym rest) (tracks-told script rules t task.unfinished (then_ script rules valid t r recorded) (poll script rules r t) refl (λ b n. refl) stands.unfinished);
           sender_count = sends.size ∙ stands.sender_count;

@@ -1,26 +1,21 @@
--- What a statement that isn't refused finds, and that a task has few statements and no round of addresses.
-use Rattle.std.proofs.Common.{◌≡◌, ℕ, ◌+◌, ◌<◌, ◌≤◌, true, false, List, [], ◌∷◌, length, None, refl, sym, ap, subst, ⊎_elim, arith, lit≤}
-use Rattle.std.specs.Prelude.{not, nat_le, nat_lt, slice_get}
+-- What a statement that isn't refused finds, and that a task has few statements.
+use Rattle.std.proofs.Common.{◌≡◌, ℕ, ◌+◌, ◌<◌, ◌≤◌, ◌||◌, true, false, List, [], ◌∷◌, length, None, refl, ap, subst, arith, lit≤}
+use Rattle.std.specs.Prelude.{not, nat_le, nat_lt}
 use Rattle.std.specs.List.{AllByRecursion, list_any}
-use Rattle.std.proofs.lemmas.Bool.{false≢true, not-false, or_parts, leb-true, ltb-true}
+use Rattle.std.proofs.lemmas.Bool.{false≢true, not-false, or_parts, leb-true, le-leb, ltb-true}
 use Rattle.lapi_base.specs.declared.piece.Piece.{Piece}
 use Rattle.lapi_base.specs.declared.statement.Statement.{Statement}
 use Rattle.lapi_base.specs.declared.statement.Statement.TheVariants as statements
 use Rattle.lapi_base.specs.declared.script.Script.{Script}
 use Rattle.lapi_base.specs.declared.rule.Rules.{Rules}
 use Rattle.lapi_base.specs.declared.event.Event.{Event}
-use Rattle.lapi_base.specs.Input.Built.{is_built_statement}
-use Rattle.lapi_base.specs.Record.Operations.{statement, address, target, origin_pieces, table_rounds, is_table}
+use Rattle.lapi_base.specs.Record.Operations.{statement, address, target, origin_pieces, has_join, is_gfence, is_table}
 use Rattle.lapi_base.specs.Record.Operations as operations
-use Rattle.lapi_base.specs.Record.Names.{happened, Passed}
-use Rattle.lapi_base.specs.Record.Refusals.{refusal_by, refusal_of, lies_within, counters_of, round_passed, option_any}
-use Rattle.lapi_base.specs.Record.Valid.{ValidStatement}
-use Rattle.lapi_base.proofs.BelowLaws.{below-none}
+use Rattle.lapi_base.specs.Record.Refusals.{refusal_by, refusal_of, lies_within, counters_of}
+use Rattle.lapi_base.specs.Record.Valid.{ValidStatement, ValidScript}
 use Rattle.lapi_base.proofs.ListLaws.{all-or}
 use Rattle.lapi_laws.proofs.Shorts.{none-tests}
 use Rattle.lapi_task.specs.Steps.{MayStep}
-use Rattle.lapi_task.specs.Supported.{IsSupported}
-use Rattle.lapi_task.proofs.Forms.{forms}
 
 module _ (script : Script) (rules : Rules) (J : List Event) (a i : ℕ) (accepted : refusal_of script rules J a i ≡ None) where
   no-outside : list_any (λ (p : Piece). not (lies_within script (target script a i) p)) (origin_pieces (statement script a i)) ≡ false
@@ -52,36 +47,23 @@ module _ (script : Script) (rules : Rules) (J : List Event) (a i : ℕ) (accepte
   suits (statements.Read counter) memory counters e m c = let l = counter-there counter (ap counters_of e) in omega (arith, l, c)
   suits _ memory counters e m c = tt
 
+  -- a collective call that isn't refused has a round
+  address-fits : (at : ℕ) → statement script a i ≡ statements.Addr at → at ≤ script.memory
+  unfolding address
+  address-fits at e =
+      let none = subst (λ (s : Statement). list_any (λ (p : Piece). not (lies_within script (target script a i) p)) (origin_pieces s) ≡ false) e no-outside in
+      let l = leb-true (at + 0) script.memory (not-false _ (or_parts (not (nat_le (at + 0) script.memory)) false none).0) in
+      omega (arith, l)
+
+  pub has-round : (s : Statement) → statement script a i ≡ s → has_join s ≡ true → (is_gfence s || is_table script s) ≡ true
+  has-round statements.Gfence e joins = refl
+  has-round (statements.Addr at) e joins = le-leb at script.memory (address-fits at e)
+  has-round _ e joins = absurd (false≢true joins)
+
 -- a task has few statements
-pub few-statements : (script : Script) → IsSupported script → (a : ℕ) → length (operations.statements script a) ≤ 512
-few-statements script p a = all-or (λ (list : List Statement). length list ≤ 512) script.lists a [] (firsts script.lists p.valid.lists) (lit≤ tt)
+pub few-statements : (script : Script) → ValidScript script → (a : ℕ) → length (operations.statements script a) ≤ 512
+few-statements script p a = all-or (λ (list : List Statement). length list ≤ 512) script.lists a [] (firsts script.lists p.lists) (lit≤ tt)
   where
     firsts : (lists : List (List Statement)) → AllByRecursion (λ (list : List Statement). (length list ≤ 512) × AllByRecursion ValidStatement list) lists → AllByRecursion (λ (list : List Statement). length list ≤ 512) lists
     firsts [] h = tt
     firsts (x ∷ xs) h = (h.0.0, firsts xs h.1)
-
--- No round of addresses was passed, since no task has one.
-plain : (script : Script) (s : Statement) → is_built_statement s ≡ true → is_table script s ≡ false
-unfolding is_built_statement
-plain script (statements.Store at bytes) h = refl
-plain script (statements.Put target to from len tgt org cmpl) h = refl
-plain script (statements.Get target from to len tgt org) h = refl
-plain script (statements.Putv target to from tgt org cmpl) h = refl
-plain script (statements.Getv target from to tgt org) h = refl
-plain script (statements.Rmw target op at in1 in2 prev org) h = refl
-plain script (statements.Am target handler header from len tgt org cmpl) h = refl
-plain script (statements.Wait counter value) h = refl
-plain script (statements.Set counter value) h = refl
-plain script (statements.Read counter) h = refl
-plain script statements.Fence h = refl
-plain script _ h = absurd (false≢true h)
-
-no-table : (script : Script) → IsSupported script → (a i : ℕ) → is_table script (statement script a i) ≡ false
-no-table script p a i = ⊎_elim (plain script (statement script a i)) (λ (e : statement script a i ≡ statements.Fence). ap (is_table script) e) (forms script p a i)
-
-no-rounds : (script : Script) → IsSupported script → (a : ℕ) → table_rounds script a ≡ []
-unfolding table_rounds
-no-rounds script p a = below-none (length (operations.statements script a)) (λ i. is_table script (statement script a i)) (λ i _. no-table script p a i)
-
-pub none-passed : (script : Script) → IsSupported script → (J : List Event) (a round : ℕ) → false ≡ round_passed script J a round
-none-passed script p J a round = sym (ap (λ (rounds : List ℕ). option_any (λ i. happened (Passed a i) J) (slice_get rounds round)) (no-rounds script p a))

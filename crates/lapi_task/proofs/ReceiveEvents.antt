@@ -1,7 +1,7 @@
 -- What landings and what follows them leave of what a task did.
 use Rattle.std.proofs.Common.{◌≡◌, ℕ, ◌==◌, Bool, true, false, cond, not, ◌&&◌, List, [], ◌∷◌, ◌++◌, Option, Some, None, refl, sym, ap, ◌∙◌}
 use Rattle.std.specs.List.{AllByRecursion}
-use Rattle.std.proofs.lemmas.Bool.{and_right}
+use Rattle.std.proofs.lemmas.Bool.{and_right, false≢true}
 use Rattle.lapi_base.specs.declared.script.Script.{Script}
 use Rattle.lapi_base.specs.declared.rule.Rules.{Rules}
 use Rattle.lapi_base.specs.declared.event.Event.{Event}
@@ -9,7 +9,8 @@ use Rattle.lapi_base.specs.declared.event.Event.TheVariants.{Copy, Land}
 use Rattle.lapi_base.specs.declared.handler.HeaderOut.{HeaderOut}
 use Rattle.lapi_base.specs.declared.head.Head.{Head}
 use Rattle.lapi_base.specs.declared.head.Head.TheVariants as heads
-use Rattle.lapi_base.specs.declared.message.Leg.TheVariants.{Go}
+use Rattle.lapi_base.specs.declared.message.Leg.{Leg}
+use Rattle.lapi_base.specs.declared.message.Leg.TheVariants.{Go, Back, Note, Echo, Join}
 use Rattle.lapi_base.specs.declared.message.MsgName.{MsgName}
 use Rattle.lapi_base.specs.declared.packet.Packet.{Packet}
 use Rattle.lapi_base.specs.declared.packet.DataPacket.{DataPacket}
@@ -19,8 +20,8 @@ use Rattle.lapi_base.specs.Record.Arrived.{count_of, has_some, whole_by, assembl
 use Rattle.lapi_base.specs.Record.Counters.{reads}
 use Rattle.lapi_base.specs.Record.Handlers.{has_completion}
 use Rattle.lapi_base.specs.Record.Jobs.{runs}
-use Rattle.lapi_base.specs.Record.Names.{message, leg_eq, name_eq, Issued, Copied, happened}
-use Rattle.lapi_base.specs.Record.Operations.{is_data, statement}
+use Rattle.lapi_base.specs.Record.Names.{message, leg_eq, name_eq, Issued, Entered, Copied, happened}
+use Rattle.lapi_base.specs.Record.Operations.{statement}
 use Rattle.lapi_base.specs.Record.Wires.{has_number}
 use Rattle.lapi_base.specs.Record.Acts.{followed}
 use Rattle.lapi_base.specs.Record.Refusals.{next, refusals}
@@ -32,7 +33,7 @@ use Rattle.lapi_task.specs.Answered.{completes_in}
 use Rattle.lapi_task.specs.Landed.{called, is_first, landed, events_of}
 use Rattle.lapi_task.proofs.HeaderAnswers.{follows-same}
 use Rattle.lapi_base.proofs.ListLaws.{all-append}
-use Rattle.lapi_task.specs.StandsFor.{is_uncopied}
+use Rattle.lapi_task.proofs.UncopiedLaws.{SameMessages}
 
 -- What lands with a packet that makes its message whole, and with another one.
 abbrev pub come : (whole : Bool) → MsgName → Head → List ℕ → Option HeaderOut → Option Message
@@ -102,11 +103,28 @@ unfolding followed
 followed-append [] ys J = refl
 followed-append (x ∷ xs) ys J = followed-append xs ys (x ∷ J)
 
--- the call of a header handler, a landing, or a copy that the task's own statements did not make
+-- a poll copies messages of this leg
+abbrev pub is_polled : Leg → Bool
+is_polled Go = true
+is_polled (Join d) = true
+is_polled _ = false
+
+pub polled-apart : (x y : Leg) → is_polled x ≡ true → is_polled y ≡ false → leg_eq x y ≡ false
+polled-apart x Go h e = absurd (false≢true (sym e))
+polled-apart x (Join d) h e = absurd (false≢true (sym e))
+polled-apart Go Back h e = refl
+polled-apart Go Note h e = refl
+polled-apart Go Echo h e = refl
+polled-apart (Join d) Back h e = refl
+polled-apart (Join d) Note h e = refl
+polled-apart (Join d) Echo h e = refl
+polled-apart _ y h e = absurd (false≢true h)
+
+-- the call of a header handler, a landing, or a copy that no poll makes
 abbrev pub IsMild : Event → Type 0
 IsMild (Event.Head m) = Unit {0}
 IsMild (Land m) = Unit {0}
-IsMild (Copy m) = leg_eq Go m.leg ≡ false
+IsMild (Copy m) = is_polled m.leg ≡ false
 IsMild _ = ⊥
 
 mild-noted : (m : MsgName) (o : Option ℕ) → AllByRecursion IsMild (noted m o)
@@ -141,21 +159,23 @@ module _ (script : Script) (rules : Rules) (t : ℕ) where
   pub record DidSame (J K : List Event) : Type 0 where
     pub next : next K t ≡ next J t
     pub issued : (i : ℕ) → happened (Issued t i) K ≡ happened (Issued t i) J
-    pub copied : (i : ℕ) → happened (Copied (message t i Go)) K ≡ happened (Copied (message t i Go)) J
+    pub entered : (i : ℕ) → happened (Entered t i) K ≡ happened (Entered t i) J
+    pub copied : (m : MsgName) → is_polled m.leg ≡ true → happened (Copied m) K ≡ happened (Copied m) J
     pub reads : reads script rules K t ≡ reads script rules J t
     pub refusals : refusals K t ≡ refusals J t
     pub running : (w : ℕ) → runs K t w ≡ runs J t w
 
-  not-copied : (i : ℕ) (m : MsgName) → leg_eq Go m.leg ≡ false → name_eq (message t i Go) m ≡ false
+  not-copied : (k m : MsgName) → is_polled k.leg ≡ true → is_polled m.leg ≡ false → name_eq k m ≡ false
   unfolding name_eq
-  not-copied i m e = and_right (t == m.origin && i == m.statement) (leg_eq Go m.leg) e
+  not-copied k m on off = and_right (k.origin == m.origin && k.statement == m.statement) (leg_eq k.leg m.leg) (polled-apart k.leg m.leg on off)
 
   mild-one : (e : Event) (J : List Event) → IsMild e → DidSame J (e ∷ J)
   unfolding next reads refusals runs
   mild-one (Event.Head m) J h = record {
     next = refl;
     issued = λ i. happened-other (Issued t i) (Event.Head m) J refl;
-    copied = λ i. happened-other (Copied (message t i Go)) (Event.Head m) J refl;
+    entered = λ i. happened-other (Entered t i) (Event.Head m) J refl;
+    copied = λ k on. happened-other (Copied k) (Event.Head m) J refl;
     reads = refl;
     refusals = refl;
     running = λ w. refl;
@@ -163,7 +183,8 @@ module _ (script : Script) (rules : Rules) (t : ℕ) where
   mild-one (Land m) J h = record {
     next = refl;
     issued = λ i. happened-other (Issued t i) (Land m) J refl;
-    copied = λ i. happened-other (Copied (message t i Go)) (Land m) J refl;
+    entered = λ i. happened-other (Entered t i) (Land m) J refl;
+    copied = λ k on. happened-other (Copied k) (Land m) J refl;
     reads = refl;
     refusals = refl;
     running = λ w. refl;
@@ -171,7 +192,8 @@ module _ (script : Script) (rules : Rules) (t : ℕ) where
   mild-one (Copy m) J h = record {
     next = refl;
     issued = λ i. happened-other (Issued t i) (Copy m) J refl;
-    copied = λ i. happened-other (Copied (message t i Go)) (Copy m) J (not-copied i m h);
+    entered = λ i. happened-other (Entered t i) (Copy m) J refl;
+    copied = λ k on. happened-other (Copied k) (Copy m) J (not-copied k m on h);
     reads = refl;
     refusals = refl;
     running = λ w. refl;
@@ -180,20 +202,25 @@ module _ (script : Script) (rules : Rules) (t : ℕ) where
 
   pub mild-all : (es J : List Event) → AllByRecursion IsMild es → DidSame J (followed J es)
   unfolding followed
-  mild-all [] J h = record { next = refl; issued = λ i. refl; copied = λ i. refl; reads = refl; refusals = refl; running = λ w. refl }
+  mild-all [] J h = record { next = refl; issued = λ i. refl; entered = λ i. refl; copied = λ k on. refl; reads = refl; refusals = refl; running = λ w. refl }
   mild-all (e ∷ es) J h =
       let one = mild-one e J h.0 in
       let rest = mild-all es (e ∷ J) h.1 in
       record {
         next = rest.next ∙ one.next;
         issued = λ i. rest.issued i ∙ one.issued i;
-        copied = λ i. rest.copied i ∙ one.copied i;
+        entered = λ i. rest.entered i ∙ one.entered i;
+        copied = λ k on. rest.copied k on ∙ one.copied k on;
         reads = rest.reads ∙ one.reads;
         refusals = rest.refusals ∙ one.refusals;
         running = λ w. rest.running w ∙ one.running w;
       }
 
-  pub uncopied-same : (J K : List Event) → DidSame J K → (k : ℕ) → is_uncopied script J t k ≡ is_uncopied script K t k
-  uncopied-same J K h k =
-      ap (λ b. is_data (statement script t k) && (b && not (happened (Copied (message t k Go)) J))) (sym (h.issued k))
-      ∙ ap (λ b. is_data (statement script t k) && (happened (Issued t k) K && not b)) (sym (h.copied k))
+  -- a poll has the same to copy
+  pub same-messages : (J K : List Event) (i : ℕ) → DidSame J K → SameMessages script t J K i
+  same-messages J K i h = record {
+    issued = h.issued i;
+    entered = h.entered i;
+    data_copied = h.copied (message t i Go) refl;
+    joins_copied = λ d. h.copied (message t i (Join d)) refl;
+  }

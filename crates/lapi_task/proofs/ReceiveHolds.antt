@@ -33,26 +33,29 @@ use Rattle.lapi_parts.proofs.Deliveries.{deliveries-write, deliveries-announce}
 use Rattle.lapi_parts.proofs.WholeMessages.{assembled-bytes}
 use Rattle.lapi_task.specs.declared.state.State.{State}
 use Rattle.lapi_reassembly.specs.declared.message.Message.{Message}
-use Rattle.lapi_task.specs.Landed.{IsDirect, FewWait, called, head_writes, memory_after, counters_after, jobs_after, events_of}
+use Rattle.lapi_task.specs.Landed.{IsDirect, FewWait, ArrivalJoins, called, head_writes, memory_after, counters_after, jobs_after, events_of}
 use Rattle.lapi_task.specs.Answered.{answer_to, completion_in, completes_in, kept_pieces, job_with}
 use Rattle.lapi_task.specs.HasJobs.{pending, HasJobs}
 use Rattle.lapi_jobs.specs.Jobs.{Works}
 use Rattle.lapi_task.specs.StandsFor.{HoldsFor, is_uncopied}
 use Rattle.lapi_task.proofs.HeaderAnswers.{announces-same, is-told, job-told, pending-told}
 use Rattle.lapi_task.proofs.JobsLand.{jobs-come}
+use Rattle.lapi_task.proofs.JoinsLand.{head-joins, rounds-come}
 use Rattle.lapi_task.proofs.StepMemories.{memory-length}
 use Rattle.lapi_task.proofs.ReceiveCounts.{announced-length, announced-at}
-use Rattle.lapi_task.proofs.ReceiveEvents.{come, came_bytes, is_all, is_opening, come-mild, mild-all, uncopied-same}
+use Rattle.lapi_task.proofs.ReceiveEvents.{come, came_bytes, is_all, is_opening, come-mild, mild-all, same-messages}
 use Rattle.lapi_task.proofs.ReceiveKinds.{Comes, IsThere, there-is, direct-is}
+use Rattle.lapi_task.proofs.UncopiedLaws.{uncopied-same}
 use Rattle.lapi_task.proofs.Landings.{WritesWithin, writes-over, scattered-within, writes-are}
 
--- what comes of a packet took effect in what a task holds
-pub record Lands (count : ℕ) (arrival : Option Message) (before after : State) : Type 0 where
+-- what comes of a packet from task a took effect in what a task holds
+pub record Lands (a count : ℕ) (arrival : Option Message) (before after : State) : Type 0 where
   pub memory : after.memory ≡ memory_after arrival before.memory
   pub counters : after.counters ≡ counters_after count arrival before.counters
   pub jobs : after.jobs ≡ jobs_after (length before.memory) count arrival before.jobs
   pub few : FewWait before.jobs → FewWait after.jobs
-  pub rest : after ≡ record before { memory = after.memory; counters = after.counters; jobs = after.jobs }
+  pub joins : ArrivalJoins a arrival before.collective after.collective
+  pub rest : after ≡ record before { memory = after.memory; counters = after.counters; jobs = after.jobs; collective = after.collective }
 
 module _ (script : Script) (rules : Rules) (t : ℕ) where
   -- The memory, by the law of deliveries;
@@ -146,7 +149,7 @@ module _ (script : Script) (rules : Rules) (t : ℕ) where
 
   pub holds-arrived : (r : Run) (a k : ℕ) (p : DataPacket) → IsRecord script rules r → slice_get (r.wire a t) k ≡ Some (Data p) → Comes script rules r a t p → let K = followed r.journal (events_now r a p) in (deliver script rules r a t k).journal ≡ K → Atomic script rules K →
       (before after : State) → HoldsFor script rules t before r.journal →
-      Lands handlers_now (lands_now r a p) before after →
+      Lands a handlers_now (lands_now r a p) before after →
       HoldsFor script rules t after K
   holds-arrived r a k p is entry c journal atomic before after h g =
       let J = r.journal in
@@ -181,9 +184,10 @@ module _ (script : Script) (rules : Rules) (t : ℕ) where
             ∙ memory-come whole p.name p.head p.length bytes out J K direct (there-is script rules p.head p.length c.kind c.fits.head) long told.keeps writes;
         counter_count = ap length g.counters ∙ counters-length handlers_now whole p.name p.head bytes out before.counters ∙ h.counter_count;
         counters = λ d l. ap (λ xs. slice_index xs d) g.counters ∙ counters-come handlers_now whole completion p.name p.head bytes out before.counters J K told.completes tells d (let n = h.counter_count in omega (arith, l, n)) (h.counters d l);
-        uncopied = ap (λ (x : State). x.uncopied.items) g.rest ∙ h.uncopied ∙ below-same (length (statements script t)) (is_uncopied script J t) (is_uncopied script K t) (λ i _. uncopied-same script rules t J K same i);
+        uncopied = ap (λ (x : State). x.uncopied.items) g.rest ∙ h.uncopied ∙ below-same (length (statements script t)) (is_uncopied script J t) (is_uncopied script K t) (λ i _. uncopied-same script t J K i (same-messages script rules t J K i same));
         jobs =
             let few = g.few (let x = h.jobs in x.few) in
             subst (λ (x : Works). HasJobs script rules t x K) (sym g.jobs)
             (jobs-come script rules t first whole p.name p.head bytes out (length before.memory) handlers_now before.jobs J atomic (job-told script rules r is a t k p entry) named (subst FewWait g.jobs few) h.jobs);
+        rounds = rounds-come script rules t first whole p.name p.head bytes out handlers_now a before.collective after.collective J atomic (head-joins script rules t r is a k p entry) g.joins h.rounds;
       }

@@ -1,7 +1,7 @@
 -- The packets that come to a task: what their heads may be, and that their places are there.
 use Rattle.std.proofs.Common.{◌≡◌, ℕ, Bool, true, false, refl, sym, ◌∙◌, subst, arith}
 use Rattle.std.specs.Prelude.{slice_get, Some}
-use Rattle.std.proofs.lemmas.Bool.{false≢true, and_parts}
+use Rattle.std.proofs.lemmas.Bool.{false≢true}
 use Rattle.lapi_base.specs.declared.script.Script.{Script}
 use Rattle.lapi_base.specs.declared.rule.Rules.{Rules}
 use Rattle.lapi_base.specs.declared.statement.Statement.{Statement}
@@ -15,9 +15,9 @@ use Rattle.lapi_base.specs.declared.packet.Packet.TheVariants.{Data}
 use Rattle.lapi_base.specs.declared.packet.DataPacket.{DataPacket}
 use Rattle.lapi_base.specs.Record.Handlers.{answers}
 use Rattle.lapi_base.specs.Record.HeadSays.{is_active, announces, head_pieces, asked_pieces}
-use Rattle.lapi_base.specs.Record.Operations.{statement, has_leg, has_join, length_by, message_length}
+use Rattle.lapi_base.specs.Record.Operations.{statement, has_leg, length_by, message_length}
 use Rattle.lapi_base.specs.Record.Packets.{head_by}
-use Rattle.lapi_base.specs.Record.Valid.{ValidRules}
+use Rattle.lapi_base.specs.Record.Valid.{ValidRules, ValidScript}
 use Rattle.lapi_base.specs.Record.Wires.{Run}
 use Rattle.lapi_base.specs.Record.WorldView.{IsRecord}
 use Rattle.lapi_base.specs.Laws.Receiving.{FitsScript, HeadFits, NamesCounter, SpansAreInMemory, bytes_in}
@@ -25,11 +25,9 @@ use Rattle.lapi_parts.proofs.Deliveries.{Facts, facts}
 use Rattle.lapi_parts.proofs.MessageHeads.{no-answers}
 use Rattle.lapi_parts.proofs.Receivable.{packets-fit}
 use Rattle.lapi_task.specs.Landed.{IsDirect}
-use Rattle.lapi_task.specs.Supported.{IsSupported}
-use Rattle.lapi_task.proofs.Forms.{no-join}
 use Rattle.lapi_task.proofs.FollowerParts.{one-total}
 
--- The head of a message that is neither an answer of a completion handler nor joins tasks, and the message's length where the head says nothing of it.
+-- The head of a message that is no answer of a completion handler, and the message's length where the head says nothing of it.
 abbrev pub IsKind : Head → (len : ℕ) → Type 0
 IsKind (heads.Put at tgt cmpl) len = Unit {0}
 IsKind (heads.Putv tgt cmpl pieces) len = Unit {0}
@@ -41,12 +39,12 @@ IsKind (heads.GetGo asked source dest tgt org) len = len ≡ 0
 IsKind (heads.GetvGo tgt org source dest) len = len ≡ 0
 IsKind (heads.RmwGo op at in1 in2 prev org) len = len ≡ 0
 IsKind (heads.Note op cmpl) len = len ≡ 0
-IsKind _ len = ⊥
+IsKind (heads.Gfence round) len = len ≡ 0
+IsKind (heads.Addr round address) len = len ≡ 0
+IsKind (heads.Echo dest cmpl) len = ⊥
 
 pub direct-is : (h : Head) (len : ℕ) → IsKind h len → IsDirect h
 direct-is (heads.Echo dest cmpl) len k = k
-direct-is (heads.Gfence round) len k = k
-direct-is (heads.Addr round address) len k = k
 direct-is _ len k = tt
 
 module _ (script : Script) (rules : Rules) where
@@ -68,7 +66,9 @@ module _ (script : Script) (rules : Rules) where
   there-is (heads.RmwGo op at in1 in2 prev org) len k f = record { pieces = tt; total = λ _. sym k; asked = (f.0.0, tt); counter = tt }
   there-is (heads.Note op cmpl) len k f = record { pieces = tt; total = λ _. sym k; asked = tt; counter = f }
   there-is (heads.Am handler tgt cmpl header) len k f = record { pieces = tt; total = λ e. absurd (false≢true (sym e)); asked = tt; counter = f.1 }
-  there-is _ len k f = absurd k
+  there-is (heads.Gfence round) len k f = record { pieces = tt; total = λ _. sym k; asked = tt; counter = tt }
+  there-is (heads.Addr round address) len k f = record { pieces = tt; total = λ _. sym k; asked = tt; counter = tt }
+  there-is (heads.Echo dest cmpl) len k f = absurd k
 
   -- a counter that its landing announces is there, with a completion or without
   pub counter-later : (h : Head) (completion : Bool) → NamesCounter script (announces h false) → NamesCounter script (announces h completion)
@@ -76,20 +76,21 @@ module _ (script : Script) (rules : Rules) where
   counter-later (heads.Am handler tgt cmpl header) false f = f
   counter-later _ completion f = f
 
-  kind-by : (answers : Bool) (m : MsgName) (leg : Leg) (s : Statement) → has_leg script answers m.origin leg s ≡ true → has_join s ≡ false → answers ≡ false → IsKind (head_by script m leg s) (length_by leg s)
-  kind-by ans m Go (statements.Put task to from len tgt org cmpl) g join none = tt
-  kind-by ans m Go (statements.Get task from to len tgt org) g join none = refl
-  kind-by ans m Go (statements.Putv task to from tgt org cmpl) g join none = tt
-  kind-by ans m Go (statements.Getv task from to tgt org) g join none = refl
-  kind-by ans m Go (statements.Rmw task op at in1 in2 prev org) g join none = refl
-  kind-by ans m Go (statements.Am task handler header from len tgt org cmpl) g join none = tt
-  kind-by ans m Back (statements.Get task from to len tgt org) g join none = tt
-  kind-by ans m Back (statements.Getv task from to tgt org) g join none = tt
-  kind-by ans m Back (statements.Rmw task op at in1 in2 prev org) g join none = refl
-  kind-by ans m Note s g join none = refl
-  kind-by ans m Echo s g join none = absurd (false≢true (sym none ∙ g))
-  kind-by ans m (Join d) s g join none = absurd (false≢true (sym join ∙ (and_parts (has_join s) _ g).0))
-  kind-by ans m _ s g join none = absurd (false≢true g)
+  kind-by : (answers : Bool) (m : MsgName) (leg : Leg) (s : Statement) → has_leg script answers m.origin leg s ≡ true → answers ≡ false → IsKind (head_by script m leg s) (length_by leg s)
+  kind-by ans m Go (statements.Put task to from len tgt org cmpl) g none = tt
+  kind-by ans m Go (statements.Get task from to len tgt org) g none = refl
+  kind-by ans m Go (statements.Putv task to from tgt org cmpl) g none = tt
+  kind-by ans m Go (statements.Getv task from to tgt org) g none = refl
+  kind-by ans m Go (statements.Rmw task op at in1 in2 prev org) g none = refl
+  kind-by ans m Go (statements.Am task handler header from len tgt org cmpl) g none = tt
+  kind-by ans m Back (statements.Get task from to len tgt org) g none = tt
+  kind-by ans m Back (statements.Getv task from to tgt org) g none = tt
+  kind-by ans m Back (statements.Rmw task op at in1 in2 prev org) g none = refl
+  kind-by ans m Note s g none = refl
+  kind-by ans m Echo s g none = absurd (false≢true (sym none ∙ g))
+  kind-by ans m (Join d) statements.Gfence g none = refl
+  kind-by ans m (Join d) (statements.Addr at) g none = refl
+  kind-by ans m _ s g none = absurd (false≢true g)
 
   -- A packet that comes: what the record says of it, and its head.
   pub record Comes (r : Run) (a t : ℕ) (p : DataPacket) : Type 0 where
@@ -97,15 +98,15 @@ module _ (script : Script) (rules : Rules) where
     pub kind : IsKind p.head p.length
     pub fits : FitsScript script rules p
 
-  pub comes : IsSupported script → ValidRules rules → (r : Run) (a t k : ℕ) (p : DataPacket) → IsRecord script rules r → slice_get (r.wire a t) k ≡ Some (Data p) → Comes r a t p
+  pub comes : ValidScript script → ValidRules rules → (r : Run) (a t k : ℕ) (p : DataPacket) → IsRecord script rules r → slice_get (r.wire a t) k ≡ Some (Data p) → Comes r a t p
   unfolding message_length
-  comes performed ok r a t k p is at =
+  comes valid ok r a t k p is at =
       let f = facts script rules r is a t k p at in
       let m = p.name in
       let s = statement script m.origin m.statement in
-      let kind = kind-by (answers script rules m.origin m.statement) m m.leg s f.leg (no-join script performed m.origin m.statement) (no-answers script rules performed.valid ok m) in
+      let kind = kind-by (answers script rules m.origin m.statement) m m.leg s f.leg (no-answers script rules valid ok m) in
       record {
         facts = f;
         kind = subst (λ (h : Head). IsKind h p.length) (sym f.head) (subst (IsKind (head_by script m m.leg s)) (sym f.size) kind);
-        fits = packets-fit script rules r is performed.valid ok a t k p at;
+        fits = packets-fit script rules r is valid ok a t k p at;
       }

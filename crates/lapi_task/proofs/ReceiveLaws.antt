@@ -4,7 +4,6 @@ use Rattle.std.specs.Prelude.{slice_get}
 use Rattle.std.specs.List.{list_any}
 use Rattle.std.specs.Option.{option_or}
 use Rattle.std.proofs.lemmas.Bool.{cond-true, cond-false, cond_both, cases_eq, and_from, and_left, and_right, and_parts, ne_eqb}
-use Rattle.std.proofs.lemmas.List.Elements.{All-from_recursion}
 use Rattle.std.specs.Vec.{with_items}
 use Rattle.std.specs.declared.vec.Vec.{Vec}
 use Rattle.std.proofs.lemmas.List.{append-nil, length-set, map-append, with_items_is}
@@ -14,8 +13,6 @@ use Rattle.lapi_base.specs.declared.rule.Rules.{Rules}
 use Rattle.lapi_base.specs.declared.event.Event.{Event}
 use Rattle.lapi_base.specs.declared.event.Event.TheVariants.{Land}
 use Rattle.lapi_base.specs.declared.handler.HeaderOut.{HeaderOut}
-use Rattle.lapi_base.specs.declared.head.Head.{Head}
-use Rattle.lapi_base.specs.declared.message.MsgName.{MsgName}
 use Rattle.lapi_base.specs.declared.packet.Packet.{Packet}
 use Rattle.lapi_base.specs.declared.packet.Packet.TheVariants.{Data}
 use Rattle.lapi_base.specs.declared.packet.DataPacket.{DataPacket}
@@ -23,14 +20,14 @@ use Rattle.lapi_base.specs.declared.reply.Reply.TheVariants.{Did}
 use Rattle.lapi_base.specs.Record.Arrived.{ack_of, has_some}
 use Rattle.lapi_base.specs.Record.Atomic.{Atomic}
 use Rattle.lapi_base.specs.Laws.Landing.{completes}
-use Rattle.lapi_base.specs.Record.HeadSays.{announces, head_pieces, asked_pieces}
 use Rattle.lapi_base.specs.Record.Values.{memory_bytes}
-use Rattle.lapi_base.specs.declared.span.Span.{Span}
+use Rattle.lapi_base.specs.declared.statement.Statement.{Statement}
+use Rattle.lapi_base.specs.Record.Operations.{numbers_below}
+use Rattle.lapi_base.specs.Record.Refusals.{round_of}
 use Rattle.lapi_base.specs.Record.Wires.{Run, is_number, has_number, has_ack, is_delivered}
 use Rattle.lapi_base.specs.Record.Acts.{followed, hand_over, deliver_entry, deliver}
 use Rattle.lapi_base.specs.Record.Valid.{ValidScript}
 use Rattle.lapi_base.specs.declared.layout.TheConstants.{LONGEST_ACTIVE}
-use Rattle.lapi_base.specs.Laws.Receiving.{NamesCounter, SpansAreInMemory}
 use Rattle.lapi_base.specs.Packet.PacketBytes as written
 use Rattle.lapi_base.proofs.ListLaws.{get-set, get-set-other}
 use Rattle.lapi_base.proofs.TestLaws.{eqb-refl}
@@ -40,7 +37,6 @@ use Rattle.lapi_link.specs.Receiver.{ReceivingEnd, ReceivesFor, MayArrive, answe
 use Rattle.lapi_link.specs.Sender.{entries_to}
 use Rattle.lapi_parts.proofs.ArrivingPackets.{arrivals-told, next-acks-told}
 use Rattle.lapi_parts.proofs.Records.{record-sound}
-use Rattle.lapi_vector.specs.Pieces.{AreWithin}
 use Rattle.lapi_task.specs.declared.outcome.Outcome.{Outcome}
 use Rattle.lapi_task.specs.declared.task.Task.{Task}
 use Rattle.lapi_task.specs.Acknowledging.{ReceivesAt, HasTaken, answer}
@@ -48,6 +44,7 @@ use Rattle.lapi_task.specs.HasEffect.{IsAt, HasEffect, bytes_to}
 use Rattle.lapi_task.specs.Landed.{IsDirect, Follower, follower, MayLeave, MayCall, called, is_first, kept_now, ends_after, events_of, ArrivalMayLand, HasArrived, MayTake, HasCome, landed}
 use Rattle.lapi_task.specs.Answered.{KeepsAnswers, completes_in}
 use Rattle.lapi_task.specs.declared.state.State.{State}
+use Rattle.lapi_task.specs.HasRounds.{MayJoin}
 use Rattle.lapi_task.specs.StandsFor.{task_unit}
 use Rattle.lapi_task.proofs.CopyLaws.{unit-is}
 use Rattle.lapi_task.proofs.ReceiveHolds.{Lands}
@@ -58,11 +55,12 @@ use Rattle.lapi_task.proofs.ArrivingFits.{arriving-fits}
 use Rattle.lapi_task.proofs.HeaderAnswers.{is-told}
 use Rattle.lapi_task.proofs.ReceiveEvents.{come, come-is, come-told, come-events, first-is, is_opening, came_bytes}
 use Rattle.lapi_task.proofs.ReceiveHolds.{came-length, holds-arrived, answer_now, handlers_now, lands_now, events_now}
-use Rattle.lapi_task.proofs.ReceiveKinds.{Comes, comes as what-comes, IsThere, there-is, direct-is, counter-later}
+use Rattle.lapi_task.proofs.ReceiveKinds.{Comes, comes as what-comes, there-is, direct-is}
 use Rattle.lapi_task.proofs.Followers.{Follows, follower-is, follower-leaves}
-use Rattle.lapi_task.proofs.FollowerParts.{total-is}
+use Rattle.lapi_task.proofs.ReceiveSuits.{suits-come}
 use Rattle.lapi_task.proofs.ReceiveLinks.{told, Settled, ends-come, ends-length}
 use Rattle.lapi_task.proofs.SenderLaws.{bytes-here, bytes-there}
+use Rattle.lapi_task.proofs.JoinsLand.{head-joins, joins-may}
 use Rattle.lapi_task.proofs.KeptAnswers.{kept-by, kept-before, still-kept}
 use Rattle.lapi_task.proofs.StepMemories.{memory-length}
 use Rattle.lapi_parts.proofs.FirstLayout.{holds-nothing, told-at-once}
@@ -75,6 +73,7 @@ pub record KeepsRest (before after : Task) : Type 0 where
   pub sizes : after.sizes ≡ before.sizes
   pub statements : after.statements ≡ before.statements
   pub limits : after.limits ≡ before.limits
+  pub rounds : after.rounds.items ≡ before.rounds.items
   pub state : after.state ≡ before.state
   pub unfinished : after.unfinished ≡ before.unfinished
   pub senders : after.senders.items ≡ before.senders.items
@@ -156,28 +155,6 @@ module _ (script : Script) (rules : Rules) where
       (subst (ReceiverAt script rules (r.handed x t)) (sym (get-set-other ends a x new apart)) (all x l)))
       (cases_eq x a))
 
-  -- ---- what a message finds at its task
-
-  counter-there : (o : Option ℕ) (counters : List ℕ) → NamesCounter script o → length counters ≡ script.counters → (c : ℕ) → o ≡ Some c → c < length counters
-  counter-there None counters h e c x = absurd (cc)
-  counter-there (Some d) counters h e c x = let same : d ≡ c = cc in omega (arith, h, e, same)
-
-  pieces-there : (pieces : List Span) (memory : List ℕ) → length memory ≡ script.memory → SpansAreInMemory script pieces → AreWithin pieces (length memory)
-  pieces-there pieces memory e h = subst (AreWithin pieces) (sym e) (All-from_recursion (λ (p : Span). p.at + p.len ≤ script.memory) pieces h)
-
-  suits-come : (unit t a count : ℕ) (whole : Bool) (m : MsgName) (h : Head) (len : ℕ) (bytes : List ℕ) (out : Option HeaderOut) (memory counters : List ℕ) → IsDirect h → IsThere script rules h len → (whole ≡ true → length bytes ≡ len) → length memory ≡ script.memory → length counters ≡ script.counters → (whole ≡ true → (x : Follower) → follower t a m h (completes_in count out) memory ≡ Some x → MayLeave unit x) → ArrivalMayLand unit t a count (come whole m h bytes out) memory counters
-  suits-come unit t a count false m h len bytes out memory counters direct there size places known leaves = tt
-  suits-come unit t a count true m h len bytes out memory counters direct there size places known leaves =
-      let own : IsThere script rules h (length bytes) = subst (IsThere script rules h) (sym (size refl)) there in
-      record {
-        direct = direct;
-        pieces = pieces-there (head_pieces h (length bytes)) memory places own.pieces;
-        total = λ off. total-is (head_pieces h (length bytes)) ∙ own.total off;
-        asked = pieces-there (asked_pieces h) memory places own.asked;
-        counter = counter-there (announces h (completes_in count out)) counters (counter-later script rules h (completes_in count out) own.counter) known;
-        leaves = leaves refl;
-      }
-
   -- ---- a delivery
 
   first-active : ValidScript script → longest_active_of script ≡ LONGEST_ACTIVE
@@ -195,13 +172,13 @@ module _ (script : Script) (rules : Rules) where
     then = followed r.journal happens
 
     packet-comes : Comes script rules r a t p
-    packet-comes = what-comes script rules at.stands.calls.supported at.stands.calls.rules_valid r a t k p at.recorded entry
+    packet-comes = what-comes script rules at.stands.calls.valid at.stands.calls.rules_valid r a t k p at.recorded entry
 
     direct : IsDirect p.head
     direct = direct-is p.head p.length packet-comes.kind
 
     fits : MayArrive script (r.handed a t) p
-    fits = arriving-fits script rules at.stands.calls.supported at.stands.calls.rules_valid r a t k p at.recorded entry
+    fits = arriving-fits script rules at.stands.calls.valid at.stands.calls.rules_valid r a t k p at.recorded entry
 
     end-there : (end : ReceivingEnd) × (slice_get task.receivers.items a ≡ Some end) × (ReceivesFor script end (r.handed a t) × KeepsAnswers rules end)
     end-there = receiver-there script rules (r.handed a t) (slice_get task.receivers.items a) (at.stands.receivers a known_task)
@@ -211,7 +188,7 @@ module _ (script : Script) (rules : Rules) where
 
     pub may-call : MayCall p
     may-call =
-        let valid = at.stands.calls.supported.valid in
+        let valid = at.stands.calls.valid in
         let tasks : script.tasks ≤ 8 = valid.tasks.1 in
         let own = packet-comes.fits.origin in
         record {
@@ -228,8 +205,8 @@ module _ (script : Script) (rules : Rules) where
         let q = next-acks-told script rules r at.recorded a t k p entry in
         let answers = is-told script rules r at.recorded a t k p entry in
         let es = ap (λ es. cond (is_delivered r a t p.seq) [] es) (arrivals-told script rules r at.recorded a t k p entry) ∙ come-events script rules (r.handed a t) p (answer_now script rules t p) (handlers_now script rules t) answers.completes (is_delivered r a t p.seq) in
-        let held = holds-nothing script at.stands.calls.supported.valid in
-        let once = λ (told : Packet). told-at-once script rules at.stands.calls.supported.valid told in
+        let held = holds-nothing script at.stands.calls.valid in
+        let once = λ (told : Packet). told-at-once script rules at.stands.calls.valid told in
         ap (deliver_entry script rules r a t) entry
         ∙ (λ i. record {
           replies = r.replies ++ Did ∷ [];
@@ -254,11 +231,22 @@ module _ (script : Script) (rules : Rules) where
 
     leaves : (later : Bool) → completes script rules r a t p ≡ true → (x : Follower) → follower t a p.name p.head later task.state.memory ≡ Some x → MayLeave (unit_of script) x
     leaves later whole x e =
-        follower-leaves script rules r a t k p at.recorded entry packet-comes whole at.stands.calls.supported at.stands.calls.rules_valid atomic later x
+        follower-leaves script rules r a t k p at.recorded entry packet-comes whole at.stands.calls.valid at.stands.calls.rules_valid atomic later x
         (ap (follower t a p.name p.head later) (sym memory-there) ∙ e)
 
+    -- its origin may join the round that it names
+    joins : completes script rules r a t p ≡ true → MayJoin a p.head task.state.collective
+    joins whole =
+        let count = handlers_now script rules t in
+        let first = is_opening (r.handed a t) p in
+        let bytes = came_bytes script (r.handed a t) p in
+        let out = answer_now script rules t p in
+        joins-may script rules t first p.name p.head bytes out count a p.length task.state.collective r.journal
+        (subst (λ b. Atomic script rules (followed r.journal (called first p.name p.head ++ events_of count (come b p.name p.head bytes out)))) whole atomic)
+        known_task packet-comes.fits.head (head-joins script rules t r at.recorded a k p entry) at.stands.holds.rounds
+
     pub room-there : (mid : Task) → KeepsRest task mid → task_unit mid ≤ 256
-    room-there mid g = let e = unit-then mid g in let u = first-unit script at.stands.calls.supported.valid in omega (arith, e, u)
+    room-there mid g = let e = unit-then mid g in let u = first-unit script at.stands.calls.valid in omega (arith, e, u)
 
     pub link-there : (mid : Task) → KeepsRest task mid → a < length mid.senders.items
     link-there mid g = let n = ap length g.senders ∙ at.stands.sender_count in let l = known_task in omega (arith, n, l)
@@ -272,7 +260,7 @@ module _ (script : Script) (rules : Rules) where
     with_unfinished after u = record after { unfinished = u }
 
     pub has-taken-still : (after : Task) (u : Unfinished) → HasTaken script t after a (Data p ∷ r.handed a t) → HasTaken script t (with_unfinished after u) a (Data p ∷ r.handed a t)
-    has-taken-still after u h = record { performed = h.performed; number = h.number; known = h.known; from_known = h.from_known; receiver = h.receiver }
+    has-taken-still after u h = record { valid = h.valid; number = h.number; known = h.known; from_known = h.from_known; receiver = h.receiver }
 
     -- what the end of its link did with it
     module _ (mid : Task) (g : KeepsRest task mid) (now : Option HeaderOut) (came : Option Message) (before during : List Event) (took : Takes a p now came before during task.receivers.items mid.receivers.items) where
@@ -292,21 +280,22 @@ module _ (script : Script) (rules : Rules) where
       came-some = own.whole ∙ ap (landed now) arrival-told ∙ come-is script (r.handed a t) p (answer_of end-there.0 p.name) now
 
       -- it may land, whatever was answered
-      pub suits-arrival : (count : ℕ) → ArrivalMayLand (task_unit mid) mid.state.number a count came mid.state.memory mid.state.counters
+      pub suits-arrival : (count : ℕ) → ArrivalMayLand (task_unit mid) mid.state.number a count came mid.state.memory mid.state.counters mid.state.collective
       suits-arrival count =
           let h = at.stands.holds in
           let c = packet-comes in
           let some = come (completes script rules r a t p) p.name p.head (came_bytes script (r.handed a t) p) given in
-          subst (λ x. ArrivalMayLand (task_unit mid) mid.state.number a count x mid.state.memory mid.state.counters) (sym came-some)
-          (subst (λ (x : State). ArrivalMayLand (task_unit mid) x.number a count some x.memory x.counters) (sym g.state)
-          (subst (λ n. ArrivalMayLand (task_unit mid) n a count some task.state.memory task.state.counters) (sym h.number)
-          (subst (λ u. ArrivalMayLand u t a count some task.state.memory task.state.counters) (sym (unit-then mid g))
-          (suits-come (unit_of script) t a count (completes script rules r a t p) p.name p.head p.length (came_bytes script (r.handed a t) p) given task.state.memory task.state.counters
+          subst (λ x. ArrivalMayLand (task_unit mid) mid.state.number a count x mid.state.memory mid.state.counters mid.state.collective) (sym came-some)
+          (subst (λ (x : State). ArrivalMayLand (task_unit mid) x.number a count some x.memory x.counters x.collective) (sym g.state)
+          (subst (λ n. ArrivalMayLand (task_unit mid) n a count some task.state.memory task.state.counters task.state.collective) (sym h.number)
+          (subst (λ u. ArrivalMayLand u t a count some task.state.memory task.state.counters task.state.collective) (sym (unit-then mid g))
+          (suits-come script rules (unit_of script) t a count (completes script rules r a t p) p.name p.head p.length (came_bytes script (r.handed a t) p) given task.state.memory task.state.counters task.state.collective
           direct
           (there-is script rules p.head p.length c.kind c.fits.head)
           (λ whole. came-length script rules t r a p c (and_parts _ _ whole).1)
           (ap length h.memory ∙ memory-length script rules r.journal t)
           h.counter_count
+          joins
           (leaves (completes_in count given))))))
 
       unfinished-same : (count : ℕ) (after : Task) (new : List Event) → HasArrived a count came mid after during new → after.unfinished ≡ task.unfinished
@@ -324,7 +313,7 @@ module _ (script : Script) (rules : Rules) where
       has-taken count after new h =
           let same = ap (λ (x : Task). x.receivers.items) h.rest ∙ own.ends in
           record {
-            performed = at.stands.calls.supported;
+            valid = at.stands.calls.valid;
             number = ap (λ (x : Task). x.state.number) h.rest ∙ ap (λ (x : State). x.number) g.state ∙ at.stands.holds.number;
             known = at.known;
             from_known = known_task;
@@ -362,7 +351,7 @@ module _ (script : Script) (rules : Rules) where
             let s = at.stands in
             let mine : HasArrived a count arrives mid after during new.events = subst (λ x. HasArrived a count x mid after during new.events) came-now h in
             let ends : after.senders.items ≡ ends_after (unit_of script) t a count arrives task.state.memory task.senders.items = mine.senders ∙ (λ i. ends_after (unit-then mid g i) ((ap (λ (x : State). x.number) g.state ∙ s.holds.number) i) a count arrives (g.state i).memory (g.senders i)) in
-            let lands : Lands count arrives task.state after.state = subst (λ (x : State). Lands count arrives x after.state) g.state (record { memory = mine.memory; counters = mine.counters; jobs = mine.jobs; few = mine.few; rest = ap (λ (x : Task). x.state) mine.rest }) in
+            let lands : Lands a count arrives task.state after.state = subst (λ (x : State). Lands a count arrives x after.state) g.state (record { memory = mine.memory; counters = mine.counters; jobs = mine.jobs; few = mine.few; joins = mine.joins; rest = ap (λ (x : Task). x.state) mine.rest }) in
             let receivers = ap (λ (x : Task). x.receivers.items) mine.rest ∙ own.ends in
             let undone = unfinished-same count after new.events h in
             subst (λ y. HasEffect script rules t r y (with_unfinished after u) old new) (sym delivered)
@@ -371,11 +360,14 @@ module _ (script : Script) (rules : Rules) where
               entries = answer script ps a t ∷ [];
               stands = record {
                 calls = record {
-                  supported = s.calls.supported;
+                  valid = s.calls.valid;
                   rules_valid = s.calls.rules_valid;
                   sizes = ap (λ (y : Task). y.sizes) mine.rest ∙ g.sizes ∙ s.calls.sizes;
                   statements = ap (λ (y : Task). y.statements) mine.rest ∙ g.statements ∙ s.calls.statements;
                   limits = ap (λ (y : Task). y.limits) mine.rest ∙ g.limits ∙ s.calls.limits;
+                  rounds =
+                      ap (λ (y : Task). y.rounds.items) mine.rest ∙ g.rounds ∙ s.calls.rounds
+                      ∙ ap (λ (xs : List Statement). map (round_of script t) (numbers_below (length xs))) (sym (ap (λ (y : Task). y.statements) mine.rest ∙ g.statements));
                 };
                 holds = holds-arrived script rules t r a k p at.recorded entry c (ap (λ (y : Run). y.journal) delivered) atomic task.state after.state s.holds lands;
                 unfinished = subst (λ (x : Unfinished). Tracks script rules t x next_run) (sym (closed ∙ (λ i. record { undone = flags_landed (came-now i) (undone i).undone; left = (undone i).left })))

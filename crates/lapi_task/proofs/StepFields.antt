@@ -1,7 +1,7 @@
 -- What a task holds after each event of a step.
-use Rattle.std.proofs.Common.{◌≡◌, ℕ, suc, ◌-◌, ◌<◌, ◌≤◌, ◌==◌, Bool, true, false, cond, not, ◌&&◌, List, [], ◌∷◌, ◌++◌, length, slice_set, refl, sym, ap, ◌∙◌, subst, ⊎_elim, arith, add-zero}
+use Rattle.std.proofs.Common.{◌≡◌, ℕ, suc, ◌-◌, ◌<◌, ◌≤◌, ◌==◌, Bool, true, false, cond, ◌&&◌, List, [], ◌∷◌, ◌++◌, length, slice_set, refl, sym, ap, ◌∙◌, subst, ⊎_elim, arith, add-zero}
 use Rattle.std.specs.Prelude.{slice_index}
-use Rattle.std.proofs.lemmas.Bool.{cond-true, cond-false, cond_both, and_left, and_right, and_from, cases_eq, ne_eqb}
+use Rattle.std.proofs.lemmas.Bool.{cond-true, cond-false, cond_both, and_right, and_from, cases_eq, cases_lt, ne_eqb}
 use Rattle.std.proofs.lemmas.List.{append-nil, length-set, get_or-set_same, get_or-set_other}
 use Rattle.lapi_base.specs.declared.script.Script.{Script}
 use Rattle.lapi_base.specs.declared.rule.Rules.{Rules}
@@ -11,24 +11,30 @@ use Rattle.lapi_base.specs.declared.event.Event.{Event}
 use Rattle.lapi_base.specs.declared.event.Event.TheVariants.{Issue, Refuse, Pass}
 use Rattle.lapi_base.specs.declared.message.Leg.TheVariants.{Go}
 use Rattle.lapi_base.specs.declared.refusal.Refusal.{Refusal}
+use Rattle.lapi_base.specs.Record.Atomic.{Atomic}
 use Rattle.lapi_base.specs.Record.Below.{below}
 use Rattle.lapi_base.specs.Record.Counters.{count, reads, read_by, tells, issued_count, passed_count}
-use Rattle.lapi_base.specs.Record.Names.{message, happened, key_of, key_eq, Issued, Copied}
+use Rattle.lapi_base.specs.Record.Names.{message, happened, Issued, Entered, Copied}
 use Rattle.lapi_base.specs.Record.Operations.{statement, is_data}
 use Rattle.lapi_base.specs.Record.Operations as operations
 use Rattle.lapi_base.specs.Record.Refusals.{next, refusals}
 use Rattle.lapi_base.specs.Record.Values.{memory_bytes, store_writes}
 use Rattle.lapi_base.proofs.BelowLaws.{below-cut, below-same}
-use Rattle.lapi_base.proofs.NameLaws.{happened-head, happened-other}
+use Rattle.lapi_base.proofs.NameLaws.{happened-other}
 use Rattle.lapi_base.proofs.TestLaws.{eqb-refl}
 use Rattle.lapi_task.specs.declared.state.State.{State}
 use Rattle.lapi_task.specs.StandsFor.{HoldsFor, is_uncopied}
-use Rattle.lapi_task.specs.Steps.{MayStep, stored, counters_set, with_read, with_uncopied, IsRefused, IsIssued, PassesWait}
+use Rattle.lapi_task.specs.Steps.{MayStep, stored, counters_set, with_read, with_uncopied, IsRefused, IsIssued, PassesWait, IsPassed}
+use Rattle.lapi_task.specs.declared.collective.Collective.{Collective}
+use Rattle.lapi_task.specs.HasRounds.{HasRounds}
+use Rattle.lapi_task.proofs.EnteredCalls.{later-unentered}
 use Rattle.lapi_task.proofs.JobsStay.{jobs-stay}
+use Rattle.lapi_task.proofs.RoundsStay.{JoinsNone, rounds-told}
+use Rattle.lapi_task.proofs.UncopiedLaws.{LeavesMessages, uncopied-stays, nothing-yet, issue-other, issue-brings, issue-plain}
 use Rattle.lapi_task.proofs.StepMemories.{memory-none, memory-written, memory-length}
 
 -- one number more is listed, behind all others
-below-more : (n i : ℕ) (p q : ℕ → Bool) → i < n → ((k : ℕ) → k < i → p k ≡ q k) → ((k : ℕ) → i ≤ k → p k ≡ false) → q i ≡ true → ((k : ℕ) → suc i ≤ k → q k ≡ false) → below n p ++ i ∷ [] ≡ below n q
+pub below-more : (n i : ℕ) (p q : ℕ → Bool) → i < n → ((k : ℕ) → k < i → p k ≡ q k) → ((k : ℕ) → i ≤ k → p k ≡ false) → q i ≡ true → ((k : ℕ) → suc i ≤ k → q k ≡ false) → below n p ++ i ∷ [] ≡ below n q
 unfolding below
 below-more n i p q l same none here past =
     ap (λ xs. xs ++ i ∷ []) (below-cut i n p (omega arith) none ∙ below-same i p q same)
@@ -36,11 +42,20 @@ below-more n i p q l same none here past =
 
 module _ (script : Script) (rules : Rules) where
   module _ (t : ℕ) (J : List Event) where
-    -- an event that issues and copies nothing
-    pub uncopied-same : (e : Event) (k : ℕ) → key_eq (Issued t k) (key_of e) ≡ false → key_eq (Copied (message t k Go)) (key_of e) ≡ false → is_uncopied script J t k ≡ is_uncopied script (e ∷ J) t k
-    uncopied-same e k x y =
-        ap (λ b. is_data (statement script t k) && (b && not (happened (Copied (message t k Go)) J))) (sym (happened-other (Issued t k) e J x))
-        ∙ ap (λ b. is_data (statement script t k) && (happened (Issued t k) (e ∷ J) && not b)) (sym (happened-other (Copied (message t k Go)) e J y))
+    -- A statement is behind the task: the one after it was not entered.
+    pub advanced-rounds : (before after : Collective) (e : Event) → JoinsNone t e → next (e ∷ J) t ≡ suc (next J t) → after.fences ≡ before.fences → after.tables ≡ before.tables → after.entered ≡ false → Atomic script rules J → HasRounds script t before J → HasRounds script t after (e ∷ J)
+    advanced-rounds before after e none turn fences tables unentered atomic h =
+        rounds-told script t e J none before after fences tables (unentered ∙ sym (later-unentered script rules J atomic t (next (e ∷ J) t) (let l : next J t < next (e ∷ J) t = omega (arith, turn) in l))) h
+
+    -- What stays of the rounds through an event of a statement that was not entered,
+    same-rounds : (before after : State) (e : Event) → JoinsNone t e → next (e ∷ J) t ≡ suc (next J t) → after.collective ≡ before.collective → Atomic script rules J → happened (Entered t before.next) J ≡ false → HoldsFor script rules t before J → HasRounds script t after.collective (e ∷ J)
+    same-rounds before after e none turn same atomic unentered h =
+        advanced-rounds before.collective after.collective e none turn (ap (λ (c : Collective). c.fences) same) (ap (λ (c : Collective). c.tables) same)
+        (ap (λ (c : Collective). c.entered) same ∙ h.rounds.entered ∙ ap (λ i. happened (Entered t i) J) (sym h.next) ∙ unentered) atomic h.rounds
+
+    -- and what waits to be copied, where the event copies nothing.
+    pub uncopied-none : (e : Event) (items : List ℕ) → ((k : ℕ) → LeavesMessages script t e k) → items ≡ below (length (operations.statements script t)) (is_uncopied script J t) → items ≡ below (length (operations.statements script t)) (is_uncopied script (e ∷ J) t)
+    uncopied-none e items none h = h ∙ below-same _ (is_uncopied script J t) (is_uncopied script (e ∷ J) t) (λ k _. uncopied-stays script t e J k (none k))
 
     -- The record after a refusal.
     after-refuse : (i : ℕ) (why : Refusal) → (next (Refuse t i why ∷ J) t ≡ suc (next J t)) × (refusals (Refuse t i why ∷ J) t ≡ refusals J t ++ (i, why) ∷ [])
@@ -55,8 +70,8 @@ module _ (script : Script) (rules : Rules) where
     unfolding count tells
     count-refuse i c why = add-zero (count script rules J t c)
 
-    pub refused-holds : (before after : State) (old new : List Event) (why : Refusal) → HoldsFor script rules t before J → IsRefused why before after old new → HoldsFor script rules t after (Refuse t before.next why ∷ J)
-    refused-holds before after old new why h g =
+    pub refused-holds : (before after : State) (old new : List Event) (why : Refusal) → HoldsFor script rules t before J → IsRefused why before after old new → Atomic script rules J → happened (Entered t before.next) J ≡ false → HoldsFor script rules t after (Refuse t before.next why ∷ J)
+    refused-holds before after old new why h g atomic unentered =
         let i = before.next in
         let e = Refuse t i why in
         let step = g.past.next in
@@ -71,8 +86,9 @@ module _ (script : Script) (rules : Rules) where
           memory = g.memory ∙ h.memory ∙ sym (memory-none script rules e J t refl);
           counter_count = ap length g.counters ∙ h.counter_count;
           counters = λ c l. ap (λ xs. slice_index xs c) g.counters ∙ h.counters c l ∙ sym (count-refuse i c why);
-          uncopied = g.uncopied ∙ h.uncopied ∙ below-same _ (is_uncopied script J t) (is_uncopied script (e ∷ J) t) (λ k _. uncopied-same e k refl refl);
+          uncopied = g.uncopied ∙ uncopied-none e before.uncopied.items (λ k. record { issued = refl; entered = refl; data_copied = refl; joins_copied = λ d. refl }) h.uncopied;
           jobs = jobs-stay script rules t e J before.jobs after.jobs tt g.jobs h.jobs;
+          rounds = same-rounds before after e (record { entered = λ k. refl; landed = λ d k. refl }) r.0 g.collective atomic unentered h;
         }
 
     -- A counter that was set.
@@ -110,8 +126,8 @@ module _ (script : Script) (rules : Rules) where
         (λ (apart : c ≡ d → ⊥). let no = and_right (t == t) (d == c) (ne_eqb d c (λ x. apart (sym x))) in cond-false (t == t && d == c) _ (n c) no ∙ sym (cond-false (t == t && d == c) _ (n c) no))
         (cases_eq c d)
 
-    pub passed-holds : (before after : State) (old new : List Event) (d value : ℕ) → statement script t before.next ≡ statements.Wait d value → d < length before.counters → HoldsFor script rules t before J → PassesWait d value before after old new → HoldsFor script rules t after (Pass t before.next ∷ J)
-    passed-holds before after old new d value is there h g =
+    pub passed-holds : (before after : State) (old new : List Event) (d value : ℕ) → statement script t before.next ≡ statements.Wait d value → d < length before.counters → HoldsFor script rules t before J → PassesWait d value before after old new → Atomic script rules J → happened (Entered t before.next) J ≡ false → HoldsFor script rules t after (Pass t before.next ∷ J)
+    passed-holds before after old new d value is there h g atomic unentered =
         let i = before.next in
         let e = Pass t i in
         let step = g.past.next in
@@ -132,8 +148,40 @@ module _ (script : Script) (rules : Rules) where
               ∙ ap (λ x. cond (t == t && d == c) (x - value) (count script rules J t c)) (h.counters d known)
               ∙ taken-at (count script rules J t) d value c
               ∙ sym (count-pass i d value c is);
-          uncopied = g.uncopied ∙ h.uncopied ∙ below-same _ (is_uncopied script J t) (is_uncopied script (e ∷ J) t) (λ k _. uncopied-same e k refl refl);
+          uncopied = g.uncopied ∙ uncopied-none e before.uncopied.items (λ k. record { issued = refl; entered = refl; data_copied = refl; joins_copied = λ d. refl }) h.uncopied;
           jobs = jobs-stay script rules t e J before.jobs after.jobs tt g.jobs h.jobs;
+          rounds = same-rounds before after e (record { entered = λ k. refl; landed = λ d k. refl }) r.0 g.collective atomic unentered h;
+        }
+
+    -- what isn't a wait takes nothing from a counter,
+    none-taken : (s : Statement) → ((d value : ℕ) → s ≡ statements.Wait d value → ⊥) → (c n : ℕ) → passed_count script rules s t t c n ≡ n
+    none-taken (statements.Wait d value) no-wait c n = absurd (no-wait d value refl)
+    none-taken _ no-wait c n = refl
+
+    count-stood : (i c : ℕ) → ((d value : ℕ) → statement script t i ≡ statements.Wait d value → ⊥) → count script rules (Pass t i ∷ J) t c ≡ count script rules J t c
+    unfolding count
+    count-stood i c no-wait = none-taken (statement script t i) no-wait c (count script rules J t c)
+
+    -- and leaves all but its place.
+    pub stood-holds : (before after : State) (old new : List Event) → ((d value : ℕ) → statement script t before.next ≡ statements.Wait d value → ⊥) → HoldsFor script rules t before J → IsPassed before after old new → Atomic script rules J → HoldsFor script rules t after (Pass t before.next ∷ J)
+    stood-holds before after old new no-wait h g atomic =
+        let i = before.next in
+        let e = Pass t i in
+        let step = g.past.next in
+        let was = h.next in
+        let r = after-pass i in
+        record {
+          number = g.past.number ∙ h.number;
+          next = (let x : after.next ≡ suc (next J t) = omega (arith, step, was) in x) ∙ sym r.0;
+          ahead = λ k l. happened-other (Issued t k) e J refl ∙ h.ahead k (omega (arith, l, step));
+          reads = ap (λ (x : State). x.reads.items) g.rest ∙ h.reads ∙ sym (reads-pass i);
+          refusals = ap (λ (x : State). x.refusals.items) g.rest ∙ h.refusals ∙ sym r.1;
+          memory = ap (λ (x : State). x.memory) g.rest ∙ h.memory ∙ sym (memory-none script rules e J t refl);
+          counter_count = ap (λ (x : State). length x.counters) g.rest ∙ h.counter_count;
+          counters = λ c l. ap (λ (x : State). slice_index x.counters c) g.rest ∙ h.counters c l ∙ sym (count-stood i c no-wait);
+          uncopied = ap (λ (x : State). x.uncopied.items) g.rest ∙ uncopied-none e before.uncopied.items (λ k. record { issued = refl; entered = refl; data_copied = refl; joins_copied = λ d. refl }) h.uncopied;
+          jobs = jobs-stay script rules t e J before.jobs after.jobs tt (ap (λ (x : State). x.jobs) g.rest) h.jobs;
+          rounds = advanced-rounds before.collective after.collective e (record { entered = λ k. refl; landed = λ d k. refl }) r.0 (ap (λ (x : State). x.collective.fences) g.rest) (ap (λ (x : State). x.collective.tables) g.rest) (ap (λ (x : State). x.collective.entered) g.rest) atomic h.rounds;
         }
 
     -- The record after an issue.
@@ -174,9 +222,6 @@ module _ (script : Script) (rules : Rules) where
       counters-issued (statements.Set counter value) u c l = set-at before.counters counter value c (count script rules J t c) u (h.counters c l)
       counters-issued _ u c l = h.counters c l
 
-      uncopied-other : (k : ℕ) → (k ≡ before.next → ⊥) → is_uncopied script J t k ≡ is_uncopied script (Issue t before.next ∷ J) t k
-      uncopied-other k apart = uncopied-same (Issue t before.next) k (and_right (t == t) (k == before.next) (ne_eqb k before.next apart)) refl
-
       -- a statement without data
       no-data : (s : Statement) → statement script t before.next ≡ s → is_data s ≡ false → before.uncopied.items ≡ below (length (operations.statements script t)) (is_uncopied script (Issue t before.next ∷ J) t)
       no-data s e d =
@@ -184,43 +229,58 @@ module _ (script : Script) (rules : Rules) where
           ∙ below-same _ (is_uncopied script J t) (is_uncopied script (Issue t before.next ∷ J) t)
           (λ k _.
           ⊎_elim
-          (λ (same : k ≡ before.next). let none = ap is_data (ap (statement script t) same ∙ e) ∙ d in and_left (is_data (statement script t k)) _ none ∙ sym (and_left (is_data (statement script t k)) _ none))
-          (λ (apart : k ≡ before.next → ⊥). uncopied-other k apart)
+          (λ (same : k ≡ before.next). subst (λ i. is_uncopied script J t i ≡ is_uncopied script (Issue t before.next ∷ J) t i) (sym same) (issue-plain script t J before.next (ap is_data e ∙ d)))
+          (λ (apart : k ≡ before.next → ⊥). issue-other script t J before.next k apart)
           (cases_eq k before.next))
 
-      -- a statement with data
-      some-data : (s : Statement) → statement script t before.next ≡ s → is_data s ≡ true → before.next < length (operations.statements script t) → happened (Copied (message t before.next Go)) J ≡ false → before.uncopied.items ++ before.next ∷ [] ≡ below (length (operations.statements script t)) (is_uncopied script (Issue t before.next ∷ J) t)
-      some-data s e d within fresh =
-          ap (λ xs. xs ++ before.next ∷ []) h.uncopied
-          ∙ below-more _ before.next (is_uncopied script J t) (is_uncopied script (Issue t before.next ∷ J) t) within
-          (λ k l. uncopied-other k (λ x. let y = x in omega (arith, l, y)))
-          (λ k l. and_right (is_data (statement script t k)) _ (and_left (happened (Issued t k) J) _ (h.ahead k l)))
-          (and_from (is_data (statement script t before.next)) _ (ap is_data e ∙ d)
-          (and_from (happened (Issued t before.next) (Issue t before.next ∷ J)) _ (happened-head (Issue t before.next) J)
-          (ap not (happened-other (Copied (message t before.next Go)) (Issue t before.next) J refl ∙ fresh))))
-          (λ k l. and_right (is_data (statement script t k)) _ (and_left (happened (Issued t k) (Issue t before.next ∷ J)) _ (issued-later before.next k l (h.ahead k (omega arith)))))
+      module _ (atomic : Atomic script rules J) (unentered : happened (Entered t before.next) J ≡ false) where
+        -- what stands from the next statement on has not begun
+        pub unentered-on : (k : ℕ) → before.next ≤ k → happened (Entered t k) J ≡ false
+        unentered-on k l =
+            ⊎_elim
+            (λ (same : k ≡ before.next). subst (λ i. happened (Entered t i) J ≡ false) (sym same) unentered)
+            (λ (apart : k ≡ before.next → ⊥). later-unentered script rules J atomic t k (let past : next J t < k = later k l apart in past))
+            (cases_eq k before.next)
+          where
+            later : (k : ℕ) → before.next ≤ k → (k ≡ before.next → ⊥) → next J t < k
+            later k l apart =
+                ⊎_elim
+                (λ (lt : before.next < k). let n = h.next in omega (arith, lt, n))
+                (λ (ge : k ≤ before.next). absurd (apart (let e : k ≡ before.next = omega (arith, l, ge) in e)))
+                (cases_lt before.next k)
 
-      uncopied-issued : (s : Statement) → statement script t before.next ≡ s → before.next < length (operations.statements script t) → happened (Copied (message t before.next Go)) J ≡ false → with_uncopied s before.next before.uncopied.items ≡ below (length (operations.statements script t)) (is_uncopied script (Issue t before.next ∷ J) t)
-      uncopied-issued s e l fresh =
-          cond_both (is_data s) (before.uncopied.items ++ before.next ∷ []) before.uncopied.items (λ xs. xs ≡ below (length (operations.statements script t)) (is_uncopied script (Issue t before.next ∷ J) t))
-          (λ d. some-data s e d l fresh)
-          (λ d. no-data s e d)
+        -- a statement with data
+        some-data : (s : Statement) → statement script t before.next ≡ s → is_data s ≡ true → before.next < length (operations.statements script t) → happened (Copied (message t before.next Go)) J ≡ false → before.uncopied.items ++ before.next ∷ [] ≡ below (length (operations.statements script t)) (is_uncopied script (Issue t before.next ∷ J) t)
+        some-data s e d within fresh =
+            ap (λ xs. xs ++ before.next ∷ []) h.uncopied
+            ∙ below-more _ before.next (is_uncopied script J t) (is_uncopied script (Issue t before.next ∷ J) t) within
+            (λ k l. issue-other script t J before.next k (λ x. let y = x in omega (arith, l, y)))
+            (λ k l. nothing-yet script t J k (h.ahead k l) (unentered-on k l))
+            (issue-brings script t J before.next (ap is_data e ∙ d) fresh)
+            (λ k l. nothing-yet script t (Issue t before.next ∷ J) k (issued-later before.next k l (h.ahead k (omega arith))) (happened-other (Entered t k) (Issue t before.next) J refl ∙ unentered-on k (omega arith)))
 
-      pub issued-holds : (after : State) (old new : List Event) (s : Statement) → statement script t before.next ≡ s → MayStep s before.memory before.counters → before.next < length (operations.statements script t) → happened (Copied (message t before.next Go)) J ≡ false → IsIssued s before after old new → HoldsFor script rules t after (Issue t before.next ∷ J)
-      issued-holds after old new s e u within fresh g =
-          let i = before.next in
-          let step = g.past.next in
-          let was = h.next in
-          let r = after-issue i in
-          record {
-            number = g.past.number ∙ h.number;
-            next = (let x : after.next ≡ suc (next J t) = omega (arith, step, was) in x) ∙ sym r.0;
-            ahead = λ k l. issued-later i k (omega (arith, l, step)) (h.ahead k (omega (arith, l, step)));
-            reads = g.reads ∙ reads-issued s u ∙ sym (reads-issue i s e);
-            refusals = g.refusals ∙ h.refusals ∙ sym r.1;
-            memory = g.memory ∙ memory-issued s e u;
-            counter_count = ap length g.counters ∙ count-issued s ∙ h.counter_count;
-            counters = λ c l. ap (λ xs. slice_index xs c) g.counters ∙ counters-issued s u c l ∙ sym (count-issue i c s e);
-            uncopied = g.uncopied ∙ uncopied-issued s e within fresh;
-            jobs = jobs-stay script rules t (Issue t i) J before.jobs after.jobs tt g.jobs h.jobs;
-          }
+        uncopied-issued : (s : Statement) → statement script t before.next ≡ s → before.next < length (operations.statements script t) → happened (Copied (message t before.next Go)) J ≡ false → with_uncopied s before.next before.uncopied.items ≡ below (length (operations.statements script t)) (is_uncopied script (Issue t before.next ∷ J) t)
+        uncopied-issued s e l fresh =
+            cond_both (is_data s) (before.uncopied.items ++ before.next ∷ []) before.uncopied.items (λ xs. xs ≡ below (length (operations.statements script t)) (is_uncopied script (Issue t before.next ∷ J) t))
+            (λ d. some-data s e d l fresh)
+            (λ d. no-data s e d)
+
+        pub issued-holds : (after : State) (old new : List Event) (s : Statement) → statement script t before.next ≡ s → MayStep s before.memory before.counters → before.next < length (operations.statements script t) → happened (Copied (message t before.next Go)) J ≡ false → IsIssued s before after old new → HoldsFor script rules t after (Issue t before.next ∷ J)
+        issued-holds after old new s e u within fresh g =
+            let i = before.next in
+            let step = g.past.next in
+            let was = h.next in
+            let r = after-issue i in
+            record {
+              number = g.past.number ∙ h.number;
+              next = (let x : after.next ≡ suc (next J t) = omega (arith, step, was) in x) ∙ sym r.0;
+              ahead = λ k l. issued-later i k (omega (arith, l, step)) (h.ahead k (omega (arith, l, step)));
+              reads = g.reads ∙ reads-issued s u ∙ sym (reads-issue i s e);
+              refusals = g.refusals ∙ h.refusals ∙ sym r.1;
+              memory = g.memory ∙ memory-issued s e u;
+              counter_count = ap length g.counters ∙ count-issued s ∙ h.counter_count;
+              counters = λ c l. ap (λ xs. slice_index xs c) g.counters ∙ counters-issued s u c l ∙ sym (count-issue i c s e);
+              uncopied = g.uncopied ∙ uncopied-issued s e within fresh;
+              jobs = jobs-stay script rules t (Issue t i) J before.jobs after.jobs tt g.jobs h.jobs;
+              rounds = same-rounds before after (Issue t i) (record { entered = λ k. refl; landed = λ d k. refl }) r.0 g.collective atomic unentered h;
+            }

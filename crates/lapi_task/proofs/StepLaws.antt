@@ -1,7 +1,7 @@
 -- What a step does, by the event that it adds.
-use Rattle.std.proofs.Common.{◌≡◌, ℕ, ◌+◌, ◌<◌, ◌≤◌, ◌^◌, Bool, true, false, cond, List, [], ◌∷◌, ◌++◌, length, Option, Some, None, refl, sym, ap, ◌∙◌, subst, arith}
+use Rattle.std.proofs.Common.{◌≡◌, ℕ, ◌+◌, ◌<◌, ◌≤◌, ◌^◌, Bool, true, false, cond, List, [], ◌∷◌, ◌++◌, length, Option, Some, None, refl, sym, ap, ◌∙◌, subst, ⊎_elim, arith}
 use Rattle.std.specs.Prelude.{slice_get, slice_index, nat_lt, nat_le}
-use Rattle.std.proofs.lemmas.Bool.{false≢true, cond-true, cond-false, lt-ltb, le-ltb, le-leb, lt-leb, both_ways, false_from_ne_true}
+use Rattle.std.proofs.lemmas.Bool.{cases_Bool, false≢true, cond-true, cond-false, lt-ltb, le-ltb, le-leb, lt-leb, both_ways, false_from_ne_true}
 use Rattle.std.proofs.lemmas.List.{append-nil}
 use Rattle.std.proofs.lemmas.Option.{slice_get_within}
 use Rattle.lapi_base.specs.declared.script.Script.{Script}
@@ -14,15 +14,14 @@ use Rattle.lapi_base.specs.declared.event.Event.TheVariants.{Issue, Refuse, Pass
 use Rattle.lapi_base.specs.declared.message.Leg.TheVariants.{Go, Back}
 use Rattle.lapi_base.specs.declared.reply.Reply.{Reply}
 use Rattle.lapi_base.specs.declared.reply.Reply.TheVariants.{Did, Idle, Blocked}
-use Rattle.lapi_base.specs.Record.Atomic.{needs, to_begin}
-use Rattle.lapi_base.specs.Input.Built.{is_built_statement}
+use Rattle.lapi_base.specs.Record.Atomic.{Atomic, needs, to_begin}
 use Rattle.lapi_base.specs.Record.Counters.{count}
-use Rattle.lapi_base.specs.Record.Names.{message, happened, key_of, key_eq, Issued, Copied, Landed, Begun, Ended}
-use Rattle.lapi_base.specs.Record.Operations.{statement}
+use Rattle.lapi_base.specs.Record.Names.{message, happened, key_of, key_eq, Issued, Entered, Copied, Landed, Begun, Ended}
+use Rattle.lapi_base.specs.Record.Operations.{statement, has_join}
 use Rattle.lapi_base.specs.Record.Operations as operations
 use Rattle.lapi_base.specs.Record.Wires.{Run, numbered}
 use Rattle.lapi_base.specs.Record.Acts.{step, event_if, add_event, unless_refused, reply_with, with_events, followed, proposed}
-use Rattle.lapi_base.specs.Record.Refusals.{next, refusal_of}
+use Rattle.lapi_base.specs.Record.Refusals.{next, refusal_by, refusal_of, is_known}
 use Rattle.lapi_base.specs.Record.Values.{values}
 use Rattle.lapi_base.proofs.ListLaws.{get-none}
 use Rattle.lapi_laws.proofs.Backward.{closed}
@@ -31,14 +30,18 @@ use Rattle.lapi_parts.proofs.Records.{record-sound}
 use Rattle.lapi_task.specs.declared.outcome.Outcome.{Outcome}
 use Rattle.lapi_task.specs.declared.state.State.{State}
 use Rattle.lapi_task.specs.declared.task.Task.{Task}
-use Rattle.lapi_task.specs.Supported.{IsSupported}
-use Rattle.lapi_calls.specs.Reasons.{IsRefusalAfter}
+use Rattle.lapi_base.specs.Record.Valid.{ValidScript}
+use Rattle.lapi_calls.specs.Calls.{IsCall, KnowsPassed}
+use Rattle.lapi_calls.specs.Entries.{is_told}
+use Rattle.lapi_calls.specs.Reasons.{IsRefusal, IsRefusalAfter}
 use Rattle.lapi_task.specs.Sends.{packet_at, SendsFor}
 use Rattle.lapi_task.specs.StandsFor.{SenderAt, HoldsFor, StandsFor}
 use Rattle.lapi_task.specs.HasEffect.{IsAt, HasEffect}
-use Rattle.lapi_task.specs.Steps.{MayStep, Advances, IsRefused, IsIssued, PassesWait, IsBlocked}
-use Rattle.lapi_task.proofs.Forms.{statement-is, statement-built}
-use Rattle.lapi_task.proofs.ReasonForms.{suits, none-passed, few-statements}
+use Rattle.lapi_task.specs.Steps.{MayStep, IsRefused, IsIssued, PassesWait, IsBlocked}
+use Rattle.lapi_task.proofs.Forms.{statement-is}
+use Rattle.lapi_task.proofs.ReasonForms.{suits, few-statements}
+use Rattle.lapi_task.proofs.EnteredCalls.{call-reason, entered-joins, other-unentered, refused-unentered}
+use Rattle.lapi_task.proofs.KnownRounds.{knows_round, address_given, are-given, knows-passed}
 use Rattle.lapi_task.proofs.StepMemories.{memory-length}
 use Rattle.lapi_task.proofs.Tags.{tags-same}
 use Rattle.lapi_task.proofs.StepFields.{refused-holds, passed-holds, issued-holds}
@@ -48,9 +51,13 @@ use Rattle.lapi_task.proofs.UnfinishedLaws.{tracks-told, tracks-stay, tracks-iss
 use Rattle.lapi_base.specs.Record.Handlers.{has_completion}
 use Rattle.std.specs.List.{AllByRecursion}
 
--- why a task without addresses refuses a statement, if it does
+-- why a task refuses a statement, if it does, by the addresses that it knows
 abbrev pub FindsReason : Task → Statement → Option Refusal → Type 0
-FindsReason task s x = (o : Option Refusal) × IsRefusalAfter task.limits (λ round. false) (λ round d. 0) task.state.number s o × (o ≡ x)
+FindsReason task s x =
+    (o : Option Refusal)
+    × IsRefusal task.limits (knows_round task.state.collective) (address_given task.state.collective) task.state.number s o
+    × IsRefusalAfter task.limits (knows_round task.state.collective) (address_given task.state.collective) task.state.number s o
+    × (o ≡ x)
 
 module _ (script : Script) (rules : Rules) where
   -- the record with an event and a reply more
@@ -102,13 +109,13 @@ module _ (script : Script) (rules : Rules) where
       let w : Run = record r { journal = Issue t j ∷ r.journal } in
       tracks-told script rules t (record u { undone = flags_issued (operations.is_data (statement script t j)) j u.undone }) w (stepped r (Issue t j)) refl (λ b n. refl) (tracks-issued script rules t u r j within copied landed h)
 
-  pub does-event : (t : ℕ) (r : Run) (e : Event) (before : Task) (after : State) (u : Unfinished) (old new : Outcome) → IsQuiet e r.journal → StandsFor script rules t before r → Advances e before.state after old.events new.events → new.entries ≡ old.entries → HoldsFor script rules t after (e ∷ r.journal) → Tracks script rules t u (stepped r e) → HasEffect script rules t r (stepped r e) (record before { state = after; unfinished = u }) old new
+  pub does-event : (t : ℕ) (r : Run) (e : Event) (before : Task) (after : State) (u : Unfinished) (old new : Outcome) → IsQuiet e r.journal → StandsFor script rules t before r → new.events ≡ old.events ++ e ∷ [] → new.entries ≡ old.entries → HoldsFor script rules t after (e ∷ r.journal) → Tracks script rules t u (stepped r e) → HasEffect script rules t r (stepped r e) (record before { state = after; unfinished = u }) old new
   unfolding followed
   does-event t r e before after u old new q h g same holds tracks = record {
     events = e ∷ [];
     entries = [];
     stands = record {
-      calls = record { supported = h.calls.supported; rules_valid = h.calls.rules_valid; sizes = h.calls.sizes; statements = h.calls.statements; limits = h.calls.limits };
+      calls = record { valid = h.calls.valid; rules_valid = h.calls.rules_valid; sizes = h.calls.sizes; statements = h.calls.statements; limits = h.calls.limits; rounds = h.calls.rounds };
       holds = holds;
       unfinished = tracks;
       sender_count = h.sender_count;
@@ -117,7 +124,7 @@ module _ (script : Script) (rules : Rules) where
       receivers = h.receivers;
     };
     journal = refl;
-    events_added = g.events;
+    events_added = g;
     put = λ b l. sym (append-nil _);
     entries_added = same ∙ sym (append-nil old.entries);
     ends = tt;
@@ -157,7 +164,7 @@ module _ (script : Script) (rules : Rules) where
     ends = tt;
   }
 
-  module _ (p : IsSupported script) where
+  module _ (p : ValidScript script) where
     -- what a step adds, by its statement
     step-some : (r : Run) (t i : ℕ) (s : Statement) → i ≡ next r.journal t → slice_get (operations.statements script t) i ≡ Some s → step script rules r t ≡ add_event script rules r (unless_refused script rules r t i (refusal_of script rules r.journal t i))
     unfolding step
@@ -178,32 +185,38 @@ module _ (script : Script) (rules : Rules) where
         ∙ ap (λ o. add_event script rules r (unless_refused script rules r t i o)) h
         ∙ ap (λ x. add_event script rules r (proposed script rules r t i x)) (statement-is script t i s found)
 
-    -- a statement that is no wait and no fence is issued
-    issues : (r : Run) (t i : ℕ) (s : Statement) → is_built_statement s ≡ true → ((counter value : ℕ) → s ≡ statements.Wait counter value → ⊥) → (s ≡ statements.Fence → ⊥) → proposed script rules r t i s ≡ Some (Issue t i)
-    unfolding is_built_statement
-    issues r t i (statements.Store at bytes) b no-wait no-fence = refl
-    issues r t i (statements.Put target to from len tgt org cmpl) b no-wait no-fence = refl
-    issues r t i (statements.Get target from to len tgt org) b no-wait no-fence = refl
-    issues r t i (statements.Putv target to from tgt org cmpl) b no-wait no-fence = refl
-    issues r t i (statements.Getv target from to tgt org) b no-wait no-fence = refl
-    issues r t i (statements.Rmw target op at in1 in2 prev org) b no-wait no-fence = refl
-    issues r t i (statements.Am target handler header from len tgt org cmpl) b no-wait no-fence = refl
-    issues r t i (statements.Set counter value) b no-wait no-fence = refl
-    issues r t i (statements.Read counter) b no-wait no-fence = refl
-    issues r t i (statements.Wait counter value) b no-wait no-fence = absurd (no-wait counter value refl)
-    issues r t i statements.Fence b no-wait no-fence = absurd (no-fence refl)
-    issues r t i _ b no-wait no-fence = absurd (false≢true b)
+    -- a statement that is no wait, no fence and no collective call is issued
+    issues : (r : Run) (t i : ℕ) (s : Statement) → has_join s ≡ false → ((counter value : ℕ) → s ≡ statements.Wait counter value → ⊥) → (s ≡ statements.Fence → ⊥) → proposed script rules r t i s ≡ Some (Issue t i)
+    issues r t i (statements.Store at bytes) alone no-wait no-fence = refl
+    issues r t i (statements.Put target to from len tgt org cmpl) alone no-wait no-fence = refl
+    issues r t i (statements.Get target from to len tgt org) alone no-wait no-fence = refl
+    issues r t i (statements.Putv target to from tgt org cmpl) alone no-wait no-fence = refl
+    issues r t i (statements.Getv target from to tgt org) alone no-wait no-fence = refl
+    issues r t i (statements.Rmw target op at in1 in2 prev org) alone no-wait no-fence = refl
+    issues r t i (statements.Am target handler header from len tgt org cmpl) alone no-wait no-fence = refl
+    issues r t i (statements.Set counter value) alone no-wait no-fence = refl
+    issues r t i (statements.Read counter) alone no-wait no-fence = refl
+    issues r t i (statements.Wait counter value) alone no-wait no-fence = absurd (no-wait counter value refl)
+    issues r t i statements.Fence alone no-wait no-fence = absurd (no-fence refl)
+    issues r t i statements.Gfence alone no-wait no-fence = absurd (false≢true (sym alone))
+    issues r t i (Statement.Addr at) alone no-wait no-fence = absurd (false≢true (sym alone))
 
     -- A task before one of its statements, or past them all.
     module _ (before : Task) (t : ℕ) (r : Run) (at : IsAt script rules t before r) where
       abbrev place : ℕ
       place = before.state.next
 
+      abbrev J : List Event
+      J = r.journal
+
+      pub atomic : Atomic script rules r.journal
+      atomic = (record-sound script rules r at.recorded).atomic
+
       own : (o : Option Statement) → slice_get before.statements place ≡ o → slice_get (operations.statements script t) place ≡ o
       own o h = ap (λ (list : List Statement). slice_get list place) (sym at.stands.calls.statements) ∙ h
 
-      pub named : (f : ℕ → ℕ → Event) (after : State) (old new : List Event) → Advances (f before.state.number place) before.state after old new → Advances (f t place) before.state after old new
-      named f after old new = subst (λ n. Advances (f n place) before.state after old new) at.stands.holds.number
+      pub named : (f : ℕ → ℕ → Event) (old new : List Event) → new ≡ old ++ f before.state.number place ∷ [] → new ≡ old ++ f t place ∷ []
+      named f old new = subst (λ n. new ≡ old ++ f n place ∷ []) at.stands.holds.number
 
       idle-step : slice_get before.statements place ≡ None → step script rules r t ≡ reply_with script rules r Idle
       idle-step found = step-none r t place at.stands.holds.next (own None found)
@@ -221,18 +234,36 @@ module _ (script : Script) (rules : Rules) where
         pub is : statement script t place ≡ s
         is = statement-is script t place s here
 
-        built : is_built_statement s ≡ true
-        built = statement-built script p t place s here
-
         within : place < length (operations.statements script t)
         within = slice_get_within (operations.statements script t) place s here
 
-        -- The reason that was found is the record's, since no address is known.
+        by-told : has_join (statement script t place) ≡ true → refusal_of script rules J t place ≡ refusal_by script rules (is_told (knows_round before.state.collective)) t place
+        unfolding refusal_of
+        by-told joins = call-reason script rules (is_known script J t) (is_told (knows_round before.state.collective)) t place joins
+
+        called : IsCall script (knows_round before.state.collective) (address_given before.state.collective) before.state.number place s
+        called = record {
+          is_statement = sym (ap (λ (a : ℕ). statement script a place) at.stands.holds.number ∙ is);
+          are_given = are-given script rules p J atomic t at.known before.state.collective at.stands.holds.rounds;
+        }
+
+        -- The reason that was found is the record's: the task knows what it has passed, or has entered this call.
         pub found-reason : (o : Option Refusal) → FindsReason before s o → refusal_of script rules r.journal t place ≡ o
         found-reason o h =
-            ap (λ (a : ℕ). refusal_of script rules r.journal a place) (sym at.stands.holds.number)
-            ∙ sym (h.1 script rules r.journal place at.stands.calls.limits (record { is_statement = sym (ap (λ (a : ℕ). statement script a place) at.stands.holds.number ∙ is); are_given = λ round d known. absurd (false≢true known) }) (none-passed script p r.journal before.state.number))
-            ∙ h.2
+            ap (λ (a : ℕ). refusal_of script rules J a place) (sym at.stands.holds.number)
+            ∙ ⊎_elim
+            (λ (entered : happened (Entered t place) J ≡ true).
+            ap (λ (a : ℕ). refusal_of script rules J a place) at.stands.holds.number
+            ∙ by-told (entered-joins script rules J atomic t place entered)
+            ∙ ap (λ (a : ℕ). refusal_by script rules (is_told (knows_round before.state.collective)) a place) (sym at.stands.holds.number)
+            ∙ sym (h.1 script rules place at.stands.calls.limits called))
+            (λ (unentered : happened (Entered t place) J ≡ false).
+            sym (h.2 script rules J place at.stands.calls.limits called
+            (subst (λ (a : ℕ). KnowsPassed script J a (knows_round before.state.collective)) (sym at.stands.holds.number)
+            (knows-passed script rules p J atomic t at.known before.state.collective at.stands.holds.rounds
+            (subst (λ (i : ℕ). happened (Entered t i) J ≡ false) at.stands.holds.next unentered)))))
+            (cases_Bool (happened (Entered t place) J))
+            ∙ h.3
 
         pub next-fits : place + 1 < 2 ^ 32
         next-fits = let few = few-statements script p t in let l = within in omega (arith, few, l)
@@ -248,8 +279,8 @@ module _ (script : Script) (rules : Rules) where
         refused-does reason after old new h same g =
             subst (λ x. HasEffect script rules t r x (record before { state = after }) old new) (sym (refused-step reason h))
             (does-event t r (Refuse t place reason) before after before.unfinished old new (refuse-quiet t place reason r.journal) at.stands
-            (named (λ n i. Refuse n i reason) after old.events new.events g.past) same
-            (refused-holds script rules t r.journal before.state after old.events new.events reason at.stands.holds g)
+            (named (λ n i. Refuse n i reason) old.events new.events g.past.events) same
+            (refused-holds script rules t r.journal before.state after old.events new.events reason at.stands.holds g atomic (refused-unentered script rules J atomic t place J reason (found-reason (Some reason) h)))
             (quiet-tracks t r (Refuse t place reason) before.unfinished (refuse-quiet t place reason r.journal) (λ i. (refl, refl, refl)) at.stands.unfinished))
 
         pub refused-replies : (reason : Refusal) → FindsReason before s (Some reason) → (step script rules r t).replies ≡ r.replies ++ Did ∷ []
@@ -259,17 +290,15 @@ module _ (script : Script) (rules : Rules) where
         fresh : happened (Copied (message t place Go)) r.journal ≡ false
         unfolding needs
         fresh =
-            let sound = record-sound script rules r at.recorded in
-            false_from_ne_true _ (λ d. both_ways _ (at.stands.holds.ahead place (omega arith)) (closed script rules (Copied (message t place Go)) r.journal sound.atomic d).0)
+            false_from_ne_true _ (λ d. both_ways _ (at.stands.holds.ahead place (omega arith)) (closed script rules (Copied (message t place Go)) r.journal atomic d).0)
 
-        issued-step : ((counter value : ℕ) → s ≡ statements.Wait counter value → ⊥) → (s ≡ statements.Fence → ⊥) → FindsReason before s None → step script rules r t ≡ stepped r (Issue t place)
-        issued-step no-wait no-fence h = step-by r t place s at.stands.holds.next here (found-reason None h) ∙ ap (add_event script rules r) (issues r t place s built no-wait no-fence)
+        issued-step : has_join s ≡ false → ((counter value : ℕ) → s ≡ statements.Wait counter value → ⊥) → (s ≡ statements.Fence → ⊥) → FindsReason before s None → step script rules r t ≡ stepped r (Issue t place)
+        issued-step alone no-wait no-fence h = step-by r t place s at.stands.holds.next here (found-reason None h) ∙ ap (add_event script rules r) (issues r t place s alone no-wait no-fence)
 
         unlanded : happened (Landed (message t place Back)) r.journal ≡ false
         unfolding needs
         unlanded =
-            let sound = record-sound script rules r at.recorded in
-            false_from_ne_true _ (λ d. both_ways _ (at.stands.holds.ahead place (omega arith)) (begun-by (has_completion script rules t place) (closed script rules (Landed (message t place Back)) r.journal sound.atomic d).1))
+            false_from_ne_true _ (λ d. both_ways _ (at.stands.holds.ahead place (omega arith)) (begun-by (has_completion script rules t place) (closed script rules (Landed (message t place Back)) r.journal atomic d).1))
           where
             begun-by : (b : Bool) → AllByRecursion (λ x. happened x r.journal ≡ true) (cond b (Begun (message t place Go) ∷ Ended (message t place Go) ∷ []) [] ++ to_begin script rules t place) → happened (Issued t place) r.journal ≡ true
             begun-by true h = h.1.1.1.0
@@ -285,16 +314,16 @@ module _ (script : Script) (rules : Rules) where
         pub has-flag : place < length before.unfinished.undone
         has-flag = let l = within in let n = at.stands.unfinished.size.0 in omega (arith, l, n)
 
-        pub issued-does : (after : State) (old new : Outcome) → ((counter value : ℕ) → s ≡ statements.Wait counter value → ⊥) → (s ≡ statements.Fence → ⊥) → FindsReason before s None → new.entries ≡ old.entries → IsIssued s before.state after old.events new.events → HasEffect script rules t r (step script rules r t) (record before { state = after; unfinished = opened }) old new
-        issued-does after old new no-wait no-fence h same g =
-            subst (λ x. HasEffect script rules t r x (record before { state = after; unfinished = opened }) old new) (sym (issued-step no-wait no-fence h))
+        pub issued-does : (after : State) (old new : Outcome) → has_join s ≡ false → ((counter value : ℕ) → s ≡ statements.Wait counter value → ⊥) → (s ≡ statements.Fence → ⊥) → FindsReason before s None → new.entries ≡ old.entries → IsIssued s before.state after old.events new.events → HasEffect script rules t r (step script rules r t) (record before { state = after; unfinished = opened }) old new
+        issued-does after old new alone no-wait no-fence h same g =
+            subst (λ x. HasEffect script rules t r x (record before { state = after; unfinished = opened }) old new) (sym (issued-step alone no-wait no-fence h))
             (does-event t r (Issue t place) before after opened old new (issue-quiet t place r.journal) at.stands
-            (named Issue after old.events new.events g.past) same
-            (issued-holds script rules t r.journal before.state at.stands.holds after old.events new.events s is (is-suited h) within fresh g)
+            (named Issue old.events new.events g.past.events) same
+            (issued-holds script rules t r.journal before.state at.stands.holds atomic (other-unentered script rules J atomic t place (ap has_join is ∙ alone)) after old.events new.events s is (is-suited h) within fresh g)
             opened-tracks)
 
-        pub issued-replies : ((counter value : ℕ) → s ≡ statements.Wait counter value → ⊥) → (s ≡ statements.Fence → ⊥) → FindsReason before s None → (step script rules r t).replies ≡ r.replies ++ Did ∷ []
-        issued-replies no-wait no-fence h = ap (λ (x : Run). x.replies) (issued-step no-wait no-fence h)
+        pub issued-replies : has_join s ≡ false → ((counter value : ℕ) → s ≡ statements.Wait counter value → ⊥) → (s ≡ statements.Fence → ⊥) → FindsReason before s None → (step script rules r t).replies ≡ r.replies ++ Did ∷ []
+        issued-replies alone no-wait no-fence h = ap (λ (x : Run). x.replies) (issued-step alone no-wait no-fence h)
 
       -- or it is a wait, which passes or not.
       module _ (counter value : ℕ) (found : slice_get before.statements place ≡ Some (statements.Wait counter value)) (accepted : FindsReason before (statements.Wait counter value) None) where
@@ -322,8 +351,8 @@ module _ (script : Script) (rules : Rules) where
         passed-does after old new same g =
             subst (λ x. HasEffect script rules t r x (record before { state = after }) old new) (sym (passed-step g.enough))
             (does-event t r (Pass t place) before after before.unfinished old new (pass-quiet t place r.journal) at.stands
-            (named Pass after old.events new.events g.past) same
-            (passed-holds script rules t r.journal before.state after old.events new.events counter value (is (statements.Wait counter value) found) there at.stands.holds g)
+            (named Pass old.events new.events g.past.events) same
+            (passed-holds script rules t r.journal before.state after old.events new.events counter value (is (statements.Wait counter value) found) there at.stands.holds g atomic (other-unentered script rules J atomic t place (ap has_join (is (statements.Wait counter value) found))))
             (quiet-tracks t r (Pass t place) before.unfinished (pass-quiet t place r.journal) (λ i. (refl, refl, refl)) at.stands.unfinished))
 
         pub passed-replies : value ≤ slice_index before.state.counters counter → (step script rules r t).replies ≡ r.replies ++ Did ∷ []

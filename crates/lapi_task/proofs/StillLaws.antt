@@ -1,25 +1,24 @@
 -- A task is still where it has nothing to copy and its links are settled.
-use Rattle.std.proofs.Common.{◌≡◌, ℕ, zero, suc, ◌+◌, ◌-◌, ◌<◌, ◌==◌, Bool, true, false, cond, ◌&&◌, not, List, [], ◌∷◌, ◌++◌, length, map, min, Option, Some, refl, sym, ap, ◌∙◌, subst, ⊎_elim, inl, inr, arith}
+use Rattle.std.proofs.Common.{◌≡◌, ℕ, zero, suc, ◌+◌, ◌-◌, ◌<◌, ◌==◌, Bool, true, false, ◌&&◌, ◌||◌, not, List, [], ◌∷◌, ◌++◌, length, map, min, Option, Some, refl, sym, ap, ◌∙◌, subst, ⊎_elim, inl, inr, arith}
 use Rattle.std.specs.Prelude.{slice_get}
-use Rattle.std.specs.List.{AllByRecursion, flat_map, list_all}
+use Rattle.std.specs.List.{AllByRecursion, flat_map, list_all, list_any}
 use Rattle.std.proofs.lemmas.Bool.{false≢true, and_left, and_right, and_cases, cases_Bool, ltb-true, eqb-true, not-true, not-false}
 use Rattle.std.proofs.lemmas.List.Folds.{list_all-append}
 use Rattle.std.proofs.lemmas.Option.{slice_get_within}
 use Rattle.lapi_base.specs.declared.script.Script.{Script}
 use Rattle.lapi_base.specs.declared.rule.Rules.{Rules}
 use Rattle.lapi_base.specs.declared.event.Event.{Event}
-use Rattle.lapi_base.specs.declared.message.Leg.TheVariants.{Go}
 use Rattle.lapi_base.specs.declared.message.MsgName.{MsgName}
 use Rattle.lapi_base.specs.declared.packet.Packet.{Packet}
 use Rattle.lapi_base.specs.declared.packet.Packet.TheVariants.{Data, Ack}
 use Rattle.lapi_base.specs.Record.Below.{below, every_below, least_missing}
 use Rattle.lapi_base.specs.Record.Final.{is_empty, is_idle, is_settled, is_told}
 use Rattle.lapi_base.specs.Packet.Layout.{window_of}
-use Rattle.lapi_base.specs.Record.Names.{Issued, Entered, Copied, happened, message}
-use Rattle.lapi_base.specs.Record.Operations.{numbers_below, statement, is_data, has_join}
+use Rattle.lapi_base.specs.Record.Names.{Copied, happened}
+use Rattle.lapi_base.specs.Record.Operations.{numbers_below}
 use Rattle.lapi_base.specs.Record.Operations as operations
 use Rattle.lapi_base.specs.Record.Wires.{Run, numbered, base, to_send, has_number, is_number, is_acked}
-use Rattle.lapi_base.specs.Record.Acts.{ready, to_copy_of, joins}
+use Rattle.lapi_base.specs.Record.Acts.{ready, to_copy_of}
 use Rattle.lapi_base.specs.Record.WorldView.{IsRecord}
 use Rattle.lapi_link.specs.Sender.{SendingEnd, sendable}
 use Rattle.lapi_parts.proofs.LocalQuestions.{by_points}
@@ -29,14 +28,12 @@ use Rattle.lapi_window.specs.SendWindow as window
 use Rattle.lapi_task.specs.declared.state.State.{State}
 use Rattle.lapi_task.specs.declared.task.Task.{Task}
 use Rattle.lapi_task.specs.HasEffect.{IsAt}
-use Rattle.lapi_task.specs.Supported.{IsSupported}
+use Rattle.lapi_base.specs.Record.Valid.{ValidScript}
 use Rattle.lapi_jobs.specs.Jobs.{count_running}
 use Rattle.lapi_task.specs.HasJobs.{is_free}
 use Rattle.lapi_task.specs.Sends.{SendsFor}
 use Rattle.lapi_task.specs.StandsFor.{is_uncopied, SenderAt, HoldsFor}
 use Rattle.lapi_task.proofs.JobCounts.{some, none-below, jobs-none}
-use Rattle.lapi_task.proofs.Forms.{no-join}
-use Rattle.lapi_base.specs.Record.Valid.{ValidScript}
 use Rattle.lapi_base.proofs.BelowLaws.{every_below-at, every_below-from}
 use Rattle.lapi_base.proofs.ListLaws.{all-get, any-all, any-get, get-some, list_all-at, list_all-each, flat_map-push}
 use Rattle.lapi_base.proofs.TestLaws.{eqb-refl, same_tests}
@@ -137,23 +134,18 @@ module _ (script : Script) (rules : Rules) (r : Run) (a b : ℕ) (s : SendingEnd
       and-yes true = refl
       and-yes false = refl
 
-module _ (script : Script) (rules : Rules) (p : IsSupported script) where
-  -- A statement's messages are copied where it isn't one that waits for its copy.
-  copied-cases : (d i : Bool) (f : MsgName → Bool) (m : MsgName) → list_all f (cond (d && i) (m ∷ []) []) ≡ not (d && (i && not (f m)))
-  copied-cases true true f m = twice (f m)
+module _ (script : Script) (rules : Rules) (p : ValidScript script) where
+  -- All messages of a statement are copied where none of them waits.
+  all-none : (f : MsgName → Bool) (ms : List MsgName) → list_all f ms ≡ not (list_any (λ m. not (f m)) ms)
+  all-none f [] = refl
+  all-none f (m ∷ ms) = ap (λ x. f m && x) (all-none f ms) ∙ both (f m) (list_any (λ m. not (f m)) ms)
     where
-      twice : (b : Bool) → (b && true) ≡ not (not b)
-      twice true = refl
-      twice false = refl
-  copied-cases true false f m = refl
-  copied-cases false i f m = refl
+      both : (a b : Bool) → (a && not b) ≡ not (not a || b)
+      both true b = refl
+      both false b = refl
 
   copied-is : (J : List Event) (t i : ℕ) → list_all (λ m. happened (Copied m) J) (to_copy_of script J t i) ≡ not (is_uncopied script J t i)
-  copied-is J t i =
-      let is = is_data (statement script t i) in
-      let issued = happened (Issued t i) J in
-      ap (λ x. list_all (λ m. happened (Copied m) J) (cond (is && issued) (message t i Go ∷ []) (cond (x && happened (Entered t i) J) (joins script t i) []))) (no-join script p t i)
-      ∙ copied-cases is issued (λ m. happened (Copied m) J) (message t i Go)
+  copied-is J t i = all-none (λ m. happened (Copied m) J) (to_copy_of script J t i)
 
   pub idle-is : (t : ℕ) (state : State) (r : Run) → HoldsFor script rules t state r.journal → is_idle script rules r t ≡ is_free state
   unfolding is_idle ready
@@ -176,7 +168,7 @@ module _ (script : Script) (rules : Rules) (p : IsSupported script) where
       let stands = at.stands in
       all-at settled (is_settled script rules r t) ends (λ b s there.
       let known : b < script.tasks = subst (λ n. b < n) stands.sender_count (slice_get_within ends b s there) in
-      settled-is script rules r t b s (sender-there r t b (slice_get ends b) s (stands.senders b known) there) p.valid at.recorded)
+      settled-is script rules r t b s (sender-there r t b (slice_get ends b) s (stands.senders b known) there) p at.recorded)
       ∙ ap (λ n. every_below n (is_settled script rules r t)) stands.sender_count
 
   pub still-is : (t : ℕ) (task : Task) (r : Run) → IsAt script rules t task r → (is_free task.state && list_all settled task.senders.items) ≡ (is_idle script rules r t && every_below script.tasks (is_settled script rules r t))

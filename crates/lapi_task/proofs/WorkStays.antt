@@ -1,16 +1,16 @@
 -- What the begin and the end of a job, and a notice, leave of what a task did and of its links.
-use Rattle.std.proofs.Common.{◌≡◌, ℕ, ◌<◌, ◌≤◌, ◌==◌, false, not, ◌&&◌, List, ◌∷◌, length, Option, Some, None, refl, sym, ap, ◌∙◌, subst}
+use Rattle.std.proofs.Common.{◌≡◌, ℕ, ◌<◌, ◌≤◌, ◌==◌, false, ◌&&◌, List, ◌∷◌, length, Option, Some, None, refl, sym, ap, ◌∙◌, subst}
 use Rattle.std.specs.Prelude.{slice_get, slice_index}
 use Rattle.std.proofs.lemmas.Bool.{and_right}
 use Rattle.lapi_base.specs.declared.script.Script.{Script}
 use Rattle.lapi_base.specs.declared.rule.Rules.{Rules}
 use Rattle.lapi_base.specs.declared.event.Event.{Event}
 use Rattle.lapi_base.specs.declared.event.Event.TheVariants.{Copy, Begin, End}
-use Rattle.lapi_base.specs.declared.message.Leg.TheVariants.{Go, Back, Note}
+use Rattle.lapi_base.specs.declared.message.Leg.TheVariants.{Go, Back, Note, Join}
 use Rattle.lapi_base.specs.declared.message.MsgName.{MsgName}
 use Rattle.lapi_base.specs.Record.Counters.{count, reads}
-use Rattle.lapi_base.specs.Record.Names.{message, leg_eq, name_eq, key_of, key_eq, Issued, Copied, Landed, happened}
-use Rattle.lapi_base.specs.Record.Operations.{statements, statement, is_data}
+use Rattle.lapi_base.specs.Record.Names.{message, leg_eq, name_eq, key_of, key_eq, Issued, Landed}
+use Rattle.lapi_base.specs.Record.Operations.{statements}
 use Rattle.lapi_base.specs.Record.Refusals.{next, refusals}
 use Rattle.lapi_base.specs.Record.Values.{values, memory_bytes}
 use Rattle.lapi_base.specs.Record.Wires.{Run, numbered}
@@ -22,8 +22,10 @@ use Rattle.lapi_task.specs.declared.task.Task.{Task}
 use Rattle.lapi_task.specs.HasJobs.{HasJobs}
 use Rattle.lapi_task.specs.Sends.{packet_at}
 use Rattle.lapi_task.specs.StandsFor.{is_uncopied, SenderAt, HoldsFor, StandsFor}
+use Rattle.lapi_task.proofs.RoundsStay.{JoinsNone, rounds-stay}
 use Rattle.lapi_task.proofs.StepLaws.{IsQuiet}
 use Rattle.lapi_task.proofs.Tags.{tags-same}
+use Rattle.lapi_task.proofs.UncopiedLaws.{LeavesMessages, uncopied-stays}
 use Rattle.lapi_task.proofs.UnfinishedLaws.{tracks-stay, quiet-stays}
 
 -- the begin or the end of a job, or the copy of a notice
@@ -38,21 +40,29 @@ module _ (script : Script) (rules : Rules) (t : ℕ) where
   record DidNoMore (e : Event) (J : List Event) : Type 0 where
     pub next : next (e ∷ J) t ≡ next J t
     pub issued : (i : ℕ) → key_eq (Issued t i) (key_of e) ≡ false
-    pub copied : (i : ℕ) → key_eq (Copied (message t i Go)) (key_of e) ≡ false
+    pub copied : (i : ℕ) → LeavesMessages script t e i
+    pub joins : JoinsNone t e
     pub reads : reads script rules (e ∷ J) t ≡ reads script rules J t
     pub refusals : refusals (e ∷ J) t ≡ refusals J t
 
   work-more : (e : Event) (J : List Event) → IsWork e → DidNoMore e J
   unfolding next reads refusals name_eq
-  work-more (Begin m a w) J h = record { next = refl; issued = λ i. refl; copied = λ i. refl; reads = refl; refusals = refl }
-  work-more (End m a w) J h = record { next = refl; issued = λ i. refl; copied = λ i. refl; reads = refl; refusals = refl }
-  work-more (Copy m) J h = record { next = refl; issued = λ i. refl; copied = λ i. and_right (t == m.origin && i == m.statement) (leg_eq Go m.leg) (ap (leg_eq Go) h); reads = refl; refusals = refl }
+  work-more (Begin m a w) J h = record { next = refl; issued = λ i. refl; copied = λ i. record { issued = refl; entered = refl; data_copied = refl; joins_copied = λ d. refl }; joins = record { entered = λ i. refl; landed = λ d j. refl }; reads = refl; refusals = refl }
+  work-more (End m a w) J h = record { next = refl; issued = λ i. refl; copied = λ i. record { issued = refl; entered = refl; data_copied = refl; joins_copied = λ d. refl }; joins = record { entered = λ i. refl; landed = λ d j. refl }; reads = refl; refusals = refl }
+  work-more (Copy m) J h = record {
+    next = refl;
+    issued = λ i. refl;
+    copied = λ i. record {
+      issued = refl;
+      entered = refl;
+      data_copied = and_right (t == m.origin && i == m.statement) (leg_eq Go m.leg) (ap (leg_eq Go) h);
+      joins_copied = λ d. and_right (t == m.origin && i == m.statement) (leg_eq (Join d) m.leg) (ap (leg_eq (Join d)) h);
+    };
+    joins = record { entered = λ i. refl; landed = λ d j. refl };
+    reads = refl;
+    refusals = refl;
+  }
   work-more _ J h = absurd h
-
-  uncopied-same : (e : Event) (J : List Event) → DidNoMore e J → (k : ℕ) → is_uncopied script J t k ≡ is_uncopied script (e ∷ J) t k
-  uncopied-same e J h k =
-      ap (λ b. is_data (statement script t k) && (b && not (happened (Copied (message t k Go)) J))) (sym (happened-other (Issued t k) e J (h.issued k)))
-      ∙ ap (λ b. is_data (statement script t k) && (happened (Issued t k) (e ∷ J) && not b)) (sym (happened-other (Copied (message t k Go)) e J (h.copied k)))
 
   work-lands : (e : Event) (i : ℕ) → IsWork e → key_eq (Landed (message t i Back)) (key_of e) ≡ false
   work-lands (Begin m a w) i h = refl
@@ -79,8 +89,9 @@ module _ (script : Script) (rules : Rules) (t : ℕ) where
         memory = g.memory;
         counter_count = g.counter_count;
         counters = g.counters;
-        uncopied = ap (λ (x : State). x.uncopied.items) g.rest ∙ h.uncopied ∙ below-same (length (statements script t)) (is_uncopied script J t) (is_uncopied script (e ∷ J) t) (λ k _. uncopied-same e J did k);
+        uncopied = ap (λ (x : State). x.uncopied.items) g.rest ∙ h.uncopied ∙ below-same (length (statements script t)) (is_uncopied script J t) (is_uncopied script (e ∷ J) t) (λ k _. uncopied-stays script t e J k (did.copied k));
         jobs = g.jobs;
+        rounds = rounds-stay script t e J did.joins before.collective after.collective (ap (λ (x : State). x.collective) g.rest) did.next h.rounds;
       }
 
   -- ---- the links
@@ -108,9 +119,9 @@ module _ (script : Script) (rules : Rules) (t : ℕ) where
 
   pub work-stands : (r : Run) (e : Event) (before : Task) (after : State) → IsWork e → IsQuiet script rules e r.journal → StandsFor script rules t before r → Made e r.journal before.state after → StandsFor script rules t (record before { state = after }) (with_event r e)
   work-stands r e before after is q h g = record {
-    calls = record { supported = h.calls.supported; rules_valid = h.calls.rules_valid; sizes = h.calls.sizes; statements = h.calls.statements; limits = h.calls.limits };
+    calls = record { valid = h.calls.valid; rules_valid = h.calls.rules_valid; sizes = h.calls.sizes; statements = h.calls.statements; limits = h.calls.limits; rounds = h.calls.rounds };
     holds = work-holds e r.journal before.state after is h.holds g;
-    unfinished = let did = work-more e r.journal is in tracks-stay script rules t before.unfinished r (with_event r e) (λ i. quiet-stays script rules t r e i (λ b. q.numbers t b) (did.issued i) (did.copied i) (work-lands e i is)) h.unfinished;
+    unfinished = let did = work-more e r.journal is in tracks-stay script rules t before.unfinished r (with_event r e) (λ i. quiet-stays script rules t r e i (λ b. q.numbers t b) (did.issued i) (did.copied i).data_copied (work-lands e i is)) h.unfinished;
     sender_count = h.sender_count;
     receiver_count = h.receiver_count;
     senders = λ b l. sender-quiet r e b (slice_get before.senders.items b) q (h.senders b l);

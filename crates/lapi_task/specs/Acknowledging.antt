@@ -6,7 +6,7 @@ use Rattle.lapi_base.specs.declared.wire.WireEntry.{WireEntry}
 use Rattle.lapi_base.specs.Record.Arrived.{ack_of}
 use Rattle.lapi_base.specs.Packet.PacketBytes as written
 use Rattle.lapi_task.specs.declared.task.Task.{Task}
-use Rattle.lapi_task.specs.Supported.{IsSupported}
+use Rattle.lapi_base.specs.Record.Valid.{ValidScript}
 use Rattle.lapi_link.specs.Receiver.{ReceivingEnd, ReceivesFor}
 
 -- the acknowledgement of these packets of the link between two tasks, as an entry of the wire back
@@ -20,7 +20,7 @@ ReceivesAt script ps (Some s) = ReceivesFor script s ps
 
 -- Task t has taken these packets from a task.
 pub record HasTaken (script : Script) (t : ℕ) (task : Task) (from : ℕ) (ps : List Packet) : Type 0 where
-  pub performed : IsSupported script
+  pub valid : ValidScript script
   pub number : task.state.number ≡ t
   pub known : t < script.tasks
   pub from_known : from < script.tasks

@@ -36,12 +36,12 @@ use Rattle.lapi_task.specs.Outgoing.{with_message, AreSpelled}
 use Rattle.lapi_task.specs.StandsFor.{task_unit}
 use Rattle.lapi_task.specs.declared.task.Task.{Task}
 use Rattle.lapi_task.specs.Counting.{announced}
+use Rattle.lapi_task.specs.HasRounds.{MayJoin, JoinsBy}
+use Rattle.lapi_task.specs.declared.collective.Collective.{Collective}
 
--- no completion handler sent the message, and it joins no tasks
+-- no completion handler sent the message
 abbrev pub IsDirect : Head → Type 0
 IsDirect (heads.Echo dest cmpl) = ⊥
-IsDirect (heads.Gfence round) = ⊥
-IsDirect (heads.Addr round address) = ⊥
 IsDirect _ = Unit {0}
 
 -- What its landing writes: the word that it makes of the one that stood there; its bytes, where the answer to its header
@@ -115,13 +115,15 @@ pub record MayLeave (unit : ℕ) (x : Follower) : Type 0 where
   pub short : x.packet.length ≤ 64 * unit
   pub spelled : AreSpelled unit x.packet x.bytes
 
--- The message may land: its places, the places that it asks for and its counter are there, and what follows may leave.
-pub record HeadMayLand (unit t a : ℕ) (m : MsgName) (head : Head) (completion : Bool) (bytes memory counters : List ℕ) : Type 0 where
+-- The message may land: its places, the places that it asks for and its counter are there, its origin may join the round
+-- that it names, and what follows may leave.
+pub record HeadMayLand (unit t a : ℕ) (m : MsgName) (head : Head) (completion : Bool) (bytes memory counters : List ℕ) (collective : Collective) : Type 0 where
   pub direct : IsDirect head
   pub pieces : AreWithin (head_pieces head (length bytes)) (length memory)
   pub total : is_active head ≡ false → total_of (head_pieces head (length bytes)) ≡ length bytes
   pub asked : AreWithin (asked_pieces head) (length memory)
   pub counter : (c : ℕ) → announces head completion ≡ Some c → c < length counters
+  pub joins : MayJoin a head collective
   pub leaves : (x : Follower) → follower t a m head completion memory ≡ Some x → MayLeave unit x
 
 -- the first fragment of a message that has come
@@ -171,10 +173,15 @@ abbrev pub events_of : (count : ℕ) → Option Message → List Event
 events_of count (Some m) = Land m.name ∷ follows m.head (completes_in count m.out) m.name
 events_of count None = []
 
-abbrev pub ArrivalMayLand : (unit t a count : ℕ) → Option Message → (memory counters : List ℕ) → Type 0
-ArrivalMayLand unit t a count (Some m) memory counters =
-    HeadMayLand unit t a m.name m.head (completes_in count m.out) m.bytes memory counters
-ArrivalMayLand unit t a count None memory counters = Unit {0}
+abbrev pub ArrivalMayLand : (unit t a count : ℕ) → Option Message → (memory counters : List ℕ) → Collective → Type 0
+ArrivalMayLand unit t a count (Some m) memory counters collective =
+    HeadMayLand unit t a m.name m.head (completes_in count m.out) m.bytes memory counters collective
+ArrivalMayLand unit t a count None memory counters collective = Unit {0}
+
+-- task a joined the round that the message names, if one has come and it names one
+abbrev pub ArrivalJoins : (a : ℕ) → Option Message → (before after : Collective) → Type 0
+ArrivalJoins a (Some m) before after = JoinsBy a m.head before after
+ArrivalJoins a None before after = after ≡ before
 
 -- a number of 32 bits counts the jobs that wait
 abbrev pub FewWait : Works → Type 0
@@ -186,9 +193,10 @@ pub record HasArrived (a count : ℕ) (arrival : Option Message) (before after :
   pub counters : after.state.counters ≡ counters_after count arrival before.state.counters
   pub jobs : after.state.jobs ≡ jobs_after (length before.state.memory) count arrival before.state.jobs
   pub few : FewWait before.state.jobs → FewWait after.state.jobs
+  pub joins : ArrivalJoins a arrival before.state.collective after.state.collective
   pub senders : after.senders.items ≡ ends_after (task_unit before) before.state.number a count arrival before.state.memory before.senders.items
   pub events : new ≡ old ++ events_of count arrival
-  pub rest : after ≡ record before { senders = after.senders; state = record before.state { memory = after.state.memory; counters = after.state.counters; jobs = after.state.jobs } }
+  pub rest : after ≡ record before { senders = after.senders; state = record before.state { memory = after.state.memory; counters = after.state.counters; jobs = after.state.jobs; collective = after.state.collective } }
 
 -- The header handler may be given the message.
 pub record MayCall (p : DataPacket) : Type 0 where

@@ -6,8 +6,9 @@ pub mod Counting
 pub mod Effects
 pub mod HasEffect
 pub mod HasJobs
+pub mod HasRounds
+pub mod Joining
 pub mod Landed
-pub mod Supported
 pub mod Outgoing
 pub mod Sends
 pub mod StandsFor

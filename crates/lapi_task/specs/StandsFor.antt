@@ -1,34 +1,35 @@
 -- How a task stands for its part of a record.
-use Rattle.std.specs.Prelude.{◌≡◌, ℕ, ◌<◌, ◌≤◌, Bool, false, ◌&&◌, not, List, length, slice_get, slice_index, replicate, [], Option, None, Some}
+use Rattle.std.specs.Prelude.{◌≡◌, ℕ, ◌<◌, ◌≤◌, Bool, false, not, List, length, map, slice_get, slice_index, replicate, [], Option, None, Some}
+use Rattle.std.specs.List.{list_any}
 use Rattle.lapi_base.specs.declared.script.Script.{Script}
 use Rattle.lapi_base.specs.declared.sizes.Sizes.{Sizes}
 use Rattle.lapi_base.specs.declared.rule.Rules.{Rules}
 use Rattle.lapi_base.specs.declared.event.Event.{Event}
 use Rattle.lapi_base.specs.declared.packet.Packet.{Packet}
-use Rattle.lapi_base.specs.declared.message.Leg.TheVariants.{Go}
 use Rattle.lapi_base.specs.Record.Below.{below}
-use Rattle.lapi_base.specs.Record.Names.{message, happened, Issued, Copied}
-use Rattle.lapi_base.specs.Record.Operations.{statements, statement, is_data}
+use Rattle.lapi_base.specs.Record.Acts.{to_copy_of}
+use Rattle.lapi_base.specs.Record.Names.{happened, Issued, Copied}
+use Rattle.lapi_base.specs.Record.Operations.{statements, numbers_below}
 use Rattle.lapi_base.specs.Record.Counters.{count, reads}
 use Rattle.lapi_base.specs.Record.Wires.{Run}
-use Rattle.lapi_base.specs.Record.Refusals.{next, refusals}
+use Rattle.lapi_base.specs.Record.Refusals.{next, refusals, round_of}
 use Rattle.lapi_base.specs.Record.Values.{memory_bytes}
 use Rattle.lapi_link.specs.Receiver.{ReceivingEnd, ReceivesFor}
 use Rattle.lapi_calls.specs.Limits.{limits_of}
 use Rattle.lapi_link.specs.Sender.{SendingEnd}
 use Rattle.lapi_base.specs.Packet.Layout.{layout_of, unit, sizes_of}
-use Rattle.lapi_base.specs.Record.Valid.{ValidRules}
+use Rattle.lapi_base.specs.Record.Valid.{ValidRules, ValidScript}
 use Rattle.lapi_task.specs.Answered.{KeepsAnswers}
 use Rattle.lapi_task.specs.HasJobs.{HasJobs}
-use Rattle.lapi_task.specs.Supported.{IsSupported}
+use Rattle.lapi_task.specs.HasRounds.{HasRounds, IsNewCollective}
 use Rattle.lapi_task.specs.declared.state.State.{State}
 use Rattle.lapi_task.specs.declared.task.Task.{Task}
 use Rattle.lapi_task.specs.Sends.{SendsFor}
 use Rattle.lapi_task.specs.Unfinished.{Tracks}
 
--- the data of statement i of task t were issued and not copied
+-- a message of statement i of task t may be copied, and was not
 abbrev pub is_uncopied : Script → List Event → (t i : ℕ) → Bool
-is_uncopied script J t i = is_data (statement script t i) && (happened (Issued t i) J && not (happened (Copied (message t i Go)) J))
+is_uncopied script J t i = list_any (λ m. not (happened (Copied m) J)) (to_copy_of script J t i)
 
 abbrev pub SenderAt : Script → Rules → Run → (from to : ℕ) → Option SendingEnd → Type 0
 SenderAt script rules r a b None = ⊥
@@ -48,6 +49,7 @@ pub record IsNewState (sizes : Sizes) (task : ℕ) (state : State) : Type 0 wher
   pub refusals : state.refusals.items ≡ []
   pub uncopied : state.uncopied.items ≡ []
   pub jobs : state.jobs ≡ record { waiting = []; workers = replicate sizes.workers None }
+  pub rounds : IsNewCollective sizes.tasks state.collective
 
 -- What a task holds and did is what the record says of task t;
 pub record HoldsFor (script : Script) (rules : Rules) (t : ℕ) (state : State) (J : List Event) : Type 0 where
@@ -61,18 +63,20 @@ pub record HoldsFor (script : Script) (rules : Rules) (t : ℕ) (state : State) 
   pub counters : (c : ℕ) → c < script.counters → slice_index state.counters c ≡ count script rules J t c
   pub uncopied : state.uncopied.items ≡ below (length (statements script t)) (is_uncopied script J t)
   pub jobs : HasJobs script rules t state.jobs J
+  pub rounds : HasRounds script t state.collective J
 
 -- the payload of each fragment but the last, by the task's sizes
 abbrev pub task_unit : Task → ℕ
 task_unit task = unit (layout_of task.sizes.layout)
 
--- it has its statements, which are of forms that are performed, and the script's sizes and limits;
+-- it has its statements with the round of each, and the script's sizes and limits;
 pub record HasCalls (script : Script) (rules : Rules) (t : ℕ) (task : Task) : Type 0 where
-  pub supported : IsSupported script
+  pub valid : ValidScript script
   pub rules_valid : ValidRules rules
   pub sizes : task.sizes ≡ sizes_of script
   pub statements : task.statements ≡ statements script t
   pub limits : task.limits ≡ limits_of script (length rules.headers)
+  pub rounds : task.rounds.items ≡ map (round_of script t) (numbers_below (length task.statements))
 
 -- and its data operations that are not done, and the ends of its links, are those of the record.
 pub record StandsFor (script : Script) (rules : Rules) (t : ℕ) (task : Task) (r : Run) : Type 0 where

@@ -1,12 +1,14 @@
 -- What a statement changes in its task.
-use Rattle.std.specs.Prelude.{◌≡◌, ℕ, ◌+◌, ◌-◌, ◌<◌, ◌≤◌, cond, List, [], ◌∷◌, ◌++◌, length, slice_index, slice_set}
+use Rattle.std.specs.Prelude.{◌≡◌, ℕ, ◌+◌, ◌-◌, ◌<◌, ◌≤◌, nat_lt, false, true, cond, List, [], ◌∷◌, ◌++◌, length, slice_index, slice_set}
 use Rattle.lapi_base.specs.declared.statement.Statement.{Statement}
 use Rattle.lapi_base.specs.declared.statement.Statement.TheVariants.{Store, Wait, Set, Read}
 use Rattle.lapi_base.specs.declared.event.Event.{Event}
-use Rattle.lapi_base.specs.declared.event.Event.TheVariants.{Issue, Refuse, Pass}
+use Rattle.lapi_base.specs.declared.event.Event.TheVariants.{Issue, Refuse, Pass, Enter}
+use Rattle.lapi_base.specs.declared.head.Head.{Head}
 use Rattle.lapi_base.specs.declared.refusal.Refusal.{Refusal}
 use Rattle.lapi_base.specs.Record.Operations.{is_data}
 use Rattle.lapi_memory.specs.TaskMemory.{written, IsWithin}
+use Rattle.lapi_task.specs.HasRounds.{JoinsBy}
 use Rattle.lapi_task.specs.declared.state.State.{State}
 
 -- the places and the counter that the statement names are there
@@ -48,6 +50,7 @@ pub record IsRefused (why : Refusal) (before after : State) (old new : List Even
   pub refusals : after.refusals.items ≡ before.refusals.items ++ (before.next, why) ∷ []
   pub uncopied : after.uncopied.items ≡ before.uncopied.items
   pub jobs : after.jobs ≡ before.jobs
+  pub collective : after.collective ≡ before.collective
 
 pub record IsIssued (s : Statement) (before after : State) (old new : List Event) : Type 0 where
   pub past : Advances (Issue before.number before.next) before after old new
@@ -57,6 +60,7 @@ pub record IsIssued (s : Statement) (before after : State) (old new : List Event
   pub refusals : after.refusals.items ≡ before.refusals.items
   pub uncopied : after.uncopied.items ≡ with_uncopied s before.next before.uncopied.items
   pub jobs : after.jobs ≡ before.jobs
+  pub collective : after.collective ≡ before.collective
 
 pub record PassesWait (counter value : ℕ) (before after : State) (old new : List Event) : Type 0 where
   pub enough : value ≤ slice_index before.counters counter
@@ -67,11 +71,20 @@ pub record PassesWait (counter value : ℕ) (before after : State) (old new : Li
   pub refusals : after.refusals.items ≡ before.refusals.items
   pub uncopied : after.uncopied.items ≡ before.uncopied.items
   pub jobs : after.jobs ≡ before.jobs
+  pub collective : after.collective ≡ before.collective
 
--- it was passed, and nothing else was changed
+-- it was passed, the one after it was not entered, and nothing else was changed
 pub record IsPassed (before after : State) (old new : List Event) : Type 0 where
   pub past : Advances (Pass before.number before.next) before after old new
-  pub rest : after ≡ record before { next = after.next }
+  pub rest : after ≡ record before { next = after.next; collective = record before.collective { entered = false } }
+
+-- It was entered, as one of so many tasks: the task joined the round of this head, and where there are others, they are
+-- to be told.
+pub record IsEntered (head : Head) (tasks : ℕ) (before after : State) (old new : List Event) : Type 0 where
+  pub events : new ≡ old ++ Enter before.number before.next ∷ []
+  pub joins : JoinsBy before.number head (record before.collective { entered = true }) after.collective
+  pub uncopied : after.uncopied.items ≡ cond (nat_lt 1 tasks) (before.uncopied.items ++ before.next ∷ []) before.uncopied.items
+  pub rest : after ≡ record before { collective = after.collective; uncopied = after.uncopied }
 
 -- the counter has less than the value, and nothing was changed
 pub record IsBlocked (counter value : ℕ) (before after : State) (old new : List Event) : Type 0 where

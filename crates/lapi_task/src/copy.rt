@@ -2,7 +2,7 @@ ghost use Rattle.std.specs.Prelude.{◌≡◌, ◌*◌, ◌≤◌, true, false, 
 ghost use Rattle.lapi_base.specs.declared.script.Script.{Script};
 ghost use Rattle.lapi_base.specs.Record.Operations as operations;
 ghost use Rattle.lapi_base.specs.Record.Valid.{ValidStatement};
-ghost use Rattle.lapi_calls.specs.Calls.{IsSendable};
+ghost use Rattle.lapi_calls.specs.Calls.{IsCall, IsSendable};
 ghost use Rattle.lapi_reassembly.specs.Partial.{IsUnit};
 ghost use Rattle.lapi_vector.specs.Pieces.{AreWithin};
 ghost use Rattle.lapi_task.specs.Copies.{copy_of, source};
@@ -10,9 +10,7 @@ ghost use Rattle.lapi_task.specs.Outgoing.{with_message, AreSpelled};
 
 use crate::packet::append_message;
 use lapi_base::{DataPacket, Leg, Memory, MsgName, PAYLOAD_ROOM, Payload, Spans, Statement};
-use lapi_calls::{
-    NoEntries, go_head, has_back, message_length, origin_counter, origin_spans, peer,
-};
+use lapi_calls::{Entries, go_head, has_back, message_length, origin_counter, origin_spans, peer};
 use lapi_link::Sender;
 use lapi_memory::TaskMemory;
 use lapi_vector::Pieces;
@@ -28,11 +26,13 @@ pub struct DataCopy {
 }
 
 impl DataCopy {
-    /// The copy of the data of statement `i` of task `t`.
-    pub fn of(t: u32, i: u32, statement: &Statement) -> DataCopy
+    /// The copy of the data of statement `i` of task `t`, where these addresses are known.
+    pub fn of<E: Entries>(entries: &E, t: u32, i: u32, statement: &Statement) -> DataCopy
+        requires asked { E.valid entries.now }
         requires statement { ValidStatement statement.now × (operations.is_data statement.now ≡ true) }
-        requires sendable { IsSendable (λ _. false) (λ _ _. 0) t statement.now }
-        ensures { (script : Script) → statement.now ≡ operations.statement script t i → result ≡ copy_of script t i }
+        requires sendable { IsSendable (E.is_known entries.now) (E.given entries.now) t statement.now }
+        ensures { (script : Script) → IsCall script (E.is_known entries.now) (E.given entries.now) t i statement.now
+            → result ≡ copy_of script t i }
     {
         let message = DataPacket {
             from: t,
@@ -43,7 +43,7 @@ impl DataCopy {
                 statement: i,
                 leg: Leg::Go,
             },
-            head: go_head(&NoEntries, t, statement),
+            head: go_head(entries, t, statement),
             length: message_length(Leg::Go, statement),
             fragment: 0,
             payload: Payload::new(),

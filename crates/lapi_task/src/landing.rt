@@ -45,8 +45,12 @@ pub fn write(
             memory.set_word(*at, rmw(*op, old, *in1, *in2));
         }
         Head::Am { .. } => keep(memory, out, bytes),
-        Head::GetGo { .. } | Head::GetvGo { .. } | Head::Note { .. } => {}
-        Head::Echo { .. } | Head::Gfence { .. } | Head::Addr { .. } => unreachable!(),
+        Head::GetGo { .. }
+        | Head::GetvGo { .. }
+        | Head::Note { .. }
+        | Head::Gfence { .. }
+        | Head::Addr { .. } => {}
+        Head::Echo { .. } => unreachable!(),
     }
     Ok(())
 }
@@ -102,7 +106,7 @@ pub fn announced_by(head: &Head, completion: bool) -> Option<u32>
         Head::GetBack { org, .. } | Head::GetvBack { org, .. } | Head::RmwBack { org, .. } => *org,
         Head::Am { tgt, .. } => tgt.filter(|_tgt| !completion),
         Head::Note { cmpl, .. } => Some(*cmpl),
-        Head::RmwGo { .. } => None,
-        Head::Echo { .. } | Head::Gfence { .. } | Head::Addr { .. } => unreachable!(),
+        Head::RmwGo { .. } | Head::Gfence { .. } | Head::Addr { .. } => None,
+        Head::Echo { .. } => unreachable!(),
     }
 }

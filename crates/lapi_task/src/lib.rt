@@ -1,6 +1,7 @@
 //! One task as the endpoint of its links: its statements, its memory, its counters, and what it sends and receives.
 #![tactic(auto)]
 
+mod collective;
 mod copy;
 mod counting;
 mod effect;
@@ -12,6 +13,7 @@ mod outcome;
 mod packet;
 mod queueing;
 mod received;
+mod rounds;
 mod spans;
 mod state;
 mod statement;

@@ -1,10 +1,12 @@
 //! What a task holds, event by event.
 ghost use Rattle.std.specs.Prelude.{◌≡◌, ℕ, ◌+◌, ◌<◌, ◌≤◌, ◌^◌, ◌∷◌, [], ◌++◌, replicate, false, IsTrue, IfOk, OnOk, length};
-ghost use Rattle.lapi_task.specs.Steps.{MayStep, IsRefused, IsIssued, PassesWait, IsPassed, IsBlocked, Advances};
+ghost use Rattle.lapi_task.specs.Steps.{MayStep, IsRefused, IsIssued, PassesWait, IsPassed, IsEntered, IsBlocked, Advances};
 ghost use Rattle.lapi_task.specs.StandsFor.{IsNewState};
 ghost use Rattle.lapi_task.specs.HasJobs.{is_free};
+ghost use Rattle.lapi_task.specs.HasRounds.{MayJoin};
 
-use lapi_base::{Event, Events, Memory, Refusal, Sizes, Statement};
+use crate::collective::Collective;
+use lapi_base::{Event, Events, Head, Memory, Refusal, Sizes, Statement};
 use lapi_counters::Counters;
 use lapi_jobs::Jobs;
 use lapi_memory::TaskMemory;
@@ -21,10 +23,12 @@ pub struct State {
     pub counters: Counters,
     pub reads: Vec<(u32, u64)>,
     pub refusals: Vec<(u32, Refusal)>,
-    /// The statements whose data are to be copied by the next poll, rising.
+    /// The statements whose messages are to be copied by the next poll, rising.
     pub uncopied: VecDeque<u32>,
     /// The jobs of its completion handlers.
     pub jobs: Jobs,
+    /// Who joined which round of collective calls.
+    pub collective: Collective,
 }
 
 impl State {
@@ -32,11 +36,13 @@ impl State {
     pub fn new(alloc: Global, sizes: Sizes, number: u32) -> Result<State, Memory>
         requires memory { sizes.memory ≤ 65536 }
         requires counters { sizes.counters ≤ 256 }
+        requires tasks { sizes.tasks ≤ 8 }
         ensures { IfOk result (IsNewState sizes number) }
     {
         let memory = TaskMemory::new(alloc, sizes.memory)?;
         let counters = Counters::new(alloc, sizes.counters)?;
         let jobs = Jobs::new(alloc, sizes.workers)?;
+        let collective = Collective::new(alloc, sizes.tasks)?;
         Ok(State {
             number,
             next: 0,
@@ -46,6 +52,7 @@ impl State {
             refusals: Vec::new(alloc),
             uncopied: VecDeque::new(alloc),
             jobs,
+            collective,
         })
     }
 
@@ -83,6 +90,22 @@ impl State {
         Ok(true)
     }
 
+    /// The next statement is entered, as one of so many tasks: the head is that of the joins to the others.
+    pub fn enter(&mut self, head: &Head, tasks: u32, events: &mut Events) -> Result<(), Memory>
+        requires { MayJoin self.old.number head.now self.old.collective }
+        ensures { OnOk result (IsEntered head.now tasks self.old self.new events.old events.new) }
+    {
+        self.collective.entered = true;
+        self.collective.join(self.number, head);
+        if tasks > 1 {
+            self.uncopied.push_back(self.next)?;
+        }
+        events.push(Event::Enter {
+            task: self.number,
+            statement: self.next,
+        })
+    }
+
     /// The next statement is passed, and takes nothing.
     pub fn pass(&mut self, events: &mut Events) -> Result<(), Memory>
         requires { self.old.next + 1 < 2 ^ 32 }
@@ -92,6 +115,7 @@ impl State {
             task: self.number,
             statement: self.next,
         };
+        self.collective.entered = false;
         self.advance(event, events)
     }
 
@@ -126,7 +150,7 @@ impl State {
         self.advance(event, events)
     }
 
-    /// Whether no job waits or runs, and no data wait to be copied.
+    /// Whether no job waits or runs, and no message waits to be copied.
     pub fn is_free(&self) -> bool
         ensures { result ≡ is_free self.now }
     {

@@ -9,6 +9,7 @@ mod answering;
 mod copying;
 mod fencing;
 mod following;
+mod joining;
 mod polling;
 mod receiving;
 mod stepping;
@@ -22,6 +23,8 @@ pub struct Task {
     /// By which its calls are refused.
     limits: Limits,
     statements: Statements,
+    /// The round of each statement that is a collective call.
+    rounds: Vec<u32>,
     state: State,
     /// Its data operations that are not done.
     unfinished: Unfinished,

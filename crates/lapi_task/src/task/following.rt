@@ -75,8 +75,10 @@ impl Task {
             | Head::GetBack { .. }
             | Head::GetvBack { .. }
             | Head::RmwBack { .. }
-            | Head::Note { .. } => Ok(()),
-            Head::Echo { .. } | Head::Gfence { .. } | Head::Addr { .. } => unreachable!(),
+            | Head::Note { .. }
+            | Head::Gfence { .. }
+            | Head::Addr { .. } => Ok(()),
+            Head::Echo { .. } => unreachable!(),
         }
     }
 

@@ -101,7 +101,8 @@ impl Task {
     ) -> Result<(), Memory>
         requires link { (from < length self.old.senders.items) × (task_unit self.old ≤ PAYLOAD_ROOM) }
         requires allowed { ArrivalMayLand (task_unit self.old) self.old.state.number from
-            (length (rules_of handlers.now).completions) message.now self.old.state.memory self.old.state.counters }
+            (length (rules_of handlers.now).completions) message.now self.old.state.memory self.old.state.counters
+            self.old.state.collective }
         ensures { OnOk result (HasArrived from (length (rules_of handlers.now).completions) message.now self.old
             self.new events.old events.new) }
     {
@@ -123,7 +124,7 @@ impl Task {
         requires link { (from < length self.old.senders.items) × (task_unit self.old ≤ PAYLOAD_ROOM) }
         requires allowed { ArrivalMayLand (task_unit self.old) self.old.state.number from
             (length (rules_of handlers.now).completions) (Some message.now)
-            self.old.state.memory self.old.state.counters }
+            self.old.state.memory self.old.state.counters self.old.state.collective }
         ensures { OnOk result (HasArrived from (length (rules_of handlers.now).completions) (Some message.now) self.old
             self.new events.old events.new) }
     {
@@ -139,6 +140,7 @@ impl Task {
         self.follow(alloc, from, *name, head, completion.is_some(), events)?;
         write(&mut self.state.memory, head, *out, bytes.as_slice())?;
         queue(&mut self.state.jobs, job)?;
+        self.state.collective.join(from, head);
         announce(
             &mut self.state.counters,
             announced_by(head, completion.is_some()),

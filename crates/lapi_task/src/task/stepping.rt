@@ -3,31 +3,31 @@ ghost use Rattle.std.specs.Prelude.{◌≡◌, ℕ, ◌<◌, ◌≤◌, ◌∷�
 ghost use Rattle.std.specs.List.{AllByRecursion};
 ghost use Rattle.lapi_base.specs.declared.script.Script.{Script as TheScript};
 ghost use Rattle.lapi_base.specs.declared.rule.Rules.{Rules};
-ghost use Rattle.lapi_base.specs.Record.Valid.{ValidRules};
+ghost use Rattle.lapi_base.specs.Record.Valid.{ValidRules, ValidScript};
 ghost use Rattle.lapi_base.specs.Record.Wires.{Run, start};
 ghost use Rattle.lapi_base.specs.Record.Acts.{step};
 ghost use Rattle.lapi_base.specs.Record.Operations.{statements};
 ghost use Rattle.lapi_base.specs.Packet.Layout.{window_of, unit_of};
 ghost use Rattle.lapi_link.specs.Sender.{IsNewSender};
 ghost use Rattle.lapi_link.specs.Receiver.{IsNewReceiver};
-ghost use Rattle.lapi_task.specs.Supported.{IsSupported};
 ghost use Rattle.lapi_task.specs.StandsFor.{StandsFor};
 ghost use Rattle.lapi_task.specs.HasEffect.{IsAt, IsAtSome, Performs};
 
 use crate::outcome::Outcome;
+use crate::rounds::rounds_of;
 use crate::state::State;
 use crate::statement::statement_at;
 use crate::task::Task;
 use crate::unfinished::Unfinished;
 use lapi_base::{Memory, Reply, Script, Statement, Statements};
-use lapi_calls::{Limits, NoEntries, refusal_of};
+use lapi_calls::{Limits, is_entered, refusal_of};
 use lapi_link::{Receiver, Sender};
 use std::alloc::Global;
 
 impl Task {
     /// A task of the script before its first line, where there are so many header handlers.
     pub fn new(alloc: Global, script: &Script, task: u32, header_count: u32) -> Result<Task, Memory>
-        requires script { IsSupported script.now }
+        requires script { ValidScript script.now }
         requires task { task < script.now.tasks }
         ensures { IfOk result (λ made. (rules : Rules) → ValidRules rules → length rules.headers ≡ header_count
             → StandsFor script.now rules task made start) }
@@ -35,6 +35,7 @@ impl Task {
         let sizes = script.sizes();
         let limits = Limits::of(script, header_count as usize);
         let statements = statements(alloc, script, task)?;
+        let rounds = rounds_of(alloc, &statements, script.memory)?;
         let state = State::new(alloc, sizes, task)?;
         let unfinished = Unfinished::new(alloc, statements.as_slice().len() as u32)?;
         let senders = senders(alloc, script)?;
@@ -43,6 +44,7 @@ impl Task {
             sizes,
             limits,
             statements,
+            rounds,
             state,
             unfinished,
             senders,
@@ -60,7 +62,12 @@ impl Task {
         let Some(statement) = statement_at(&self.statements, self.state.next) else {
             return Ok(Reply::Idle);
         };
-        if let Some(why) = refusal_of(&self.limits, &NoEntries, self.state.number, statement) {
+        if let Some(why) = refusal_of(
+            &self.limits,
+            &self.state.collective,
+            self.state.number,
+            statement,
+        ) {
             self.state.refuse(why, &mut out.events)?;
             return Ok(Reply::Did);
         }
@@ -74,6 +81,9 @@ impl Task {
             }
             self.state.pass(&mut out.events)?;
             return Ok(Reply::Did);
+        }
+        if is_entered(statement) {
+            return self.join_round(out);
         }
         self.unfinished.issued(self.state.next, statement);
         self.state.issue(statement, &mut out.events)?;

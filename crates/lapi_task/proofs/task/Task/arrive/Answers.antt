@@ -27,7 +27,7 @@ take_effect-requires-clause-allowed g c =
     let p = c.args.packet.now in
     let now = answer_to (rules_of c.args.handlers.now) p.name p.head p.length in
     let mid : Task = record task { receivers = with_items task.receivers c.take.new.receivers } in
-    let keeps : KeepsRest task mid = record { sizes = refl; statements = refl; limits = refl; state = refl; unfinished = refl; senders = refl } in
+    let keeps : KeepsRest task mid = record { sizes = refl; statements = refl; limits = refl; rounds = refl; state = refl; unfinished = refl; senders = refl } in
     let takes : Takes a p now c.in_ok-message.message c.args.out.now.events c.take.new.events task.receivers.items mid.receivers.items = takes-over task.receivers a p now c.in_ok-message.message c.args.out.now.events c.take.new.events c.deref_mut.result.now c.take.new.receivers c.deref_mut.ensures.value c.in_ok-message.ensures in
     suits-arrival x.script x.rules x.task x.run task x.at a x.place x.from_known p x.entry mid keeps now c.in_ok-message.message c.args.out.now.events c.take.new.events takes (length (rules_of c.args.handlers.now).completions)
 
@@ -39,7 +39,7 @@ arrived-requires g c =
     let p = c.args.packet.now in
     let now = answer_to (rules_of c.args.handlers.now) p.name p.head p.length in
     let mid : Task = record task { receivers = with_items task.receivers c.take.new.receivers } in
-    let keeps : KeepsRest task mid = record { sizes = refl; statements = refl; limits = refl; state = refl; unfinished = refl; senders = refl } in
+    let keeps : KeepsRest task mid = record { sizes = refl; statements = refl; limits = refl; rounds = refl; state = refl; unfinished = refl; senders = refl } in
     let takes : Takes a p now c.in_ok-message.message c.args.out.now.events c.take.new.events task.receivers.items mid.receivers.items = takes-over task.receivers a p now c.in_ok-message.message c.args.out.now.events c.take.new.events c.deref_mut.result.now c.take.new.receivers c.deref_mut.ensures.value c.in_ok-message.ensures in
     is-of-statement x.script x.rules x.task x.run task x.at a x.place x.from_known p x.entry mid keeps now c.in_ok-message.message c.args.out.now.events c.take.new.events takes (length (rules_of c.args.handlers.now).completions) c.take_effect.new.self c.take_effect.new.events c.in_ok-take_effect.ensures
 
@@ -51,7 +51,7 @@ acknowledge-requires g c =
     let p = c.args.packet.now in
     let now = answer_to (rules_of c.args.handlers.now) p.name p.head p.length in
     let mid : Task = record task { receivers = with_items task.receivers c.take.new.receivers } in
-    let keeps : KeepsRest task mid = record { sizes = refl; statements = refl; limits = refl; state = refl; unfinished = refl; senders = refl } in
+    let keeps : KeepsRest task mid = record { sizes = refl; statements = refl; limits = refl; rounds = refl; state = refl; unfinished = refl; senders = refl } in
     let takes : Takes a p now c.in_ok-message.message c.args.out.now.events c.take.new.events task.receivers.items mid.receivers.items = takes-over task.receivers a p now c.in_ok-message.message c.args.out.now.events c.take.new.events c.deref_mut.result.now c.take.new.receivers c.deref_mut.ensures.value c.in_ok-message.ensures in
     (x.script, x.task, Data p ∷ x.run.handed a x.task, has-taken-still x.script x.rules x.task x.run task x.at a x.place x.from_known p x.entry c.take_effect.new.self c.arrived.new.self (has-taken x.script x.rules x.task x.run task x.at a x.place x.from_known p x.entry mid keeps now c.in_ok-message.message c.args.out.now.events c.take.new.events takes (length (rules_of c.args.handlers.now).completions) c.take_effect.new.self c.take_effect.new.events c.in_ok-take_effect.ensures))
 
@@ -63,7 +63,7 @@ returns g c =
     let rules = rules_of c.args.handlers.now in
     let now = answer_to rules p.name p.head p.length in
     let mid : Task = record task { receivers = with_items task.receivers c.take.new.receivers } in
-    let keeps : KeepsRest task mid = record { sizes = refl; statements = refl; limits = refl; state = refl; unfinished = refl; senders = refl } in
+    let keeps : KeepsRest task mid = record { sizes = refl; statements = refl; limits = refl; rounds = refl; state = refl; unfinished = refl; senders = refl } in
     let takes : Takes a p now c.in_ok-message.message c.args.out.now.events c.take.new.events task.receivers.items mid.receivers.items = takes-over task.receivers a p now c.in_ok-message.message c.args.out.now.events c.take.new.events c.deref_mut.result.now c.take.new.receivers c.deref_mut.ensures.value c.in_ok-message.ensures in
     on-ok _ _ c.acknowledge.result
     (λ answers script t k r at known entry.

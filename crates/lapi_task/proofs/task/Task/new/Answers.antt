@@ -1,19 +1,27 @@
-use Rattle.std.proofs.Common.{List, length, replicate, false, sym, ap, ◌∙◌, subst}
+use Rattle.std.proofs.Common.{List, length, replicate, false, refl, sym, ap, ◌∙◌, subst, arith}
 use Rattle.lapi_base.specs.declared.sizes.Sizes.{Sizes}
 use Rattle.lapi_calls.specs.Limits.{limits_of}
 use Rattle.lapi_task.specs.StandsFor.{IsNewState}
 use Rattle.lapi_task.proofs.NewStands.{new-stands}
+use Rattle.lapi_task.proofs.ReasonForms.{few-statements}
 use Rattle.lapi_task.proofs.task.Task.new.Goals as goal
 use Rattle.lapi_base.specs.declared.statement.Statement.{Statement}
+
+pub rounds_of-requires : goal.rounds_of-requires
+rounds_of-requires c =
+    let few = few-statements c.args.script.now c.requires.script c.args.task in
+    let same = ap (λ (xs : List Statement). length xs) c.in_ok-statements.ensures in
+    omega (arith, few, same)
 
 pub returns : goal.returns
 returns c = λ rules valid count. new-stands c.args.script.now rules c.args.task _ (record {
   calls = record {
-    supported = c.requires.script;
+    valid = c.requires.script;
     rules_valid = valid;
     sizes = c.sizes-sizes.ensures;
     statements = c.in_ok-statements.ensures;
     limits = c.of-limits.ensures ∙ ap (limits_of c.args.script.now) (sym count);
+    rounds = c.in_ok-rounds.ensures c.args.script.now c.args.task c.in_ok-statements.ensures refl;
   };
   state = subst (λ (z : Sizes). IsNewState z c.args.task c.in_ok-state.state) c.sizes-sizes.ensures c.in_ok-state.ensures;
   unfinished =

@@ -10,9 +10,9 @@ pub returns-then-is_free : goal.returns-then-is_free
 returns-then-is_free c = λ script named t r at.
     let all : c.all.result ≡ list_all settled c.args.self.now.senders.items = all_from_yields_List settled _ _ c.all.result c.all.ensures.ran (YieldsList-from_slice c.args.self.now.senders.items cc) (λ x b q k. search (rules, tests)) in
     let free = sym c.if-is_free.true ∙ c.is_free.ensures in
-    all ∙ ap (λ b. b && list_all settled c.args.self.now.senders.items) free ∙ still-is script named at.stands.calls.supported t c.args.self.now r at
+    all ∙ ap (λ b. b && list_all settled c.args.self.now.senders.items) free ∙ still-is script named at.stands.calls.valid t c.args.self.now r at
 
 pub returns-else-is_free : goal.returns-else-is_free
 returns-else-is_free c = λ script named t r at.
     let free = sym c.if-is_free.false ∙ c.is_free.ensures in
-    c.if-is_free.false ∙ ap (λ b. b && list_all settled c.args.self.now.senders.items) free ∙ still-is script named at.stands.calls.supported t c.args.self.now r at
+    c.if-is_free.false ∙ ap (λ b. b && list_all settled c.args.self.now.senders.items) free ∙ still-is script named at.stands.calls.valid t c.args.self.now r at

@@ -1,0 +1,5 @@
+use Rattle.lapi_task.proofs.RoundNumbers.{AreNumbered}
+use Rattle.lapi_task.proofs.rounds.rounds_of.Given as goal
+
+abbrev pub invariant-loop-statement : goal.invariant-loop-statement
+invariant-loop-statement l = AreNumbered l.statements l.memory l.statement-index l.rounds.items l.fences l.tables
