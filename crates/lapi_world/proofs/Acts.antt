@@ -12,13 +12,12 @@ use Rattle.lapi_base.specs.declared.schedule.Act.TheVariants as acts
 use Rattle.lapi_base.specs.declared.reply.Reply.{Reply}
 use Rattle.lapi_base.specs.declared.reply.Reply.TheVariants.{Did}
 use Rattle.lapi_base.specs.declared.wire.WireEntry.{WireEntry}
-use Rattle.lapi_base.specs.Input.Built.{is_built_act}
 use Rattle.lapi_base.specs.Record.Wires.{Run}
 use Rattle.lapi_base.specs.Record.Acts.{perform, step, poll, tick, deliver}
 use Rattle.lapi_base.specs.Record.WorldView.{IsRecord, performed}
 use Rattle.lapi_base.specs.Packet.Spelling.{spells_packet}
 use Rattle.lapi_base.specs.Record.TaskPart.{actor}
-use Rattle.lapi_base.specs.Record.Valid.{ValidAct}
+use Rattle.lapi_base.specs.Record.Valid.{ValidAct, ValidScript}
 use Rattle.lapi_base.specs.Packet.PacketBytes as written
 use Rattle.lapi_base.proofs.ListLaws.{found-at, get-set, get-set-other}
 use Rattle.lapi_parts.proofs.OtherTasks.{others-stay}
@@ -27,7 +26,6 @@ use Rattle.lapi_task.specs.declared.outcome.Outcome.{Outcome}
 use Rattle.lapi_task.specs.declared.task.Task.{Task}
 use Rattle.lapi_task.specs.Apart.{TasksStayApart}
 use Rattle.lapi_task.specs.HasEffect.{IsAt, IsAtSome, HasEffect}
-use Rattle.lapi_task.specs.Supported.{IsSupported}
 use Rattle.lapi_task.specs.StandsFor.{StandsFor}
 use Rattle.lapi_world.specs.declared.network.Network.{Network}
 use Rattle.lapi_world.specs.Grows.{bytes_at, ArePut, IsAdded}
@@ -83,11 +81,7 @@ module _ (script : Script) (rules : Rules) where
   pub step-replies : (r : Run) (t : ℕ) (reply : Reply) → (step script rules r t).replies ≡ r.replies ++ reply ∷ [] → (performed script rules r (acts.Step t)).replies ≡ r.replies ++ reply ∷ []
   step-replies r t reply h = ap (λ (s : Run). s.replies) (performed-step r t) ∙ h
 
-  -- an act that is built is none that isn't
-  pub unbuilt : (act other : Act) → is_built_act act ≡ true → is_built_act other ≡ false → act ≡ other → ⊥
-  unbuilt act other built isn same = false≢true (sym isn ∙ sym (ap is_built_act same) ∙ built)
-
-  -- and one that is no work is none that begins or ends a job
+  -- an act that is no work is none that begins or ends a job
   pub no-work : (act other : Act) → is_work act ≡ false → is_work other ≡ true → act ≡ other → ⊥
   no-work act other plain is same = false≢true (sym plain ∙ ap is_work same ∙ is)
 
@@ -96,7 +90,7 @@ module _ (script : Script) (rules : Rules) where
   moved r s u f (Some task) h = f task h
 
   -- A task's outcome was added.
-  module _ (apart : TasksStayApart) (perf : IsSupported script) (r : Run) (is : IsRecord script rules r) (act : Act) (valid : ValidAct script spells_packet act) (t : ℕ) (acts-at : actor act ≡ t) (known : t < script.tasks) where
+  module _ (apart : TasksStayApart) (perf : ValidScript script) (r : Run) (is : IsRecord script rules r) (act : Act) (valid : ValidAct script spells_packet act) (t : ℕ) (acts-at : actor act ≡ t) (known : t < script.tasks) where
     abbrev after : Run
     after = performed script rules r act
 

@@ -12,7 +12,7 @@ use Rattle.lapi_base.specs.declared.reply.Reply.{Reply}
 use Rattle.lapi_base.specs.declared.reply.Reply.TheVariants.{Did, Absent}
 use Rattle.lapi_base.specs.Record.Wires.{Run}
 use Rattle.lapi_base.specs.Record.Acts.{deliver, deliver_entry, hand_over, reply_with}
-use Rattle.lapi_base.specs.Record.Valid.{ValidRules}
+use Rattle.lapi_base.specs.Record.Valid.{ValidRules, ValidScript}
 use Rattle.lapi_base.specs.Record.WorldView.{IsRecord, performed}
 use Rattle.lapi_base.specs.Packet.Spelling.{Spells}
 use Rattle.lapi_base.specs.Packet.PacketBytes as written
@@ -22,7 +22,6 @@ use Rattle.lapi_base.proofs.Spellings.{one_packet}
 use Rattle.lapi_parts.proofs.SpelledPackets.{packets-written}
 use Rattle.lapi_task.specs.declared.task.Task.{Task}
 use Rattle.lapi_task.specs.HasEffect.{IsOnWire}
-use Rattle.lapi_task.specs.Supported.{IsSupported}
 use Rattle.lapi_task.specs.StandsFor.{SenderAt}
 use Rattle.lapi_world.specs.declared.network.Network.{Network}
 use Rattle.lapi_world.specs.Stands.{TaskAt, Stands}
@@ -102,7 +101,7 @@ module _ (script : Script) (rules : Rules) where
     entry-is : option_map written.packet (slice_get (r.wire a b) k) ≡ slice_get wire k
     entry-is = sym (slice_get-map written.packet (r.wire a b) k) ∙ ap (λ (ws : List (List ℕ)). slice_get ws k) (sym (read-wire network r a b place wire h la lb at e))
 
-    none-there : slice_get wire k ≡ None → slice_get (r.wire a b) k ≡ None
+    pub none-there : slice_get wire k ≡ None → slice_get (r.wire a b) k ≡ None
     none-there none = no-packet (slice_get (r.wire a b) k) (entry-is ∙ none)
 
     pub absent-stands : slice_get wire k ≡ None → Stands script rules network (performed script rules r (Deliver a b k))
@@ -115,12 +114,12 @@ module _ (script : Script) (rules : Rules) where
     valid-rules = let some = task-found script rules r b network h lb in (subst (TaskAt script rules r b) some.1 (h.tasks b lb)).calls.rules_valid
 
     -- The entry that is read spells the packet at its place.
-    pub entry-spells : IsSupported script → IsRecord script rules r → (bytes : List ℕ) → slice_get wire k ≡ Some bytes → (p : Packet) × (slice_get (r.wire a b) k ≡ Some p) × Spells p bytes
+    pub entry-spells : ValidScript script → IsRecord script rules r → (bytes : List ℕ) → slice_get wire k ≡ Some bytes → (p : Packet) × (slice_get (r.wire a b) k ≡ Some p) × Spells p bytes
     entry-spells perf is bytes found =
         let some = some-packet (slice_get (r.wire a b) k) bytes (entry-is ∙ found) in
-        (some.0, some.1, subst (Spells some.0) (sym some.2) (packets-written script rules r is perf.valid valid-rules a b k some.0 some.1))
+        (some.0, some.1, subst (Spells some.0) (sym some.2) (packets-written script rules r is perf valid-rules a b k some.0 some.1))
 
-    pub on-wire : IsSupported script → IsRecord script rules r → (bytes : List ℕ) → slice_get wire k ≡ Some bytes → (task : Task) → task ≡ get_or network.tasks.items b task → (p : Packet) → Spells p bytes → IsOnWire task a p
+    pub on-wire : ValidScript script → IsRecord script rules r → (bytes : List ℕ) → slice_get wire k ≡ Some bytes → (task : Task) → task ≡ get_or network.tasks.items b task → (p : Packet) → Spells p bytes → IsOnWire task a p
     on-wire perf is bytes found task read p spells =
         let entry = entry-spells perf is bytes found in
         record {

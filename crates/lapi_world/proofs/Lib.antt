@@ -1,8 +1,9 @@
-pub mod Pairs
-pub mod Putting
-pub mod Beginnings
 pub mod Acts
+pub mod Beginnings
 pub mod Delivering
 pub mod JobLines
+pub mod Pairs
+pub mod Putting
 pub mod Quietness
+pub mod Refusing
 pub mod WorldLaws

@@ -1,5 +1,5 @@
 -- A world, line by line.
-use Rattle.std.proofs.Common.{◌≡◌, ℕ, ◌<◌, Bool, true, false, List, [], ◌∷◌, ◌++◌, length, reverse, Option, Some, None, refl, sym, ap, ◌∙◌, subst}
+use Rattle.std.proofs.Common.{◌≡◌, ◌↔◌, IsTrue, ℕ, ◌<◌, Bool, false, List, [], ◌∷◌, ◌++◌, length, reverse, Option, Some, None, refl, sym, ap, ◌∙◌, subst}
 use Rattle.std.specs.Prelude.{slice_get, option_map}
 use Rattle.std.specs.List.{AllByRecursion}
 use Rattle.lapi_base.specs.declared.script.Script.{Script}
@@ -9,8 +9,8 @@ use Rattle.lapi_base.specs.declared.schedule.Act.{Act}
 use Rattle.lapi_base.specs.declared.schedule.Line.{Line}
 use Rattle.lapi_base.specs.declared.reply.Reply.{Reply}
 use Rattle.lapi_base.specs.Record.Atomic.{AtomicInTime}
-use Rattle.lapi_base.specs.Input.Built.{is_built_act}
 use Rattle.lapi_base.specs.Laws.Headline.{HoldsOfRuns}
+use Rattle.lapi_base.specs.Record.Final.{Quiet, QuietIsTested, QuietIsFinal, QuietStays, is_quiet}
 use Rattle.lapi_base.specs.Record.Wires.{Run, start}
 use Rattle.lapi_base.specs.Record.WorldView.{WorldView, IsRecord, act_at, acts_of, record_of, record_at, performed, view_record}
 use Rattle.lapi_base.specs.Packet.Spelling.{refusal, spells_packet}
@@ -26,7 +26,8 @@ use Rattle.lapi_task.specs.HasEffect.{IsAt}
 use Rattle.lapi_task.specs.Working.{IsBegun}
 use Rattle.lapi_world.specs.declared.network.Network.{Network}
 use Rattle.lapi_world.specs.Jobs.{BeginsAt, EndsAt, HandsOut, IsEndWith, IsOfWorker, RunsJob}
-use Rattle.lapi_world.specs.Stands.{TaskAt, Stands, IsSupportedLine, IsWorld}
+use Rattle.lapi_world.specs.Settled.{IsSettled}
+use Rattle.lapi_world.specs.Stands.{TaskAt, Stands, IsWorld}
 use Rattle.lapi_world.proofs.JobLines.{job-runs}
 
 -- The worker of an End.
@@ -63,10 +64,10 @@ module _ (script : Script) (rules : Rules) where
   act-of None act e = absurd (cc)
   act-of (Some line) act e = (line, refl, (let q : line.act ≡ act = cc in q))
 
-  pub act-valid : (schedule : List Line) (n : ℕ) (act : Act) → AllByRecursion (ValidLine script spells_packet) schedule → AllByRecursion IsSupportedLine schedule → act_at schedule n ≡ Some act → ValidAct script spells_packet act × (is_built_act act ≡ true)
-  act-valid schedule n act valid built at =
+  pub act-valid : (schedule : List Line) (n : ℕ) (act : Act) → AllByRecursion (ValidLine script spells_packet) schedule → act_at schedule n ≡ Some act → ValidAct script spells_packet act
+  act-valid schedule n act valid at =
       let line = act-of (slice_get schedule n) act at in
-      (subst (ValidAct script spells_packet) line.2 (all-get (ValidLine script spells_packet) schedule n line.0 valid line.1).1, subst (λ x. is_built_act x ≡ true) line.2 (all-get IsSupportedLine schedule n line.0 built line.1))
+      subst (ValidAct script spells_packet) line.2 (all-get (ValidLine script spells_packet) schedule n line.0 valid line.1).1
 
   -- The record of the lines taken.
   pub recorded : (schedule : List Line) (network : Network) (taken : List ℕ) (replies : List Reply) (spent : Bool) → IsWorld script rules schedule network taken replies spent → IsRecord script rules (record_at script rules schedule taken)
@@ -99,7 +100,6 @@ module _ (script : Script) (rules : Rules) where
       script_performed = w.script_performed;
       rules_valid = w.rules_valid;
       schedule_valid = w.schedule_valid;
-      schedule_performed = w.schedule_performed;
       task_count = count ∙ w.task_count;
       stands = λ _. line-stands schedule taken more n act new at push h;
       answers = λ _. tell ∙ ap (λ (rs : List Reply). rs ++ reply ∷ []) (w.answers free) ∙ sym (line-replies schedule taken more n act reply at push answer);
@@ -110,6 +110,24 @@ module _ (script : Script) (rules : Rules) where
 
   pub first-replies : (schedule : List Line) (taken : List ℕ) → taken ≡ [] → [] ≡ (record_at script rules schedule taken).replies
   first-replies schedule taken e = sym (ap (λ (r : Run). r.replies) (ap (record_at script rules schedule) e ∙ record-first script rules schedule))
+
+  -- What its test for quiet answers says what quiet means;
+  pub is-quiet : HoldsOfRuns QuietIsTested → (schedule : List Line) (network : Network) (taken : List ℕ) (replies : List Reply) (spent answer : Bool) → IsWorld script rules schedule network taken replies spent → answer ≡ is_quiet script rules (record_at script rules schedule taken) → IsTrue answer ↔ Quiet script rules (record_at script rules schedule taken)
+  unfolding record_of
+  is-quiet law schedule network taken replies spent answer w told =
+      subst (λ (b : Bool). IsTrue b ↔ Quiet script rules (record_at script rules schedule taken)) (sym told)
+      (law script rules spells_packet packet_size refusal (acts_of schedule taken) (acts-valid script schedule taken w.schedule_valid))
+
+  -- and where it answers yes, all is final.
+  pub is-settled : HoldsOfRuns QuietIsTested → HoldsOfRuns QuietIsFinal → HoldsOfRuns QuietStays → (schedule : List Line) (network : Network) (taken : List ℕ) (replies : List Reply) (spent answer : Bool) → IsWorld script rules schedule network taken replies spent → answer ≡ is_quiet script rules (record_at script rules schedule taken) → IsTrue answer → IsSettled script rules (record_at script rules schedule taken)
+  unfolding record_of
+  is-settled tested final stays schedule network taken replies spent answer w told test =
+      let valid = acts-valid script schedule taken w.schedule_valid in
+      let quiet = (is-quiet tested schedule network taken replies spent answer w told).0 test in
+      record {
+        final = final script rules spells_packet packet_size refusal (acts_of schedule taken) valid quiet;
+        stays = λ more ok none. stays script rules spells_packet packet_size refusal (acts_of schedule taken) valid quiet spells_packet packet_size refusal more ok none;
+      }
 
   -- Its journal is atomic.
   pub world-atomic : HoldsOfRuns (λ script rules r. AtomicInTime script rules (reverse r.journal)) → (schedule : List Line) (network : Network) (taken : List ℕ) (replies : List Reply) (spent : Bool) (journal : List Event) → IsWorld script rules schedule network taken replies spent → spent ≡ false → journal ≡ network.journal → AtomicInTime script rules journal

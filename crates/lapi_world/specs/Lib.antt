@@ -1,4 +1,5 @@
-pub mod Stands
+pub mod Ends
 pub mod Grows
 pub mod Jobs
-pub mod Ends
+pub mod Settled
+pub mod Stands

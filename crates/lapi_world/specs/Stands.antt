@@ -1,18 +1,15 @@
 -- What a world keeps stands for a record.
-use Rattle.std.specs.Prelude.{◌≡◌, ℕ, ◌+◌, ◌*◌, ◌<◌, Bool, true, false, List, length, map, reverse, slice_get, Option, Some, None}
-use Rattle.std.specs.List.{AllByRecursion}
+use Rattle.std.specs.Prelude.{◌≡◌, ℕ, ◌+◌, ◌*◌, ◌<◌, Bool, false, List, length, map, reverse, slice_get, Option, Some, None}
 use Rattle.lapi_base.specs.declared.script.Script.{Script}
 use Rattle.lapi_base.specs.declared.rule.Rules.{Rules}
 use Rattle.lapi_base.specs.declared.schedule.Line.{Line}
 use Rattle.lapi_base.specs.declared.reply.Reply.{Reply}
-use Rattle.lapi_base.specs.Input.Built.{is_built_act}
 use Rattle.lapi_base.specs.Record.Wires.{Run}
 use Rattle.lapi_base.specs.Record.WorldView.{IsRecord, record_at}
 use Rattle.lapi_base.specs.Packet.Spelling.{spells_packet}
-use Rattle.lapi_base.specs.Record.Valid.{ValidRules, ValidSchedule}
+use Rattle.lapi_base.specs.Record.Valid.{ValidRules, ValidSchedule, ValidScript}
 use Rattle.lapi_base.specs.Packet.PacketBytes as written
 use Rattle.lapi_task.specs.declared.task.Task.{Task}
-use Rattle.lapi_task.specs.Supported.{IsSupported}
 use Rattle.lapi_task.specs.StandsFor.{StandsFor}
 use Rattle.lapi_world.specs.declared.network.Network.{Network}
 
@@ -42,16 +39,11 @@ pub record Stands (script : Script) (rules : Rules) (network : Network) (r : Run
 abbrev pub StandsForOne : Script → Rules → Network → Type 0
 StandsForOne script rules network = (r : Run) × IsRecord script rules r × Stands script rules network r
 
--- every line of the schedule is of a form that is performed
-abbrev pub IsSupportedLine : Line → Type 0
-IsSupportedLine line = is_built_act line.act ≡ true
-
 -- what holds of every world
 pub record IsWorld (script : Script) (rules : Rules) (schedule : List Line) (network : Network) (taken : List ℕ) (replies : List Reply) (spent : Bool) : Type 0 where
-  pub script_performed : IsSupported script
+  pub script_performed : ValidScript script
   pub rules_valid : ValidRules rules
   pub schedule_valid : ValidSchedule script spells_packet schedule
-  pub schedule_performed : AllByRecursion IsSupportedLine schedule
   pub task_count : length network.tasks.items ≡ script.tasks
   pub stands : spent ≡ false → Stands script rules network (record_at script rules schedule taken)
   pub answers : spent ≡ false → replies ≡ (record_at script rules schedule taken).replies

@@ -1,19 +1,17 @@
-ghost use Rattle.std.specs.Prelude.{◌≡◌, ◌+◌, ◌*◌, ◌<◌, ◌≤◌, true, false, [], ◌++◌, length, map, replicate, slice_get, Some, OnOk, IfOk};
+ghost use Rattle.std.specs.Prelude.{◌≡◌, ◌+◌, ◌*◌, ◌<◌, ◌≤◌, true, false, [], ◌++◌, length, map, replicate, slice_get, Some, Ok, OnOk, IfOk};
 ghost use Rattle.std.specs.List.{AllByRecursion};
 ghost use Rattle.lapi_base.specs.declared.rule.Rules.{Rules};
 ghost use Rattle.lapi_base.specs.declared.script.Script.{Script};
-ghost use Rattle.lapi_base.specs.declared.schedule.Act.TheVariants.{Step, Poll, Tick, Deliver, Begin, End};
+ghost use Rattle.lapi_base.specs.declared.schedule.Act.TheVariants.{Step, Poll, Tick, Deliver, Cut, Inject, Begin, End};
 ghost use Rattle.lapi_base.specs.declared.wire.WireEntry.{WireEntry};
-ghost use Rattle.lapi_base.specs.Input.Built.{is_built_act};
 ghost use Rattle.lapi_base.specs.Record.Final.{is_quiet};
 ghost use Rattle.lapi_base.specs.Record.Wires.{Run, start};
 ghost use Rattle.lapi_base.specs.Record.WorldView.{IsRecord};
-ghost use Rattle.lapi_base.specs.Packet.Spelling.{spells_packet};
-ghost use Rattle.lapi_base.specs.Record.Valid.{ValidAct};
+ghost use Rattle.lapi_base.specs.Packet.Spelling.{spells_packet, refusal};
+ghost use Rattle.lapi_base.specs.Record.Valid.{ValidAct, ValidScript};
 ghost use Rattle.lapi_base.specs.Packet.PacketBytes as written;
 ghost use Rattle.lapi_handlers.specs.Handlers.{rules_of};
 ghost use Rattle.lapi_task.specs.Apart.{TasksStayApart};
-ghost use Rattle.lapi_task.specs.Supported.{IsSupported};
 ghost use Rattle.lapi_task.specs.Working.{IsBegun};
 ghost use Rattle.lapi_world.specs.Stands.{HaveRules, Stands, StandsForOne, TasksStand};
 ghost use Rattle.lapi_world.specs.Grows.{KeepsRecord, Answers, ArePut, IsAdded};
@@ -23,7 +21,8 @@ ghost use Rattle.lapi_world.specs.Ends.{AnswersEnd, IsOfSome, KeepsEnd};
 use crate::wire::Wire;
 use lapi_base::{Act, Bytes, Entries, Event, Events, Memory, Reply, Script, WireEntry};
 use lapi_handlers::{Begun, Finished, Handlers};
-use lapi_task::{Outcome, Task, tasks_stay_apart};
+use lapi_packet::spelling_laws;
+use lapi_task::{Outcome, Received, Task, tasks_stay_apart};
 use std::alloc::Global;
 
 /// The tasks, the wires between them, and what happened so far.
@@ -38,7 +37,7 @@ pub struct Network {
 impl Network {
     /// Nothing happened yet.
     pub fn new(alloc: Global, script: &Script, header_count: u32) -> Result<Network, Memory>
-        requires { IsSupported script.now }
+        requires { ValidScript script.now }
         ensures { IfOk result (λ network. (rules : Rules) → HaveRules rules header_count
             → Stands script.now rules network start) }
     {
@@ -76,7 +75,7 @@ impl Network {
         }
     }
 
-    /// What a schedule line of these forms does, one that neither begins nor ends a job.
+    /// What a schedule line does, one that neither begins nor ends a job.
     pub fn perform(
         &mut self,
         alloc: Global,
@@ -84,8 +83,8 @@ impl Network {
         handlers: &Handlers,
         act: &Act,
     ) -> Result<Reply, Memory>
-        requires script { IsSupported script.now }
-        requires act { ValidAct script.now spells_packet act.now × (is_built_act act.now ≡ true) }
+        requires script { ValidScript script.now }
+        requires act { ValidAct script.now spells_packet act.now }
         requires plain { is_work act.now ≡ false }
         requires stands { StandsForOne script.now (rules_of handlers.now) self.old }
         ensures ok { OnOk result (KeepsRecord script.now (rules_of handlers.now) act.now self.old self.new) }
@@ -97,13 +96,16 @@ impl Network {
             Act::Poll(t) => self.poll(alloc, script, *t),
             Act::Tick(t) => self.tick(alloc, script, *t),
             Act::Deliver { a, b, k } => self.deliver(alloc, script, handlers, *a, *b, *k),
-            Act::Cut { .. } | Act::Inject { .. } | Act::Begin { .. } | Act::End { .. } =>
-                unreachable!(),
+            Act::Cut { a, b, k, n } => self.cut(alloc, script, handlers, *a, *b, *k, *n),
+            Act::Inject { a, b, bytes } => {
+                self.inject(alloc, script, handlers, *a, *b, bytes.as_slice())
+            }
+            Act::Begin { .. } | Act::End { .. } => unreachable!(),
         }
     }
 
     fn step(&mut self, alloc: Global, script: &Script, t: u32) -> Result<Reply, Memory>
-        requires script { IsSupported script.now }
+        requires script { ValidScript script.now }
         requires task { t < script.now.tasks }
         requires stands { (rules : Rules) × StandsForOne script.now rules self.old }
         ensures ok { OnOk result ((rules : Rules) → KeepsRecord script.now rules (Step t) self.old self.new) }
@@ -118,7 +120,7 @@ impl Network {
     }
 
     fn poll(&mut self, alloc: Global, script: &Script, t: u32) -> Result<Reply, Memory>
-        requires script { IsSupported script.now }
+        requires script { ValidScript script.now }
         requires task { t < script.now.tasks }
         requires stands { (rules : Rules) × StandsForOne script.now rules self.old }
         ensures ok { OnOk result ((rules : Rules) → KeepsRecord script.now rules (Poll t) self.old self.new) }
@@ -133,7 +135,7 @@ impl Network {
     }
 
     fn tick(&mut self, alloc: Global, script: &Script, t: u32) -> Result<Reply, Memory>
-        requires script { IsSupported script.now }
+        requires script { ValidScript script.now }
         requires task { t < script.now.tasks }
         requires stands { (rules : Rules) × StandsForOne script.now rules self.old }
         ensures ok { OnOk result ((rules : Rules) → KeepsRecord script.now rules (Tick t) self.old self.new) }
@@ -157,7 +159,7 @@ impl Network {
         b: u32,
         k: u32,
     ) -> Result<Reply, Memory>
-        requires script { IsSupported script.now }
+        requires script { ValidScript script.now }
         requires tasks { (a < script.now.tasks) × (b < script.now.tasks) }
         requires stands { StandsForOne script.now (rules_of handlers.now) self.old }
         ensures ok { OnOk result (KeepsRecord script.now (rules_of handlers.now) (Deliver a b k) self.old self.new) }
@@ -175,6 +177,57 @@ impl Network {
         Ok(Reply::Did)
     }
 
+    /// Hands the first `n` bytes of entry `k` of wire (`a`, `b`) to task `b`, which refuses them: they are not the whole.
+    fn cut(
+        &mut self,
+        alloc: Global,
+        script: &Script,
+        handlers: &Handlers,
+        a: u32,
+        b: u32,
+        k: u32,
+        n: u32,
+    ) -> Result<Reply, Memory>
+        requires script { ValidScript script.now }
+        requires tasks { (a < script.now.tasks) × (b < script.now.tasks) }
+        requires stands { StandsForOne script.now (rules_of handlers.now) self.old }
+        ensures ok { OnOk result (KeepsRecord script.now (rules_of handlers.now) (Cut a b k n) self.old self.new) }
+        ensures reply { IfOk result (Answers script.now (rules_of handlers.now) (Cut a b k n) self.old) }
+        ensures count { length self.new.tasks.items ≡ length self.old.tasks.items }
+    {
+        let wire = &self.wires[place(script.tasks, a, b)];
+        let Some(entry) = wire.entry(k) else {
+            return Ok(Reply::Absent);
+        };
+        if n as usize >= entry.len() {
+            return Ok(Reply::Absent);
+        }
+        spelling_laws();
+        let (front, _) = entry.split_at(n as usize);
+        refuse(&mut self.tasks[b as usize], alloc, a, front, handlers)
+    }
+
+    /// Hands bytes that spell no packet to task `b`, as if from task `a`.
+    fn inject(
+        &mut self,
+        alloc: Global,
+        script: &Script,
+        handlers: &Handlers,
+        a: u32,
+        b: u32,
+        bytes: &[u8],
+    ) -> Result<Reply, Memory>
+        requires script { ValidScript script.now }
+        requires tasks { (a < script.now.tasks) × (b < script.now.tasks) }
+        requires bytes { spells_packet bytes.now ≡ false }
+        requires stands { StandsForOne script.now (rules_of handlers.now) self.old }
+        ensures ok { OnOk result (KeepsRecord script.now (rules_of handlers.now) (Inject a b bytes.now) self.old self.new) }
+        ensures reply { IfOk result (Answers script.now (rules_of handlers.now) (Inject a b bytes.now) self.old) }
+        ensures count { length self.new.tasks.items ≡ length self.old.tasks.items }
+    {
+        refuse(&mut self.tasks[b as usize], alloc, a, bytes, handlers)
+    }
+
     /// A worker of task `t` begins the oldest job that waits there.
     pub fn begin(
         &mut self,
@@ -183,7 +236,7 @@ impl Network {
         t: u32,
         worker: u32,
     ) -> Result<Begun, Memory>
-        requires script { IsSupported script.now }
+        requires script { ValidScript script.now }
         requires place { (t < script.now.tasks) × (worker < script.now.workers) }
         requires stands { (rules : Rules) × StandsForOne script.now rules self.old }
         ensures ok { OnOk result ((rules : Rules) → KeepsRecord script.now rules (Begin t worker) self.old self.new) }
@@ -209,7 +262,7 @@ impl Network {
         worker: u32,
         finished: Option<Finished>,
     ) -> Result<Reply, Memory>
-        requires script { IsSupported script.now }
+        requires script { ValidScript script.now }
         requires place { (t < script.now.tasks) × (worker < script.now.workers) }
         requires finished { IsOfSome script.now t worker finished self.old }
         ensures ok { OnOk result (KeepsEnd script.now t worker finished self.old self.new) }
@@ -264,6 +317,25 @@ fn append(journal: &mut Events, events: &Events) -> Result<(), Memory>
     Ok(())
 }
 
+/// Hands bytes that spell no packet to a task, which stays as it is: the reply says where they fail, and why.
+fn refuse(
+    task: &mut Task,
+    alloc: Global,
+    from: u32,
+    bytes: &[u8],
+    handlers: &Handlers,
+) -> Result<Reply, Memory>
+    requires { spells_packet bytes.now ≡ false }
+    ensures { (result ≡ Ok (Reply.Bad (refusal bytes.now))) × (task.new ≡ task.old) }
+{
+    spelling_laws();
+    let mut out = Outcome::new(alloc);
+    match task.receive(alloc, from, bytes, handlers, &mut out)? {
+        Received::Refused(bad) => Ok(Reply::Bad(bad)),
+        Received::Data | Received::Ack => unreachable!(),
+    }
+}
+
 /// Moves each entry of task `t` onto its wire.
 fn put_all(wires: &mut Vec<Wire>, tasks: u32, t: u32, entries: Entries) -> Result<(), Memory>
     requires known { (t < tasks) × (tasks ≤ 8) }
@@ -280,7 +352,7 @@ fn put_all(wires: &mut Vec<Wire>, tasks: u32, t: u32, entries: Entries) -> Resul
 }
 
 fn new_tasks(alloc: Global, script: &Script, header_count: u32) -> Result<Vec<Task>, Memory>
-    requires { IsSupported script.now }
+    requires { ValidScript script.now }
     ensures count { IfOk result (λ tasks. length tasks.items ≡ script.now.tasks) }
     ensures stand { IfOk result (λ tasks. (rules : Rules) → HaveRules rules header_count
         → TasksStand script.now rules start tasks.items) }

@@ -1,13 +1,13 @@
-ghost use Rattle.std.specs.Prelude.{◌≡◌, ℕ, ◌<◌, true, false, ◌∷◌, [], ◌++◌, length, map, reverse, OnOk, OnErr, IfOk, Some};
+ghost use Rattle.std.specs.Prelude.{◌≡◌, ℕ, ◌<◌, true, false, ◌∷◌, [], ◌++◌, length, map, reverse, OnOk, OnErr, IfOk, IsTrue, ◌↔◌, Some};
 ghost use Rattle.lapi_base.specs.Record.Atomic.{AtomicInTime};
-ghost use Rattle.lapi_base.specs.Record.Final.{is_quiet};
+ghost use Rattle.lapi_base.specs.Record.Final.{is_quiet, Quiet};
 ghost use Rattle.lapi_base.specs.Record.WorldView.{view_record, act_at};
-ghost use Rattle.lapi_base.specs.Input.Built.{IsBuilt};
 ghost use Rattle.lapi_base.specs.Packet.Spelling.{spells_packet};
 ghost use Rattle.lapi_base.specs.Record.Valid.{ValidScript, ValidSchedule};
 ghost use Rattle.lapi_base.specs.Packet.PacketBytes as written;
 ghost use Rattle.lapi_handlers.specs.Handlers.{rules_of};
 ghost use Rattle.lapi_task.specs.HasEffect.{IsAt};
+ghost use Rattle.lapi_world.specs.Settled.{IsSettled};
 ghost use Rattle.lapi_world.specs.Jobs.{BeginsAt, EndsAt, HandsOut, IsBeginLine, IsEndWith, IsPlainLine, begun_reply};
 
 use crate::network::Network;
@@ -15,7 +15,7 @@ use lapi_base::{
     Act, Bytes, Event, Line, Memory, Numbers, Replies, Reply, Rules, Schedule, Script,
 };
 use lapi_handlers::{Begun, Finished, Handlers};
-use lapi_laws::journal_is_atomic;
+use lapi_laws::{delivered_is_final, journal_is_atomic, quiet_is_tested};
 use lapi_task::Task;
 use std::alloc::Global;
 use std::marker::Model;
@@ -57,7 +57,6 @@ impl World {
     ) -> Result<World, Memory>
         requires script { ValidScript script }
         requires schedule { ValidSchedule script spells_packet schedule }
-        requires built { IsBuilt (record { script = script; schedule = schedule }) }
         ensures { IfOk result
             (λ w. w ≡ record { script = script; rules = rules_of handlers.now; schedule = schedule; taken = []; spent = false }) }
     {
@@ -202,10 +201,18 @@ impl World {
         self.network.task(t)
     }
 
-    /// Whether everything sent is acknowledged, no job waits or runs, and nothing is left to copy or to send.
+    /// Whether everything sent is acknowledged, no job waits or runs, and nothing is left to copy or to send. Then
+    /// everything that was issued is complete, and stays so until a task takes its next step.
     pub fn quiet(&self) -> bool
-        ensures { self.now.spent ≡ false → result ≡ is_quiet self.now.script self.now.rules (view_record self.now) }
+        ensures tested { self.now.spent ≡ false
+            → result ≡ is_quiet self.now.script self.now.rules (view_record self.now) }
+        ensures quiet { self.now.spent ≡ false
+            → IsTrue result ↔ Quiet self.now.script self.now.rules (view_record self.now) }
+        ensures settled { self.now.spent ≡ false → IsTrue result
+            → IsSettled self.now.script self.now.rules (view_record self.now) }
     {
+        quiet_is_tested();
+        delivered_is_final();
         self.network.is_quiet()
     }
 

@@ -16,7 +16,7 @@ perform-requires g c =
     let at = ap (λ (s : List Line). act_at s c.args.n) (sym c.as_slice.ensures) ∙ c.act_at-act.ensures in
     record {
       script = c.self.invariant.script_performed;
-      act = act-valid w.script w.rules w.schedule c.args.n c.act_at-act.result.now c.self.invariant.schedule_valid.lines c.self.invariant.schedule_performed at;
+      act = act-valid w.script w.rules w.schedule c.args.n c.act_at-act.result.now c.self.invariant.schedule_valid.lines at;
       plain = subst (λ (s : List Line). IsPlainLine s c.args.n) (sym (ap (λ (v : WorldView). v.schedule) c.self.view_is)) c.requires.plain c.act_at-act.result.now at;
       stands = subst (λ (x : Rules). StandsForOne w.script x w.network) (sym same) (record_at w.script w.rules w.schedule w.taken, recorded w.script w.rules w.schedule w.network w.taken w.replies w.spent c.self.invariant, c.self.invariant.stands c.if-self.false);
     }

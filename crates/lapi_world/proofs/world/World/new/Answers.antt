@@ -14,10 +14,9 @@ invariant_of-result g c =
     let valid = c.in_ok-rules.ensures.valid in
     let first = c.in_ok-network.ensures rules (valid, sym c.header_count.ensures.count) in
     record {
-      script_performed = record { valid = c.requires.script; built = c.requires.built.lists };
+      script_performed = c.requires.script;
       rules_valid = subst ValidRules same valid;
       schedule_valid = c.requires.schedule;
-      schedule_performed = c.requires.built.lines;
       task_count = first.task_count;
       stands = λ _.
           subst (λ (x : Rules). Stands c.args.script x c.in_ok-network.network (record_at c.args.script x c.args.schedule c.new-2.result)) same
