@@ -25,17 +25,17 @@ use Rattle.lapi_base.specs.Record.Operations.{statements}
 use Rattle.lapi_base.proofs.ListLaws.{all-append, get-front}
 
 -- what a line hands over is the same however the wire grows
-abbrev IsFixed : (wire : List Packet) → (from to : ℕ) → Act → Reply → Type 0
+abbrev pub IsFixed : (wire : List Packet) → (from to : ℕ) → Act → Reply → Type 0
 IsFixed wire a b act reply = (more : List Packet) → handed_by (wire ++ more) a b act reply ≡ handed_by wire a b act reply
 
 -- what one act makes of a record: one reply more, longer wires, what it hands over, and what it leaves owed
-record Adds (script : Script) (r : Run) (act : Act) (s : Run) : Type 0 where
-  reply : Reply
-  replies : s.replies ≡ r.replies ++ reply ∷ []
-  wire : (a b : ℕ) → (more : List Packet) × (s.wire a b ≡ r.wire a b ++ more)
-  handed : (a b : ℕ) → s.handed a b ≡ reverse (handed_by (r.wire a b) a b act reply) ++ r.handed a b
-  owed : (a b : ℕ) (before : Bool) → r.owed a b ≡ (holds_back script && before) → s.owed a b ≡ (holds_back script && owes_by (r.wire a b) a b act reply before)
-  fixed : (a b : ℕ) → IsFixed (r.wire a b) a b act reply
+pub record Adds (script : Script) (r : Run) (act : Act) (s : Run) : Type 0 where
+  pub reply : Reply
+  pub replies : s.replies ≡ r.replies ++ reply ∷ []
+  pub wire : (a b : ℕ) → (more : List Packet) × (s.wire a b ≡ r.wire a b ++ more)
+  pub handed : (a b : ℕ) → s.handed a b ≡ reverse (handed_by (r.wire a b) a b act reply) ++ r.handed a b
+  pub owed : (a b : ℕ) (before : Bool) → r.owed a b ≡ (holds_back script && before) → s.owed a b ≡ (holds_back script && owes_by (r.wire a b) a b act reply before)
+  pub fixed : (a b : ℕ) → IsFixed (r.wire a b) a b act reply
 
 -- the lines so far account for what was handed over, and for what is owed
 record Accounts (script : Script) (acts : List Act) (r : Run) : Type 0 where
@@ -44,7 +44,7 @@ record Accounts (script : Script) (acts : List Act) (r : Run) : Type 0 where
   owed : (a b : ℕ) → r.owed a b ≡ (holds_back script && owes (r.wire a b) a b (zip acts r.replies) false)
   fixed : (a b : ℕ) → AllByRecursion (λ (line : Act × Reply). IsFixed (r.wire a b) a b line.0 line.1) (zip acts r.replies)
 
-zip-push : {A B : Type 0} (xs : List A) (ys : List B) (x : A) (y : B) → length xs ≡ length ys → zip (xs ++ x ∷ []) (ys ++ y ∷ []) ≡ zip xs ys ++ (x, y) ∷ []
+pub zip-push : {A B : Type 0} (xs : List A) (ys : List B) (x : A) (y : B) → length xs ≡ length ys → zip (xs ++ x ∷ []) (ys ++ y ∷ []) ≡ zip xs ys ++ (x, y) ∷ []
 zip-push [] [] x y e = refl
 zip-push [] (z ∷ ys) x y e = absurd (omega arith)
 zip-push (w ∷ xs) [] x y e = absurd (omega arith)
@@ -276,7 +276,7 @@ module _ (script : Script) (rules : Rules) where
     cut-adds r a b k n None = quiet-adds r (Cut a b k n) Absent r.journal (λ wire a b. refl) (λ wire a b before. refl)
     cut-adds r a b k n (Some p) = quiet-adds r (Cut a b k n) (cond (nat_lt n (size p)) (Reply.Bad (record { place = n; reason = Short })) Absent) r.journal (λ wire a b. refl) (λ wire a b before. refl)
 
-    perform-adds : (r : Run) (act : Act) → Adds script r act (perform script rules size refusal r act)
+    pub perform-adds : (r : Run) (act : Act) → Adds script r act (perform script rules size refusal r act)
     unfolding perform
     perform-adds r (Step t) = step-adds r t
     perform-adds r (Poll t) = poll-adds r t

@@ -36,3 +36,4 @@ pub mod CopiedCounts
 pub mod RoundOrder
 pub mod JoinedRounds
 pub mod RisingStatements
+pub mod WorkerLines

@@ -52,6 +52,11 @@ grows-copied P (m ∷ ms) J h =
     (λ _ r. (r.0 ++ Copy m ∷ [], r.1 ∙ sym (append_assoc r.0 (Copy m ∷ []) J), all-append P r.0 (Copy m ∷ []) r.2 (h.0, tt)))
     (grows-copied P ms (cond (happened (Copied m) J) J (Copy m ∷ J)) h.1)
 
+-- a message lands by a delivery alone
+abbrev pub IsDelivery : Act → Type 0
+IsDelivery (Deliver a b k) = Unit {0}
+IsDelivery _ = ⊥
+
 module _ (script : Script) (rules : Rules) where
   -- A Join is copied by a Poll of its origin alone,
   abbrev IsCopyBy : Act → (origin : ℕ) → Leg → Type 0
@@ -71,7 +76,7 @@ module _ (script : Script) (rules : Rules) where
   IsBy r act (Enter a i) = act ≡ Step a
   IsBy r act (Pass a i) = Unit {0}
   IsBy r act (Head m) = Unit {0}
-  IsBy r act (Land m) = Unit {0}
+  IsBy r act (Land m) = IsDelivery act
 
   abbrev pub Adds : Run → Act → Run → Type 0
   Adds r act s = Grows (IsBy r act) r.journal s.journal
@@ -135,23 +140,23 @@ module _ (script : Script) (rules : Rules) where
       (λ _. cond_both (has_completion script rules m.origin m.statement) [] (note_of script rules m) (AllByRecursion (IsBy r act)) (λ _. tt) (λ _. note-by r act m)))
       (λ _. tt)
 
-  arrival-by : (r : Run) (act : Act) (a b : ℕ) (m : MsgName) (n : ℕ) → AllByRecursion (IsBy r act) (first_delivery script rules r a b m n)
+  arrival-by : (r : Run) (act : Act) (a b : ℕ) (m : MsgName) (n : ℕ) → IsDelivery act → AllByRecursion (IsBy r act) (first_delivery script rules r a b m n)
   unfolding first_delivery
-  arrival-by r act a b m n =
+  arrival-by r act a b m n by =
       all-append (IsBy r act) (cond (is_am (statement script m.origin m.statement) && leg_eq m.leg Go && not (some_number script (numbered script r.journal a b) m (is_delivered r a b))) (Head m ∷ []) []) (cond (all_numbers script (numbered script r.journal a b) m (λ k. k == n || is_delivered r a b k)) (Land m ∷ after_land script rules m) [])
       (cond_both _ (Head m ∷ []) [] (AllByRecursion (IsBy r act)) (λ _. (tt, tt)) (λ _. tt))
-      (cond_both _ (Land m ∷ after_land script rules m) [] (AllByRecursion (IsBy r act)) (λ _. (tt, after-by r act m)) (λ _. tt))
+      (cond_both _ (Land m ∷ after_land script rules m) [] (AllByRecursion (IsBy r act)) (λ _. (by, after-by r act m)) (λ _. tt))
 
-  hand-adds : (r : Run) (act : Act) (a b : ℕ) (p : Packet) → Adds r act (hand_over script rules r a b p)
+  hand-adds : (r : Run) (act : Act) (a b : ℕ) (p : Packet) → IsDelivery act → Adds r act (hand_over script rules r a b p)
   unfolding hand_over
-  hand-adds r act a b (Ack from to least bits) = ([], refl, tt)
-  hand-adds r act a b (Data p) =
+  hand-adds r act a b (Ack from to least bits) by = ([], refl, tt)
+  hand-adds r act a b (Data p) by =
       grows-followed (IsBy r act) (cond (is_delivered r a b p.seq) [] (first_delivery script rules r a b p.name p.seq)) r.journal
-      (cond_both (is_delivered r a b p.seq) [] (first_delivery script rules r a b p.name p.seq) (AllByRecursion (IsBy r act)) (λ _. tt) (λ _. arrival-by r act a b p.name p.seq))
+      (cond_both (is_delivered r a b p.seq) [] (first_delivery script rules r a b p.name p.seq) (AllByRecursion (IsBy r act)) (λ _. tt) (λ _. arrival-by r act a b p.name p.seq by))
 
   deliver-adds : (r : Run) (a b k : ℕ) → Adds r (Deliver a b k) (deliver script rules r a b k)
   unfolding deliver
-  deliver-adds r a b k = elim (slice_get (r.wire a b) k) as (λ o. Adds r (Deliver a b k) (deliver_entry script rules r a b o)) [ None ↦ ([], refl, tt) | Some p ↦ hand-adds r (Deliver a b k) a b p ]
+  deliver-adds r a b k = elim (slice_get (r.wire a b) k) as (λ o. Adds r (Deliver a b k) (deliver_entry script rules r a b o)) [ None ↦ ([], refl, tt) | Some p ↦ hand-adds r (Deliver a b k) a b p tt ]
 
   -- a job's lines
   begin-adds : (r : Run) (t w : ℕ) → Adds r (Act.Begin t w) (begin script rules r t w)

@@ -1,5 +1,4 @@
 pub mod Lists
-pub mod Rights
 pub mod Pigeons
 pub mod Views
 pub mod Keeps

@@ -11,6 +11,7 @@ use Rattle.std.specs.Int.{bit_at}
 use Rattle.std.proofs.lemmas.Nat.Bits.{bit_at-lt, bit_at_or, bit_at_xor, bit_at-zero, bit_at_ones}
 use Rattle.atomic_table.specs.Table.{State, Me, Step, step, keeps, Allows, Splits, Joins, Final, Seen}
 use Rattle.atomic_table.proofs.Lists.{set_else}
+use Rattle.lapi_base.proofs.BitSets.{cut_has}
 use Rattle.lapi_turn.specs.declared.rule.Stage.TheVariants.{Rests, Joined}
 use Rattle.lapi_turn.specs.declared.rule.View.{View}
 use Rattle.lapi_turn.specs.Entries.{Entry, NoneNeeds, Begins, Follows, AllBelow16}
@@ -18,20 +19,6 @@ use Rattle.lapi_turn.specs.TurnRule.{TicketLock, StageRule, SeatRule, TicketRule
 use Rattle.lapi_turn.specs.Steps.{at_stage, CheckTells, kept_part, given_part, joined_view, joined_by}
 use Rattle.lapi_turn.proofs.Lists.{bit_off, bit_apart, at_end, one_at, none_zero, none_all, low_back, follows_self, follows_fewer, follows_longer, follows_both, follows_both'}
 use Rattle.lapi_turn.proofs.Views.{each_set, apart_set, apart_end, ticket_set, ticket_end}
-
--- the bits of a part that is taken away
-pub cut_has : (a m r : ℕ) → (bit_at m r ≡ 1 → bit_at a r ≡ 1) → bit_at (bit_xor a m) r ≡ 1 → (bit_at a r ≡ 1) × (bit_at m r ≡ 0)
-cut_has a m r part one =
-    let e : (bit_at a r + bit_at m r) % 2 ≡ 1 = sym (bit_at_xor a m r) ∙ one in
-    dite (ℕ_discrete (bit_at m r) 1)
-    (λ is. let two : bit_at a r + bit_at m r ≡ 2 = (λ i. part is i + is i) in absurd (two_even (bit_at a r + bit_at m r) two e))
-    (λ n. let z : bit_at m r ≡ 0 = bit_off m r n in (odd (bit_at a r) (bit_at-lt a r) (subst (λ k. (bit_at a r + k) % 2 ≡ 1) z e), z))
-  where
-    two_even : (n : ℕ) → n ≡ 2 → n % 2 ≡ 1 → ⊥
-    two_even n is e = omega arith
-
-    odd : (n : ℕ) → n < 2 → (n + 0) % 2 ≡ 1 → n ≡ 1
-    odd n lt e = omega arith
 
 pub both_has : (a b r : ℕ) → bit_at (bit_or a b) r ≡ 1 → (bit_at a r ≡ 1) ⊎ (bit_at b r ≡ 1)
 both_has a b r one = dite (ℕ_discrete (bit_at a r) 1) (λ e. inl e)

@@ -22,8 +22,8 @@ pub trait Kept: Drop {
 pub trait Asked<Q>: Kept {
     type Answer;
 
-    // The entry that the ask would append.
-    ghost entry: { Q → Entry };
+    // The entry that the ask would append, by the fixed part.
+    ghost entry: { Self.Fixed → Q → Entry };
 
     // Whether an answer tells that the entry was appended.
     ghost appended: { Self.Answer → Bool };
@@ -38,7 +38,7 @@ pub trait Asked<Q>: Kept {
     fn act(&mut self, alloc: Global, ask: Q) -> (Self::Answer, bool)
         requires { lawful (Self.fixed self.old) (Self.list self.old) ask }
         ensures fixed { Self.fixed self.new ≡ Self.fixed self.old }
-        ensures list { Self.list self.new ≡ list_after (appended result.0) (Self.list self.old) (entry ask) }
+        ensures list { Self.list self.new ≡ list_after (appended result.0) (Self.list self.old) (entry (Self.fixed self.old) ask) }
         ensures answer { may (Self.fixed self.old) (Self.list self.old) ask result.0 }
         ensures tells { result.1 ≡ appended result.0 };
 }

@@ -56,7 +56,7 @@ impl<V: Kept> Turn<V> {
     where
         V: Asked<Q>,
         requires seat { IsSeatOf V.fixed self.now seat.old }
-        requires right { HasRight (rights_of seat.old) (V.entry ask).1 }
+        requires right { HasRight (rights_of seat.old) (V.entry (fixed_of V.fixed self.now) ask).1 }
         requires lawful { (l : List Entry) → FollowsSeat seat.old l → V.lawful (fixed_of V.fixed self.now) l ask }
         ensures seat { IsSeatOf V.fixed self.now seat.new }
         ensures rights { rights_of seat.new ≡ rights_of seat.old }
@@ -64,7 +64,7 @@ impl<V: Kept> Turn<V> {
         // The value had a list that follows the seat, which has now seen what became of that list.
         ensures answer { (l : List Entry) × FollowsSeat seat.old l
             × V.may (fixed_of V.fixed self.now) l ask result
-            × (seen_of seat.new ≡ list_after (V.appended result) l (V.entry ask)) }
+            × (seen_of seat.new ≡ list_after (V.appended result) l (V.entry (fixed_of V.fixed self.now) ask)) }
     {
         let shared = &self.table.shared;
         let mut value = take_turn(rt, shared, &mut seat.place);

@@ -38,7 +38,7 @@ impl Kept for Numbers {
 impl Asked<Number> for Numbers {
     type Answer = bool;
 
-    ghost entry = { λ q. (q.number, q.right) };
+    ghost entry = { λ _ q. (q.number, q.right) };
 
     ghost appended = { λ taken. taken };
 

@@ -51,7 +51,7 @@ impl Kept for World {
 impl<'h> Asked<Line<'h>> for World {
     type Answer = Result<u64, Memory>;
 
-    ghost entry = { λ q. (q.line, q.lane) };
+    ghost entry = { λ _ q. (q.line, q.lane) };
 
     ghost appended = { λ reply. is_ok reply };
 

@@ -1,6 +1,6 @@
 use Rattle.std.proofs.Common.{rules, ◌≡◌, sym, subst}
 use Rattle.std.specs.Int.{bit_at}
-use Rattle.lapi_turn.proofs.Rights.{has_each}
+use Rattle.lapi_base.proofs.BitSets.{has_each}
 use Rattle.lapi_turn.proofs.Shares.{splits}
 use Rattle.lapi_turn.proofs.steps.split_place.Goals as goal
 

@@ -1,0 +1,12 @@
+pub mod OtherLines
+pub mod Lined
+pub mod OwnLanes
+pub mod BeginsEnds
+pub mod Taking
+pub mod Holding
+pub mod KindsOf
+pub mod LaneLoop
+pub mod Splitting
+pub mod LaneLines
+pub mod LaneSets
+pub mod Interleavings
