@@ -13,7 +13,8 @@ use Rattle.lapi_blocks.specs.declared.plan.Op.{Op}
 use Rattle.lapi_blocks.specs.declared.plan.Op.TheVariants.{Set, Get}
 use Rattle.lapi_blocks.specs.declared.plan.Plan.{Plan}
 use Rattle.lapi_epochs.specs.Stages.{is_store, read_pieces, written_pieces, goes, comes, covers, reads_from, reads_at, writes_to, writes_at}
-use Rattle.lapi_blocks.specs.Plans.{Patch, patch_of, tasks_of, IsWithin, ValidPlan, HasValues, byte_at, in_patch, after_op, plain, block_row, block_col, owner, area, part_of, is_nonempty, moves, compiled}
+use Rattle.lapi_blocks.specs.declared.patch.Patch.{Patch}
+use Rattle.lapi_blocks.specs.Plans.{patch_of, tasks_of, IsWithin, ValidPlan, HasValues, byte_at, in_patch, after_op, plain, block_row, block_col, owner, area, part_of, is_nonempty, moves, compiled}
 use Rattle.lapi_epochs.proofs.GatheredPieces.{covers-none}
 use Rattle.lapi_blocks.proofs.StridedPieces.{strided, stride-spans, strided-covers, covers-strided, strided-same, by_rows, by_rows-at, place-below, place-shift}
 use Rattle.lapi_blocks.proofs.CompiledStatements.{is_set, values_of}

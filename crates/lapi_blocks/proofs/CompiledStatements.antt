@@ -17,7 +17,8 @@ use Rattle.lapi_blocks.specs.declared.plan.Op.{Op}
 use Rattle.lapi_blocks.specs.declared.plan.Op.TheVariants.{Set, Get}
 use Rattle.lapi_blocks.specs.declared.plan.Plan.{Plan}
 use Rattle.lapi_epochs.specs.Epochs.{epoch, Has}
-use Rattle.lapi_blocks.specs.Plans.{Patch, patch_of, tasks_of, part_of, is_nonempty, area, moves, owners, own_statements, op_statements, first_statements, compiled}
+use Rattle.lapi_blocks.specs.declared.patch.Patch.{Patch}
+use Rattle.lapi_blocks.specs.Plans.{patch_of, tasks_of, part_of, is_nonempty, area, moves, owners, own_statements, op_statements, first_statements, compiled}
 use Rattle.lapi_epochs.proofs.EpochOrder.{epoch-fence, epoch-other}
 use Rattle.lapi_epochs.proofs.GatheredPieces.{numbers_below-nth}
 

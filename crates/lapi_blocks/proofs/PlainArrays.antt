@@ -15,7 +15,8 @@ use Rattle.lapi_blocks.specs.declared.plan.Op.TheVariants.{Set, Get}
 use Rattle.lapi_blocks.specs.declared.plan.Plan.{Plan}
 use Rattle.lapi_epochs.specs.Epochs.{epoch, Has}
 use Rattle.lapi_epochs.specs.Stages.{is_written, AreStages}
-use Rattle.lapi_blocks.specs.Plans.{Patch, patch_of, tasks_of, ValidPlan, byte_at, plain, block_row, block_col, owner, area, part_of, moves, compiled}
+use Rattle.lapi_blocks.specs.declared.patch.Patch.{Patch}
+use Rattle.lapi_blocks.specs.Plans.{patch_of, tasks_of, ValidPlan, byte_at, plain, block_row, block_col, owner, area, part_of, moves, compiled}
 use Rattle.lapi_blocks.specs.Arrays.{IsPast, BlocksArePlain, GotArePlain, GotBytesArePlain, HoldsOfPlans, HoldsOfPlanRuns}
 use Rattle.lapi_epochs.proofs.StagedBytes.{ends-are}
 use Rattle.lapi_blocks.proofs.CompiledStatements.{nth-of_get, count, statements-are, epoch-begin, stand, IsStored, IsMoved}

@@ -32,7 +32,8 @@ use Rattle.lapi_blocks.specs.declared.plan.Op.TheVariants.{Set, Get}
 use Rattle.lapi_blocks.specs.declared.plan.Plan.{Plan}
 use Rattle.lapi_epochs.specs.Epochs.{Has}
 use Rattle.lapi_epochs.specs.Stages.{is_store, goes, comes}
-use Rattle.lapi_blocks.specs.Plans.{Patch, patch_of, tasks_of, ValidPlan, block_row, block_col, part_of, is_nonempty, moves, owners, own_statements, op_statements, compiled}
+use Rattle.lapi_blocks.specs.declared.patch.Patch.{Patch}
+use Rattle.lapi_blocks.specs.Plans.{patch_of, tasks_of, ValidPlan, block_row, block_col, part_of, is_nonempty, moves, owners, own_statements, op_statements, compiled}
 use Rattle.lapi_flush.specs.Rounds.{In, weigh, IsFenced, IsAtRound, round_acts}
 use Rattle.lapi_flush.specs.Flushed.{IsCalm, data_count, sum_to, all_data}
 use Rattle.lapi_base.specs.declared.schedule.Act.{Act}

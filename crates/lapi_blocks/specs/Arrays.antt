@@ -17,7 +17,8 @@ use Rattle.lapi_base.specs.Record.Atomic.{Atomic}
 use Rattle.lapi_base.specs.Record.Valid.{ValidAct}
 use Rattle.lapi_blocks.specs.declared.plan.Op.TheVariants.{Get}
 use Rattle.lapi_blocks.specs.declared.plan.Plan.{Plan}
-use Rattle.lapi_blocks.specs.Plans.{Patch, patch_of, Table, ValidPlan, byte_at, plain, block_row, block_col, owner, area, compiled}
+use Rattle.lapi_blocks.specs.declared.patch.Patch.{Patch}
+use Rattle.lapi_blocks.specs.Plans.{patch_of, Table, ValidPlan, byte_at, plain, block_row, block_col, owner, area, compiled}
 
 -- the bytes of a patch of an array, row after row
 abbrev pub patch_bytes : Table → Patch → List ℕ

@@ -14,16 +14,9 @@ use Rattle.lapi_base.specs.Record.Valid.{IsByte, ValidScript}
 use Rattle.lapi_blocks.specs.declared.plan.Op.{Op}
 use Rattle.lapi_blocks.specs.declared.plan.Op.TheVariants.{Set, Get}
 use Rattle.lapi_blocks.specs.declared.plan.Plan.{Plan}
+use Rattle.lapi_blocks.specs.declared.patch.Patch.{Patch}
 
 -- ---- plans
-
--- a rectangle of words and a task: the first row and column, and how many rows and columns
-pub record Patch : Type 0 where
-  pub task : ℕ
-  pub row : ℕ
-  pub col : ℕ
-  pub rows : ℕ
-  pub cols : ℕ
 
 -- the patch that an operation is on, and the task whose operation it is
 abbrev pub patch_of : Op → Patch

@@ -3,11 +3,13 @@
 #![tactic(auto)]
 
 mod arrays;
+mod patch;
 mod plan;
 mod runs;
 mod scripts;
 
 pub use arrays::arrays_are_plain;
+pub use patch::Patch;
 pub use plan::{Op, Ops, Plan};
 pub use runs::plans_run;
 pub use scripts::scripts_are_valid;

@@ -158,13 +158,13 @@ module _ (script : Script) (rules : Rules) where
   -- ---- a calm link that is polled
 
   module _ (r : Run) (t : ℕ) (sound : SoundRun script rules r) (paid : IsPaid script rules r) where
-    J : List Event
+    unfoldable pub J : List Event
     J = polled script rules r t
 
-    s0 : Run
+    unfoldable pub s0 : Run
     s0 = poll script rules r t
 
-    new : ℕ → List Packet
+    unfoldable pub new : ℕ → List Packet
     new b = packets script rules J t b (to_send script rules r J t b)
 
     s0-sound : SoundRun script rules s0
@@ -175,11 +175,11 @@ module _ (script : Script) (rules : Rules) where
     unfolding s0 J poll
     s0-journal = refl
 
-    s0-wire : (b : ℕ) → s0.wire t b ≡ r.wire t b ++ new b
+    pub s0-wire : (b : ℕ) → s0.wire t b ≡ r.wire t b ++ new b
     unfolding s0 new J poll
     s0-wire b = cond-true (t == t) _ (r.wire t b) (eqb-refl t) ∙ ap (λ ps. r.wire t b ++ (new b ++ ps)) (none-owed script rules r b t paid) ∙ ap (λ ps. r.wire t b ++ ps) (append-nil (new b))
 
-    s0-other : (a b : ℕ) → (a ≡ t → ⊥) → s0.wire a b ≡ r.wire a b
+    pub s0-other : (a b : ℕ) → (a ≡ t → ⊥) → s0.wire a b ≡ r.wire a b
     unfolding s0 poll
     s0-other a b h = cond-false (a == t) _ (r.wire a b) (ne_eqb a t h)
 
@@ -191,7 +191,7 @@ module _ (script : Script) (rules : Rules) where
     unfolding s0 poll
     s0-acked a b m h = h
 
-    size : ℕ → ℕ
+    unfoldable pub size : ℕ → ℕ
     size b = length (numbered script J t b)
 
     -- what was acknowledged is a number of the link
@@ -212,7 +212,7 @@ module _ (script : Script) (rules : Rules) where
 
     module _ (b top : ℕ) (calm : IsCalm r t b top) (room : length (numbered script (polled script rules r t) t b) ≤ top + window_of script) where
       -- all of its numbers are in the window
-      edge-far : (m : ℕ) → m < size b → nat_lt m (base script (record r { journal = J }) t b + window_of script) ≡ true
+      pub edge-far : (m : ℕ) → m < size b → nat_lt m (base script (record r { journal = J }) t b + window_of script) ≡ true
       unfolding base size J
       edge-far m l =
           let least = least-above script rules (length (numbered script J t b)) top (is_acked r t b) (λ k h. acked-known b k h) calm.acked in
@@ -264,7 +264,7 @@ module _ (script : Script) (rules : Rules) where
           (cases_lt m top)
 
       -- the entries that the Poll added are a part
-      is-part : (last : ℕ) → length (new b) ≡ suc last → IsPart s0 t b (length (r.wire t b)) last (size b)
+      pub is-part : (last : ℕ) → length (new b) ≡ suc last → IsPart s0 t b (length (r.wire t b)) last (size b)
       unfolding has_number
       is-part last e = record {
         entries = λ i l.
@@ -303,7 +303,7 @@ module _ (script : Script) (rules : Rules) where
     sent-grows old more m x h = ap (λ ps. has_number ps m) x.1 ∙ number-append old x.0 m ∙ or_left (has_number old m) (has_number x.0 m) h
 
     -- a part is one later too, where only acknowledgements were added
-    part-moves : (s u : Run) (a b first last top : ℕ) → AddsAcks (s.wire a b) (u.wire a b) → ((m : ℕ) → is_acked s a b m ≡ true → is_acked u a b m ≡ true) → IsPart s a b first last top → IsPart u a b first last top
+    pub part-moves : (s u : Run) (a b first last top : ℕ) → AddsAcks (s.wire a b) (u.wire a b) → ((m : ℕ) → is_acked s a b m ≡ true → is_acked u a b m ≡ true) → IsPart s a b first last top → IsPart u a b first last top
     part-moves s u a b first last top x more part =
         let moved = λ (k : ℕ) (p : Packet) (e : slice_get (s.wire a b) k ≡ Some p). subst (λ ps. slice_get ps k ≡ Some p) (sym x.1) (get-front (s.wire a b) x.0 k p e) in record {
           entries = λ i l. let q = part.entries i l in (q.0, moved (first + i) (Data q.0) q.1);
@@ -316,12 +316,12 @@ module _ (script : Script) (rules : Rules) where
         }
 
     -- after the first b links
-    record Linked (u : Run) (b : ℕ) : Type 0 where
-      is_sound : SoundRun script rules u
-      wires : (x y : ℕ) → AddsAcks (s0.wire x y) (u.wire x y)
-      events : AddsEvents (polled script rules r t) u.journal
-      stays : (x y m : ℕ) → is_acked s0 x y m ≡ true → is_acked u x y m ≡ true
-      told : (c : ℕ) → c < b → (m : ℕ) → m < size c → is_acked u t c m ≡ true
+    pub record Linked (u : Run) (b : ℕ) : Type 0 where
+      pub is_sound : SoundRun script rules u
+      pub wires : (x y : ℕ) → AddsAcks (s0.wire x y) (u.wire x y)
+      pub events : AddsEvents (polled script rules r t) u.journal
+      pub stays : (x y m : ℕ) → is_acked s0 x y m ≡ true → is_acked u x y m ≡ true
+      pub told : (c : ℕ) → c < b → (m : ℕ) → m < size c → is_acked u t c m ≡ true
 
     polled-linked : Linked s0 0
     unfolding J
@@ -367,11 +367,11 @@ module _ (script : Script) (rules : Rules) where
                 (cases_lt c b);
           }
 
-      count-new : (b : ℕ) → length (new b) ≡ length ((poll script rules r t).wire t b) - length (r.wire t b)
+      pub count-new : (b : ℕ) → length (new b) ≡ length ((poll script rules r t).wire t b) - length (r.wire t b)
       unfolding s0
       count-new b = let e = ap length (s0-wire b) ∙ length-append (r.wire t b) (new b) in omega arith
 
-      links : (b : ℕ) → b ≤ script.tasks → Linked (after script rules packet_size refusal (poll script rules r t) (link_acts script rules r t b)) b
+      pub links : (b : ℕ) → b ≤ script.tasks → Linked (after script rules packet_size refusal (poll script rules r t) (link_acts script rules r t b)) b
       unfolding link_acts after s0
       links zero l = polled-linked
       links (suc b) l =

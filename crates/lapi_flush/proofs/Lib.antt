@@ -7,3 +7,4 @@ pub mod CalledRounds
 pub mod QuietRecords
 pub mod ValidLines
 pub mod SmallFlushes
+pub mod CountedFlushes

@@ -59,6 +59,10 @@ acks-no_number [] n h = refl
 acks-no_number (Data p ∷ ps) n h = absurd h.0
 acks-no_number (Ack from to base bits ∷ ps) n h = acks-no_number ps n h.1
 
+zero-if : (c : Bool) (n : ℕ) → n ≡ n + cond c 0 0
+zero-if true n = omega arith
+zero-if false n = omega arith
+
 module _ (script : Script) (rules : Rules) where
   pub adds-no_number : (old new : List Packet) (n : ℕ) → AddsAcks old new → has_number new n ≡ true → has_number old n ≡ true
   adds-no_number old new n a h =
@@ -151,6 +155,7 @@ module _ (script : Script) (rules : Rules) where
       handed : (m : ℕ) → is_delivered r a b m ≡ true → is_delivered s a b m ≡ true
       new : (j : ℕ) → j < i → (p : DataPacket) → IsEntry r a b (first + j) (Data p) → is_delivered s a b p.seq ≡ true
       size : length (s.wire b a) ≡ length (r.wire b a) + i
+      sizes : (x y : ℕ) → length (s.wire x y) ≡ length (r.wire x y) + cond (x == b && y == a) i 0
       told : (j : ℕ) → i ≡ suc j → (least : ℕ) × (bits : ℕ) × (slice_get (s.wire b a) (length (r.wire b a) + j) ≡ Some (Ack b a least bits)) × Tells (is_delivered s a b) (Ack b a least bits)
 
     begins : SoundRun script rules r → Mid r 0
@@ -162,6 +167,7 @@ module _ (script : Script) (rules : Rules) where
       handed = λ m h. h;
       new = λ j l. absurd (omega arith);
       size = let q : length (r.wire b a) ≡ length (r.wire b a) + 0 = omega arith in q;
+      sizes = λ x y. zero-if (x == b && y == a) (length (r.wire x y));
       told = λ j e. absurd (omega arith);
     }
 
@@ -219,6 +225,10 @@ module _ (script : Script) (rules : Rules) where
     on-acked : (s : Run) (p : DataPacket) (x y m : ℕ) → is_acked s x y m ≡ true → is_acked (handed-on s p) x y m ≡ true
     on-acked s p x y m h = ap (λ ps. has_ack ps m) (on-handed s p y x) ∙ cond_both (y == a && x == b) (Data p ∷ s.handed y x) (s.handed y x) (λ ps. has_ack ps m ≡ true) (λ _. ack-cons (Data p) (s.handed y x) m ∙ h) (λ _. h)
 
+    longer-if : (c : Bool) (ps : List Packet) (p : Packet) (n i : ℕ) → length ps ≡ n + cond c i 0 → length (cond c (ps ++ p ∷ []) ps) ≡ n + cond c (suc i) 0
+    longer-if true ps p n i e = let len = length_push ps p in omega arith
+    longer-if false ps p n i e = e
+
     -- one entry more
     one-more : (s : Run) (i : ℕ) → i ≤ last → Mid s i → Mid (deliver script rules s a b (first + i)) (suc i)
     one-more s i l mid =
@@ -252,6 +262,8 @@ module _ (script : Script) (rules : Rules) where
               let up : u ≡ p = cc in
               subst (λ v. is_delivered (handed-on s p) a b v.seq ≡ true) (sym up) (now-delivered s p))
               (cases_lt j i);
+          sizes = λ x y.
+              ap length (on-wire s p x y) ∙ longer-if (x == b && y == a) (s.wire x y) (ack script rules q a b) (length (r.wire x y)) i (mid.sizes x y);
           size = ap length back ∙ length_push (s.wire b a) (Ack b a told.0 told.1) ∙ longer (length (s.wire b a)) (length (r.wire b a)) i mid.size;
           told = λ j ej.
               let ji : i ≡ j = omega arith in (
@@ -366,6 +378,19 @@ module _ (script : Script) (rules : Rules) where
     all-served sound =
         let s = after script rules packet_size refusal r (delivers a b first (suc last)) in
         subst (λ t. IsServed script rules r t a b) (sym (after-more script rules (delivers a b first (suc last)) (Deliver b a (length (r.wire b a) + last)) r)) (ends s (all-mid sound (suc last) (omega arith)))
+
+    -- each entry of a part adds an acknowledgement to the wire back, and nothing else adds an entry
+    pub all-counted : SoundRun script rules r → (x y : ℕ)
+        → length ((after script rules packet_size refusal r (served r a b first last)).wire x y) ≡ length (r.wire x y) + cond (x == b && y == a) (suc last) 0
+    unfolding after perform
+    all-counted sound x y =
+        let s = after script rules packet_size refusal r (delivers a b first (suc last)) in
+        let mid = all-mid sound (suc last) (omega arith) in
+        let told = mid.told last refl in
+        let same = ack-is s (length (r.wire b a) + last) told.0 told.1 told.2 in
+        ap (λ (t : Run). length (t.wire x y)) (after-more script rules (delivers a b first (suc last)) (Deliver b a (length (r.wire b a) + last)) r ∙ same)
+        ∙ ap length (ack-wire s told.0 told.1 x y)
+        ∙ mid.sizes x y
 
   -- a part keeps a record sound
   pub delivers-sound : (r : Run) (a b first count : ℕ) → SoundRun script rules r → SoundRun script rules (after script rules packet_size refusal r (delivers a b first count))

@@ -3,3 +3,4 @@ pub mod Flushed
 pub mod Swept
 pub mod Settled
 pub mod Rounds
+pub mod Counted

@@ -1,0 +1,10 @@
+pub mod PlanRules
+pub mod PlanSound
+pub mod PlanComplete
+pub mod PlanFirst
+pub mod PlanOnward
+pub mod PartPlaces
+pub mod Listed
+pub mod Stretches
+pub mod MemoriesLeft
+pub mod WorkedPlans
