@@ -4,7 +4,8 @@ use Rattle.std.specs.List.{fold}
 use Rattle.std.proofs.lemmas.Bool.{ltb-true, leb-true, eqb-true}
 use Rattle.std.proofs.lemmas.List.{append-nil, length-append, get_or_append_left}
 use Rattle.std.proofs.lemmas.List.Sums.{fold-append}
-use Rattle.lapi_capture.specs.declared.format.TheConstants.{END, LAST_TASK, MOST_FRAMES}
+use Rattle.lapi_base.specs.declared.capture.TheConstants.{CAPTURE_END as END}
+use Rattle.lapi_capture.specs.declared.format.TheConstants.{LAST_TASK, MOST_FRAMES}
 use Rattle.lapi_capture.specs.declared.stage.Stage.TheVariants.{Frames, Over}
 use Rattle.lapi_capture.specs.Captures.{through, parts_of, landings, IsBegun, IsFrame, IsPartial, AreFrames, IsOpen}
 use Rattle.lapi_capture.specs.Entries.{entries_of}

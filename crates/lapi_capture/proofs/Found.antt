@@ -7,7 +7,8 @@ use Rattle.lapi_capture.specs.declared.feed_fault.FeedFault.{FeedFault}
 use Rattle.lapi_capture.specs.declared.feed_fault.FeedFault.TheVariants.{Bad, Limit}
 use Rattle.lapi_capture.specs.declared.flaw.Flaw.{Flaw}
 use Rattle.lapi_capture.specs.declared.flaw.Flaw.TheVariants.{Magic, Task, Size, Early, After, Clash}
-use Rattle.lapi_capture.specs.declared.format.TheConstants.{MAGIC, END, LONGEST, MOST_FRAMES}
+use Rattle.lapi_base.specs.declared.capture.TheConstants.{CAPTURE_MAGIC as MAGIC, CAPTURE_END as END}
+use Rattle.lapi_capture.specs.declared.format.TheConstants.{LONGEST, MOST_FRAMES}
 use Rattle.lapi_capture.specs.declared.stage.Stage.TheVariants.{Frames, Faulty}
 use Rattle.lapi_capture.specs.Captures.{through, IsPartial, AreFrames, HasFault, IsTooLong}
 use Rattle.lapi_capture.specs.Format.{byte_at, from, to, size_of}

@@ -6,3 +6,10 @@ mod Kept
 mod OneReading
 mod Told
 mod WholeFrames
+mod LineFrames
+mod FrameBytes
+mod Fragments
+mod LandedEvents
+mod RecordFrames
+mod ActFrames
+mod LongestCapture

@@ -7,7 +7,8 @@ use Rattle.lapi_capture.specs.declared.feed_fault.FeedFault.{FeedFault}
 use Rattle.lapi_capture.specs.declared.feed_fault.FeedFault.TheVariants.{Bad, Limit, Memory}
 use Rattle.lapi_capture.specs.declared.flaw.Flaw.{Flaw}
 use Rattle.lapi_capture.specs.declared.flaw.Flaw.TheVariants.{Magic, Task, Size, Early, After, Clash}
-use Rattle.lapi_capture.specs.declared.format.TheConstants.{MAGIC, END, FRONT, LAST_TASK, LONGEST, MOST_FRAMES}
+use Rattle.lapi_base.specs.declared.capture.TheConstants.{CAPTURE_MAGIC as MAGIC, CAPTURE_END as END}
+use Rattle.lapi_capture.specs.declared.format.TheConstants.{FRONT, LAST_TASK, LONGEST, MOST_FRAMES}
 use Rattle.lapi_capture.specs.declared.stage.Stage.{Stage}
 use Rattle.lapi_capture.specs.declared.stage.Stage.TheVariants.{Opening, Frames, Over, Faulty}
 use Rattle.lapi_capture.specs.Captures.{through, parts_of, landings, IsBegun, IsFrame, IsPartial, clashes, AreFrames, HasFault}
@@ -17,7 +18,7 @@ use Rattle.lapi_capture.specs.Reading.{Reading, beginning, reading_of, Tells, Is
 use Rattle.lapi_capture.specs.Steps as steps
 use Rattle.lapi_capture.proofs.WholeFrames.{choose, both_true, second_false, fits_read, clash_read, whole_of}
 
-few : (frames : List (List ℕ)) → AreFrames frames → length frames ≤ 20000
+pub few : (frames : List (List ℕ)) → AreFrames frames → length frames ≤ 20000
 unfolding AreFrames
 few [] are = omega arith
 few (f ∷ frames) are = omega (arith, are.0)

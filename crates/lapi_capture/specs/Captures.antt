@@ -4,7 +4,8 @@ use Rattle.std.specs.Prelude.{◌≡◌, ◌≢◌, ◌⊎◌, ℕ, ◌+◌, ◌
 use Rattle.std.specs.List.{list_any}
 use Rattle.lapi_capture.specs.declared.flaw.Flaw.{Flaw}
 use Rattle.lapi_capture.specs.declared.flaw.Flaw.TheVariants.{Magic, Task, Size, Early, After, Clash}
-use Rattle.lapi_capture.specs.declared.format.TheConstants.{MAGIC, END, FRONT, LAST_TASK, LONGEST, MOST_FRAMES}
+use Rattle.lapi_base.specs.declared.capture.TheConstants.{CAPTURE_MAGIC as MAGIC, CAPTURE_END as END}
+use Rattle.lapi_capture.specs.declared.format.TheConstants.{FRONT, LAST_TASK, LONGEST, MOST_FRAMES}
 use Rattle.lapi_capture.specs.declared.landing.Landing.{Landing}
 use Rattle.lapi_capture.specs.declared.part.Part.{Part}
 use Rattle.lapi_capture.specs.Format.{byte_at, from, to, size_of, part_of, is_addressed}

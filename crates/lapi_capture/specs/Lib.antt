@@ -3,5 +3,7 @@ pub mod Entries
 pub mod Format
 pub mod Parts
 pub mod Reading
+pub mod Records
 pub mod SameMessages
 pub mod Steps
+pub mod Texts

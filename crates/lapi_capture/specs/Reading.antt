@@ -1,10 +1,11 @@
 -- What a reader tells of the bytes that it was fed.
-use Rattle.std.specs.Prelude.{◌≡◌, ◌≢◌, ◌↔◌, ℕ, ◌<◌, List, [], ◌∷◌, ◌++◌, length, take, Result, Ok, Err}
+use Rattle.std.specs.Prelude.{◌≡◌, ◌≢◌, ◌↔◌, ℕ, ◌<◌, ◌≤◌, List, [], ◌∷◌, ◌++◌, length, take, Result, Ok, Err}
 use Rattle.lapi_capture.specs.declared.feed_fault.FeedFault.{FeedFault}
 use Rattle.lapi_capture.specs.declared.feed_fault.FeedFault.TheVariants.{Bad, Limit, Memory}
 use Rattle.lapi_capture.specs.declared.flaw.Flaw.{Flaw}
 use Rattle.lapi_capture.specs.declared.flaw.Flaw.TheVariants.{Early}
-use Rattle.lapi_capture.specs.declared.format.TheConstants.{MAGIC, END}
+use Rattle.lapi_base.specs.declared.capture.TheConstants.{CAPTURE_MAGIC as MAGIC, CAPTURE_END as END}
+use Rattle.lapi_capture.specs.declared.format.TheConstants.{LONGEST_CAPTURE}
 use Rattle.lapi_capture.specs.declared.landing.Landing.{Landing}
 use Rattle.lapi_capture.specs.declared.stage.Stage.{Stage}
 use Rattle.lapi_capture.specs.declared.stage.Stage.TheVariants.{Opening, Frames, Over, Faulty}
@@ -81,3 +82,7 @@ FramesAreTold r bytes =
 
 abbrev pub EndIsTold : Reading → (bytes : List ℕ) → Type 0
 EndIsTold r bytes = (frames : List (List ℕ)) → AreFrames frames → bytes ≡ through frames ++ END ∷ [] → r ≡ reading_of Over frames []
+
+-- bytes without a fault are no more than the longest capture has
+abbrev pub IsShort : Reading → (bytes : List ℕ) → Type 0
+IsShort r bytes = fault_at r.stage ≡ Ok tt → length bytes ≤ LONGEST_CAPTURE

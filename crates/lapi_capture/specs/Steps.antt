@@ -3,7 +3,8 @@ use Rattle.std.specs.Prelude.{◌≡◌, ℕ, suc, ◌+◌, ◌*◌, ◌<◌, �
 use Rattle.lapi_capture.specs.declared.feed_fault.FeedFault.TheVariants as faults
 use Rattle.lapi_capture.specs.declared.flaw.Flaw.{Flaw}
 use Rattle.lapi_capture.specs.declared.flaw.Flaw.TheVariants as flaws
-use Rattle.lapi_capture.specs.declared.format.TheConstants.{MAGIC, END, FRONT, LAST_TASK, LONGEST, MOST_FRAMES, MOST_TOLD}
+use Rattle.lapi_base.specs.declared.capture.TheConstants.{CAPTURE_MAGIC as MAGIC, CAPTURE_END as END}
+use Rattle.lapi_capture.specs.declared.format.TheConstants.{FRONT, LAST_TASK, LONGEST, MOST_FRAMES, MOST_TOLD}
 use Rattle.lapi_capture.specs.declared.part.Part.{Part}
 use Rattle.lapi_capture.specs.declared.stage.Stage.{Stage}
 use Rattle.lapi_capture.specs.declared.stage.Stage.TheVariants.{Opening, Frames, Over, Faulty}

@@ -8,12 +8,6 @@
 ghost use Rattle.std.specs.Prelude.{◌≡◌, ◌≤◌, ◌+◌, length};
 ghost use Rattle.lapi_capture.specs.Format.{byte_at, size_of};
 
-/// The bytes that each capture begins with.
-pub(crate) const MAGIC: [u8; 4] = [0x4c, 0x4c, 0x43, 0x01];
-
-/// The byte behind the last frame.
-pub(crate) const END: u8 = 0xff;
-
 /// The last task that there may be.
 pub(crate) const LAST_TASK: u8 = 7;
 
@@ -25,6 +19,9 @@ pub(crate) const MOST_FRAMES: u32 = 20_000;
 
 /// The bytes of a frame before those that it hands over.
 pub(crate) const FRONT: usize = 4;
+
+/// The bytes of the longest capture: with as many frames as there may be, each as long as one may be.
+pub const LONGEST_CAPTURE: usize = 25_680_005;
 
 /// The most bytes of a frame that its first four can tell.
 pub(crate) const MOST_TOLD: usize = 65_539;

@@ -16,6 +16,7 @@ mod stage;
 
 pub use feed_fault::FeedFault;
 pub use flaw::Flaw;
+pub use format::LONGEST_CAPTURE;
 pub use landing::Landing;
-pub use laws::captures_are_read;
+pub use laws::{captures_are_read, landings_are_told};
 pub use reader::Reader;

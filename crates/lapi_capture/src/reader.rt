@@ -8,14 +8,12 @@ ghost use Rattle.lapi_capture.specs.Steps.{bad, byte, counted, first, further, m
 use crate::contents::contents;
 use crate::feed_fault::FeedFault;
 use crate::flaw::Flaw;
-use crate::format::{
-    END, FRONT, LAST_TASK, LONGEST, MAGIC, MOST_FRAMES, MOST_TOLD, byte_at, size_of,
-};
+use crate::format::{FRONT, LAST_TASK, LONGEST, MOST_FRAMES, MOST_TOLD, byte_at, size_of};
 use crate::landing::Landing;
 use crate::messages::Messages;
 use crate::part::{MOST_FRAGMENTS, Part};
 use crate::stage::Stage;
-use lapi_base::Memory;
+use lapi_base::{CAPTURE_END, CAPTURE_MAGIC, Memory};
 use std::alloc::Global;
 use std::marker::Model;
 
@@ -150,13 +148,13 @@ impl Reader {
         ensures { OnOk result (self.new ≡ opening self.old b) }
     {
         let count = self.rest.len();
-        if b != byte_at(&MAGIC, count) {
+        if b != byte_at(&CAPTURE_MAGIC, count) {
             self.bad(count as u64, Flaw::Magic);
-        } else if count + 1 < MAGIC.len() {
+        } else if count + 1 < CAPTURE_MAGIC.len() {
             self.rest.push(b)?;
         } else {
             self.stage = Stage::Frames;
-            self.place = MAGIC.len() as u64;
+            self.place = CAPTURE_MAGIC.len() as u64;
             self.rest.clear();
         }
         Ok(())
@@ -166,7 +164,7 @@ impl Reader {
         requires { length self.old.rest ≡ 0 }
         ensures { OnOk result (self.new ≡ first self.old b) }
     {
-        if b == END {
+        if b == CAPTURE_END {
             self.stage = Stage::Over;
         } else if self.frames >= MOST_FRAMES {
             self.stage = Stage::Faulty(FeedFault::Limit { place: self.place });

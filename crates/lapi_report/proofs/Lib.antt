@@ -1,5 +1,7 @@
+pub mod Counts
 pub mod Digits
 pub mod Entries
+pub mod Frames
 pub mod Numbers
 pub mod OfStatements
 pub mod Pairs

@@ -1,4 +1,4 @@
--- Lines of the texts by the definitions alone, each written out: also of forms that no command performs yet.
+-- Lines of the texts by the definitions alone, each written out.
 use Rattle.std.proofs.Common.{◌≡◌, ℕ, List, [], ◌∷◌, ◌++◌, replicate, refl}
 use Rattle.std.specs.Prelude.{codes}
 use Rattle.std.specs.Fmt.{digits}

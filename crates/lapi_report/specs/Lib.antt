@@ -1,2 +1,3 @@
 pub mod SinkWrites
 pub mod OfStatements
+pub mod CapturedLines

@@ -1,4 +1,4 @@
-ghost use Rattle.std.specs.Prelude.{◌≡◌, false, length, IfErr};
+ghost use Rattle.std.specs.Prelude.{◌≡◌, ◌≤◌, ◌+◌, ◌++◌, false, length, IfErr};
 ghost use Rattle.std.specs.List.{flat_map};
 ghost use Rattle.lapi_base.specs.Record.Operations.{numbers_below};
 ghost use Rattle.lapi_base.specs.Output.ReportText.{totals_text, task_text, quiet_line, report_text};
@@ -63,8 +63,16 @@ fn write_tasks<K: Sink>(world: &World, line: &mut TextLine, sink: &mut K) -> Res
 fn write_quiet<K: Sink>(quiet: bool, line: &mut TextLine, sink: &mut K) -> Result<(), Failed>
     ensures { Writes K.held K.faults K.room sink.old sink.new (quiet_line quiet) result }
 {
-    line.begin("quiet ");
+    line.begin("");
+    add_quiet(quiet, line);
+    line.write(sink)
+}
+
+pub(crate) fn add_quiet(quiet: bool, line: &mut TextLine)
+    requires { length line.old + 10 ≤ 4096 }
+    ensures { line.new ≡ line.old ++ quiet_line quiet }
+{
+    line.text("quiet ");
     line.text(if quiet { "yes" } else { "no" });
     line.text("\n");
-    line.write(sink)
 }

@@ -68,6 +68,16 @@ impl TextLine {
         self.bytes(digits.format(value).as_bytes());
     }
 
+    /// In decimal, a number that may pass 64 bits.
+    pub(crate) fn wide_number(&mut self, value: u128)
+        requires { length self.old + 39 ≤ 4096 }
+        ensures text { self.new ≡ self.old ++ decimal value }
+        ensures room { length self.new ≤ length self.old + 39 }
+    {
+        let mut digits = Buffer::new();
+        self.bytes(digits.format(value).as_bytes());
+    }
+
     /// The number of a counter, or `-`.
     pub(crate) fn counter(&mut self, counter: Option<u32>)
         requires { length self.old + 20 ≤ 4096 }

@@ -13,7 +13,8 @@ use Rattle.lapi_base.specs.Input.Reading.{Fault, First, most_input, read, read_f
 use Rattle.lapi_base.specs.declared.input.LineError.TheVariants as why
 use Rattle.lapi_base.specs.declared.input.Which.TheVariants as which
 use Rattle.lapi_script.specs.ReaderAnswers.{GivesInput}
-use Rattle.lapi_tool.specs.Answered.{IsCutShort, CommandGives, refused_answer}
+use Rattle.lapi_tool.specs.Answered.{refused_answer}
+use Rattle.lapi_tool.specs.Outcomes.{IsCutShort, CommandGives}
 
 -- where memory ran out nothing was written, which is a front of any text
 cut_short : (answer : Answer) (held now : Option (List ℕ)) (result : Status) → CommandGives (record { status = status.Memory; text = [] }) held now result → CommandGives answer held now result

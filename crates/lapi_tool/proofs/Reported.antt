@@ -24,7 +24,8 @@ use Rattle.lapi_base.specs.Laws.Headline.{HoldsOfRuns}
 use Rattle.lapi_base.specs.declared.script.Script.{Script}
 use Rattle.lapi_base.specs.declared.schedule.Act.{Act}
 use Rattle.lapi_base.specs.declared.schedule.Line.{Line}
-use Rattle.lapi_tool.specs.Answered.{CommandGives, IsAnswered, IsReported, IsUnread, IsCutShort, WasRead}
+use Rattle.lapi_tool.specs.Answered.{IsAnswered, IsReported, WasRead}
+use Rattle.lapi_tool.specs.Outcomes.{CommandGives, IsUnread, IsCutShort}
 
 err_ok : {A B : Type 0} (e : B) (x : A) → Err e ≡ Ok x → ⊥
 err_ok e x h = subst (λ r. MatchResult r (λ _. ⊥) (λ _. Unit {0})) h tt

@@ -2,14 +2,14 @@
 use Rattle.std.specs.Prelude.{◌≡◌, ℕ, ◌+◌, ◌≤◌, ◌⊎◌, List, [], length, reverse, Option, Some, None, Result, Ok, Err}
 use Rattle.std.specs.Io.KnownBytes.{Appends, Consumes, IsAtEnd}
 use Rattle.lapi_base.specs.declared.command.Command.{Command}
-use Rattle.lapi_base.specs.declared.command.Command.TheVariants.{Read, Check, Audit, Show}
+use Rattle.lapi_base.specs.declared.command.Command.TheVariants.{Read, Check, Audit, Landings, Show, Gen, Sum}
 use Rattle.lapi_base.specs.declared.input.Input.{Input}
 use Rattle.lapi_base.specs.declared.input.ReadFault.{ReadFault}
 use Rattle.lapi_base.specs.declared.input.ReadFault.TheVariants as faults
 use Rattle.lapi_base.specs.declared.input.LineError.TheVariants as why
 use Rattle.lapi_base.specs.declared.status.Status.{Status}
 use Rattle.lapi_base.specs.declared.status.Status.TheVariants as status
-use Rattle.lapi_base.specs.Output.CommandAnswers.{Answer, atomic_answer, broken_answer, usage_answer, fault_answer, shown_answer, input_answer, counts_text, view_text, recorded}
+use Rattle.lapi_base.specs.Output.CommandAnswers.{Answer, atomic_answer, broken_answer, usage_answer, fault_answer, shown_answer, generated_answer, summary_answer, input_answer, counts_text, view_text, recorded}
 use Rattle.lapi_base.specs.Record.Atomic.{AtomicInTime}
 use Rattle.lapi_base.specs.Input.Reading.{Fault, most_input, read}
 use Rattle.lapi_base.specs.declared.audit_input.AuditInput.{AuditInput}
@@ -20,37 +20,19 @@ use Rattle.lapi_audit.specs.Rules.{IsVerdict}
 use Rattle.lapi_base.specs.Output.ReportText.{report_text}
 use Rattle.lapi_base.specs.Input.Rows.{IsInputText}
 use Rattle.lapi_base.specs.declared.rule.Rules.{Rules}
-use Rattle.lapi_io.specs.Writes.{AppendsFront}
+use Rattle.lapi_gen.specs.Inputs.{generated_input}
+use Rattle.lapi_tool.specs.Landings.{IsLanded}
+use Rattle.lapi_tool.specs.Outcomes.{CommandGives, IsSilent}
 
 -- all that was left was read; or, of a source with more bytes than an input may have, one byte more than those
 abbrev pub WasRead : (left rest : Option (List ℕ)) → List ℕ → Type 0
 WasRead left rest bytes = Consumes left rest bytes × (length bytes ≤ most_input + 1) × (length bytes ≤ most_input → IsAtEnd rest)
-
--- the sink refused, or memory ran out
-abbrev pub IsCutShort : Status → Type 0
-IsCutShort status.SinkFault = Unit {0}
-IsCutShort status.Memory = Unit {0}
-IsCutShort _ = ⊥
 
 -- What is told of a fault of the input; where memory ran out that is nothing.
 abbrev pub refused_answer : ReadFault → Answer
 refused_answer (faults.Syntax line) = fault_answer (why.Syntax, line)
 refused_answer (faults.Limit which line) = fault_answer (why.Limit which, line)
 refused_answer faults.Memory = record { status = status.Memory; text = [] }
-
--- the status of the answer, and its text was appended; or it was cut short, and a front of that text was
-abbrev pub CommandGives : Answer → (held now : Option (List ℕ)) → Status → Type 0
-CommandGives answer held now result = ((result ≡ answer.status) × Appends held now answer.text) ⊎ (IsCutShort result × AppendsFront held now answer.text)
-
--- the source refused, or memory ran out
-abbrev pub IsUnread : Status → Type 0
-IsUnread status.SourceFault = Unit {0}
-IsUnread status.Memory = Unit {0}
-IsUnread _ = ⊥
-
--- nothing was written
-abbrev pub IsSilent : Status → (held now : Option (List ℕ)) → Type 0
-IsSilent result held now = IsUnread result × (now ≡ held)
 
 -- the source couldn't be read, and nothing was written; or it was read, and this text of its input was given
 abbrev pub IsToldOf : (text : Input → List ℕ) → (left rest held now : Option (List ℕ)) → Status → Type 0
@@ -74,8 +56,11 @@ IsAudited rules left rest held now result = IsSilent result held now ⊎ ((bytes
 abbrev pub IsAnswered : Rules → Option Command → (left rest held now : Option (List ℕ)) → Status → Type 0
 IsAnswered rules None left rest held now result = CommandGives usage_answer held now result × (rest ≡ left)
 IsAnswered rules (Some (Show bytes)) left rest held now result = CommandGives (shown_answer bytes) held now result × (rest ≡ left)
+IsAnswered rules (Some (Gen number)) left rest held now result = CommandGives (generated_answer (generated_input number)) held now result × (rest ≡ left)
+IsAnswered rules (Some (Sum number)) left rest held now result = CommandGives (summary_answer number rules (generated_input number)) held now result × (rest ≡ left)
 IsAnswered rules (Some Check) left rest held now result = IsToldOf counts_text left rest held now result
 IsAnswered rules (Some Audit) left rest held now result = IsAudited rules left rest held now result
+IsAnswered rules (Some Landings) left rest held now result = IsLanded left rest held now result
 IsAnswered rules (Some (Read view)) left rest held now result = IsToldOf (view_text view rules) left rest held now result
 
 -- The whole source is the text of an input; the report of the record of all its lines was appended; and the journal of

@@ -1,2 +1,4 @@
 pub mod Answered
+pub mod Landings
+pub mod Outcomes
 pub mod Shown

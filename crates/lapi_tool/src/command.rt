@@ -7,10 +7,13 @@ ghost use Rattle.lapi_base.specs.Input.Reading.{read};
 ghost use Rattle.lapi_handlers.specs.Handlers.{rules_of};
 ghost use Rattle.lapi_io.specs.Causes.{Rose};
 ghost use Rattle.lapi_io.specs.Writes.{Wrote};
-ghost use Rattle.lapi_tool.specs.Answered.{IsAnswered, IsToldOf, IsReported, CommandGives, refused_answer};
+ghost use Rattle.lapi_tool.specs.Answered.{IsAnswered, IsToldOf, IsReported, refused_answer};
+ghost use Rattle.lapi_tool.specs.Outcomes.{CommandGives};
 ghost use Rattle.lapi_tool.specs.Shown.{asked_text};
 
 use crate::fault::{status_of, write_fault};
+use crate::generated::{write_generated, write_sum};
+use crate::landings::find_and_answer;
 use crate::text::write_text;
 use crate::verdict::audit_and_answer;
 use crate::views::write_view;
@@ -31,11 +34,11 @@ pub(crate) const TOO_LONG: ReadFault = ReadFault::Limit {
 };
 
 const USAGE: &str =
-    "usage: lapi run|journal|wire|trace|check|live|audit, lapi show HEX, lapi gen N, lapi sum N\n";
+    "usage: lapi run|journal|wire|trace|check|live|audit|capture|landings|array, lapi show HEX, lapi gen N, lapi sum N\n";
 
 /// Does what the words say, which are the arguments after the program's name: reads an input, performs every
-/// line of its schedule with these handlers and writes what is asked of it, tells the verdict on a journal, or shows a
-/// packet.
+/// line of its schedule with these handlers and writes what is asked of it, tells the verdict on a journal, tells the
+/// landings in a capture, shows a packet, or writes the input that a number generates or a summary of its record.
 ///
 /// All text goes to the sink, that of a refusal too.
 pub fn run<S: Source, K: Sink>(
@@ -67,8 +70,13 @@ pub fn run<S: Source, K: Sink>(
         Err(_) => Status::Memory,
         Ok(None) => end(Status::Usage, write_text(USAGE, sink)),
         Ok(Some(Command::Show(bytes))) => end(Status::Ok, write_packet(bytes.as_slice(), sink)),
+        Ok(Some(Command::Gen(number))) => { end(Status::Ok, write_generated(alloc, number, sink)) }
+        Ok(Some(Command::Sum(number))) => {
+            end(Status::Ok, write_sum(alloc, number, sink, handlers))
+        }
         Ok(Some(Command::Check)) => read_and_answer(alloc, None, source, sink, handlers),
         Ok(Some(Command::Audit)) => audit_and_answer(alloc, source, sink, handlers),
+        Ok(Some(Command::Landings)) => find_and_answer(alloc, source, sink),
         Ok(Some(Command::Read(view))) => read_and_answer(alloc, Some(view), source, sink, handlers),
     }
 }

@@ -57,6 +57,10 @@ fn name_of(which: Which) -> &'static str
         Which::Pieces => "pieces",
         Which::Bytes => "bytes",
         Which::Events => "events",
-        Which::Unbuilt => "unbuilt",
+        Which::Grid => "grid",
+        Which::Block => "block",
+        Which::Ops => "ops",
+        Which::Patch => "patch",
+        Which::Range => "range",
     }
 }

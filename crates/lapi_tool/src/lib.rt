@@ -4,6 +4,8 @@
 mod command;
 mod counts;
 mod fault;
+mod generated;
+mod landings;
 mod performed;
 mod text;
 mod verdict;

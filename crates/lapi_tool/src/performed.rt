@@ -1,5 +1,4 @@
 ghost use Rattle.std.specs.Prelude.{◌≡◌, ◌<◌, false, List, [], ◌∷◌, ◌++◌, Option, IfOk, OnOk, length};
-ghost use Rattle.lapi_base.specs.Input.Built.{IsBuilt};
 ghost use Rattle.lapi_base.specs.Record.Operations.{numbers_below};
 ghost use Rattle.lapi_base.specs.Packet.Spelling.{spells_packet};
 ghost use Rattle.lapi_handlers.specs.Handlers.{rules_of};
@@ -16,7 +15,6 @@ use std::alloc::Global;
 pub fn performed(alloc: Global, input: Input, handlers: &Handlers) -> Result<World, Memory>
     requires script { ValidScript input.script }
     requires schedule { ValidSchedule input.script spells_packet input.schedule }
-    requires built { IsBuilt input }
     ensures { let taken = numbers_below (length input.schedule) in
         IfOk result (λ w. w ≡ record {
           script = input.script;

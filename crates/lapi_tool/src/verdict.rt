@@ -8,7 +8,8 @@ ghost use Rattle.lapi_base.specs.Record.Valid.{ValidScript};
 ghost use Rattle.lapi_handlers.specs.Handlers.{rules_of};
 ghost use Rattle.lapi_io.specs.Causes.{Rose};
 ghost use Rattle.lapi_report.specs.SinkWrites.{WritesWithMemory};
-ghost use Rattle.lapi_tool.specs.Answered.{IsSilent, verdict_answer, AuditTells, IsAudited};
+ghost use Rattle.lapi_tool.specs.Answered.{verdict_answer, AuditTells, IsAudited};
+ghost use Rattle.lapi_tool.specs.Outcomes.{IsSilent};
 
 use crate::command::{TOO_LONG, end, refuse};
 use crate::text::write_text;

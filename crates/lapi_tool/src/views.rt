@@ -1,6 +1,5 @@
 ghost use Rattle.std.specs.Prelude.{◌≡◌, false};
 ghost use Rattle.lapi_base.specs.Output.CommandAnswers.{view_text};
-ghost use Rattle.lapi_base.specs.Input.Built.{IsBuilt};
 ghost use Rattle.lapi_base.specs.Packet.Spelling.{spells_packet};
 ghost use Rattle.lapi_base.specs.Record.Valid.{ValidScript, ValidSchedule};
 ghost use Rattle.lapi_handlers.specs.Handlers.{rules_of};
@@ -13,7 +12,7 @@ use lapi_base::{Input, View, WriteFault};
 use lapi_handlers::Handlers;
 use lapi_io::Sink;
 use lapi_parts::lines_are_taken;
-use lapi_report::{write_journal, write_report, write_trace, write_wire};
+use lapi_report::{write_capture, write_journal, write_report, write_trace, write_wire};
 use lapi_world::World;
 use std::alloc::Global;
 
@@ -27,7 +26,6 @@ pub fn write_view<K: Sink>(
 ) -> Result<(), WriteFault>
     requires script { ValidScript input.script }
     requires schedule { ValidSchedule input.script spells_packet input.schedule }
-    requires built { IsBuilt input }
     ensures { WritesWithMemory K.held K.faults K.room sink.old sink.new (asked_text view
         (rules_of handlers.now) input) result }
 {
@@ -47,7 +45,6 @@ fn write_performed<K: Sink>(
 ) -> Result<(), WriteFault>
     requires script { ValidScript input.script }
     requires schedule { ValidSchedule input.script spells_packet input.schedule }
-    requires built { IsBuilt input }
     ensures { WritesWithMemory K.held K.faults K.room sink.old sink.new (view_text view
         (rules_of handlers.now) input) result }
 {
@@ -66,5 +63,6 @@ fn write_world<K: Sink>(view: View, world: &World, sink: &mut K) -> Result<(), W
         View::Journal => write_journal(world, sink),
         View::Wires => write_wire(world, sink),
         View::Trace => write_trace(world, sink),
+        View::Capture => write_capture(world, sink),
     }
 }

@@ -3,6 +3,7 @@ ghost use Rattle.lapi_base.specs.Output.Commands as spec;
 
 use hex::FromHexError;
 use lapi_base::{Bytes, Command, MOST_SHOWN, Memory, View};
+use lapi_script::reading::number_of;
 use std::alloc::Global;
 
 /// What the words ask for, the arguments after the program's name; None where they are no command.
@@ -12,20 +13,22 @@ pub fn command_of(alloc: Global, words: &Vec<String>) -> Result<Option<Command>,
 {
     match words.as_slice() {
         [word] => Ok(read_of(word.as_str())),
-        [word, argument] => show_of(alloc, word.as_str(), argument.as_str()),
+        [word, argument] => with_argument(alloc, word.as_str(), argument.as_str()),
         _ => Ok(None),
     }
 }
 
-fn show_of(alloc: Global, word: &str, digits: &str) -> Result<Option<Command>, Memory>
-    ensures { IfOk result (λ command. command ≡ spec.show_of word.now digits.now) }
+fn with_argument(alloc: Global, word: &str, argument: &str) -> Result<Option<Command>, Memory>
+    ensures { IfOk result (λ command. command ≡ spec.with_argument word.now argument.now) }
 {
-    if word != "show" {
-        return Ok(None);
-    }
-    match shown_of(alloc, digits)? {
-        Some(bytes) => Ok(Some(Command::Show(bytes))),
-        None => Ok(None),
+    if word == "show" {
+        Ok(shown_of(alloc, argument)?.map(Command::Show))
+    } else if word == "gen" {
+        Ok(number_of(argument.as_bytes()).map(Command::Gen))
+    } else if word == "sum" {
+        Ok(number_of(argument.as_bytes()).map(Command::Sum))
+    } else {
+        Ok(None)
     }
 }
 
@@ -36,6 +39,8 @@ fn read_of(word: &str) -> Option<Command>
         Some(Command::Check)
     } else if word == "audit" {
         Some(Command::Audit)
+    } else if word == "landings" {
+        Some(Command::Landings)
     } else {
         view_of(word).map(Command::Read)
     }
@@ -52,6 +57,8 @@ fn view_of(word: &str) -> Option<View>
         Some(View::Wires)
     } else if word == "trace" {
         Some(View::Trace)
+    } else if word == "capture" {
+        Some(View::Capture)
     } else {
         None
     }

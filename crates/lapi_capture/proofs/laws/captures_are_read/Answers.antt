@@ -1,4 +1,5 @@
 use Rattle.lapi_capture.proofs.OneReading.{faults, limits, frames_told, end_told}
+use Rattle.lapi_capture.proofs.LongestCapture.{reading-short}
 use Rattle.lapi_capture.proofs.laws.captures_are_read.Goals as goal
 
 pub returns : goal.returns
@@ -7,4 +8,5 @@ returns c = record {
   limit = limits;
   frames = frames_told;
   end = end_told;
+  longest = reading-short;
 }

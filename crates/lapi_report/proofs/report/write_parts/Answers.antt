@@ -22,7 +22,7 @@ returns-in_err-write_tasks g c = record {
 pub returns : goal.returns
 unfolding report_text
 returns g c =
-    let quiet = rw (c.quiet.ensures c.requires) at c.write_quiet.ensures.text in
+    let quiet = rw (c.quiet.ensures.tested c.requires) at c.write_quiet.ensures.text in
     record {
       text = then_wrote _ _ _ _ _ _ c.in_ok-write_totals.ensures.text (then_wrote _ _ _ _ _ _ c.in_ok-write_tasks.ensures.text quiet);
       cause = search rules;

@@ -1,6 +1,6 @@
 use Rattle.std.proofs.Common.{subst, sym}
 use Rattle.lapi_base.specs.Output.CommandAnswers.{input_answer}
-use Rattle.lapi_tool.specs.Answered.{CommandGives}
+use Rattle.lapi_tool.specs.Outcomes.{CommandGives}
 use Rattle.lapi_tool.specs.Shown.{asked_text}
 use Rattle.lapi_tool.proofs.Refusals.{refused_is}
 use Rattle.lapi_handlers.specs.Handlers.{rules_of}

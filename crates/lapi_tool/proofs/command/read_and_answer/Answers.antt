@@ -1,7 +1,7 @@
 use Rattle.std.proofs.Common.{◌≡◌, Err, ap, inr, subst, sym, arith}
 use Rattle.std.specs.Prelude.{length}
 use Rattle.lapi_base.specs.Output.CommandAnswers.{input_answer}
-use Rattle.lapi_tool.specs.Answered.{CommandGives}
+use Rattle.lapi_tool.specs.Outcomes.{CommandGives}
 use Rattle.lapi_tool.specs.Shown.{asked_text}
 use Rattle.lapi_tool.proofs.Refusals.{too_long}
 use Rattle.lapi_handlers.specs.Handlers.{rules_of}
