@@ -1,4 +1,4 @@
-use lapi_base::{Bad, Frame, Packet, Reason};
+use lapi_base::{Frame, Packet, Reason};
 use lapi_packet::{decode, encode, valid};
 use std::alloc::Global;
 use std::test::Fail;
@@ -53,17 +53,66 @@ fn known_packets_are_read_and_written(rt: HostRuntime) -> Result<(), Fail> {
     Ok(())
 }
 
+/// Where the bytes are refused as a packet, and why.
+fn refusal(bytes: &[u8]) -> Option<(usize, Reason)> {
+    match decode(bytes) {
+        Ok(_) => None,
+        Err(bad) => Some((bad.place as usize, bad.reason)),
+    }
+}
+
+/// The bytes with ff in this place.
+fn with_ff(alloc: Global, bytes: &[u8], place: usize) -> Result<Vec<u8>, Fail> {
+    let mut changed = Vec::new(alloc);
+    for (i, byte) in bytes.iter().enumerate() {
+        changed.push(if i == place { 0xff } else { *byte })?;
+    }
+    Ok(changed)
+}
+
 #[test]
 fn a_packet_that_is_cut_is_short(rt: HostRuntime) -> Result<(), Fail> {
-    let bytes = bytes_of(rt.alloc(), VECTORS[0])?;
-    assert_eq!(rt; bytes.len(), 34);
-    for n in 0..bytes.len() {
-        let (front, _) = bytes.split_at(n);
-        let short = Bad {
-            place: n as u32,
-            reason: Reason::Short,
-        };
-        assert_eq!(rt; decode(front).err(), Some(short));
+    for text in VECTORS {
+        let bytes = bytes_of(rt.alloc(), text)?;
+        for n in 0..bytes.len() {
+            let (front, _) = bytes.split_at(n);
+            assert_eq!(rt; refusal(front), Some((n, Reason::Short)), "{text}");
+        }
+    }
+    Ok(())
+}
+
+#[test]
+fn a_packet_with_one_byte_more_is_long(rt: HostRuntime) -> Result<(), Fail> {
+    for text in VECTORS {
+        let mut bytes = bytes_of(rt.alloc(), text)?;
+        let length = bytes.len();
+        bytes.push(0)?;
+        assert_eq!(rt;
+            refusal(bytes.as_slice()),
+            Some((length, Reason::Long)),
+            "{text}"
+        );
+    }
+    Ok(())
+}
+
+#[test]
+fn a_packet_with_another_byte_is_refused_or_another_packet(rt: HostRuntime) -> Result<(), Fail> {
+    for text in VECTORS {
+        let bytes = bytes_of(rt.alloc(), text)?;
+        for place in 0..bytes.len() {
+            let changed = with_ff(rt.alloc(), bytes.as_slice(), place)?;
+            let Ok(packet) = decode(changed.as_slice()) else {
+                continue;
+            };
+            assert!(rt; valid(&packet), "{text} {place}");
+            if valid(&packet) {
+                let mut out = Frame::new();
+                encode(&packet, &mut out);
+                assert_eq!(rt; out.as_slice(), changed.as_slice(), "{text} {place}");
+            }
+        }
     }
     Ok(())
 }

@@ -1,4 +1,4 @@
-use lapi_base::Frame;
+use lapi_base::Bytes;
 use lapi_window::{RecvWindow, SendWindow, Took};
 use std::test::Fail;
 
@@ -33,9 +33,7 @@ fn a_window_of_two_lends_two_packets(rt: HostRuntime) -> Result<(), Fail> {
         let next = window.next();
         assert_eq!(rt; next, (number < 2).then_some(number.into()));
         if next.is_some() {
-            let mut frame = Frame::new();
-            frame.push(number);
-            window.sent(&frame);
+            window.sent(Bytes::from_slice(rt.alloc(), &[number])?);
         }
     }
     assert_eq!(rt;
@@ -43,8 +41,8 @@ fn a_window_of_two_lends_two_packets(rt: HostRuntime) -> Result<(), Fail> {
         (3, 0, 2)
     );
     if window.unacked_len() == 2 {
-        let (number, frame) = window.unacked(1);
-        assert_eq!(rt; (number, frame.as_slice()), (1, [1].as_slice()));
+        let (number, packet) = window.unacked(1);
+        assert_eq!(rt; (number, packet.as_slice()), (1, [1].as_slice()));
     }
     assert!(rt; window.all_acked(0, 0) && !window.all_acked(0, 1));
     assert_eq!(rt; SendWindow::new(rt.alloc(), 64)?.next(), None);

@@ -19,6 +19,8 @@ pub enum Directive<'a> {
     Given(&'a str),
     /// `times N TEXT`: so many more lines of the input.
     Times(u32, &'a str),
+    /// `bytes HEX`: the input goes on with these bytes, behind its lines.
+    Bytes(&'a str),
     /// `from NAME`: the input is that of an earlier row.
     From(&'a str),
     /// `line N TEXT`: line N of the input, counted from 1, is this one.
@@ -27,12 +29,17 @@ pub enum Directive<'a> {
     Before(usize, &'a str),
     /// `first N`: the input ends after N lines.
     First(usize),
+    /// `fronts N A B K`: a line more for each number below N, which cuts entry K of the wire from A to B after so many
+    /// bytes; the trace is to tell each as refused there, since the packet ends too early.
+    Fronts(usize, &'a str),
     /// `unended`: the last line of the input has no line feed.
     Unended,
     /// `> TEXT`: one more line of the text that is wanted.
     Wanted(&'a str),
     /// `>- TEXT`: the wanted text ends with these bytes, which no line feed follows.
     Cut(&'a str),
+    /// `held HEX`: the wanted text goes on with these bytes.
+    Held(&'a str),
     /// `read-step N`: a read gives at most N bytes.
     ReadStep(usize),
     /// `write-step N`: a write takes at most N bytes.
@@ -82,11 +89,13 @@ impl<'a> Directive<'a> {
             "word" => Directive::Word(rest),
             "status" => Directive::Status(rest.parse()?),
             "<" => Directive::Given(rest),
+            "bytes" => Directive::Bytes(rest),
             "from" => Directive::From(rest),
             "first" => Directive::First(rest.parse()?),
             "unended" => Directive::Unended,
             ">" => Directive::Wanted(rest),
             ">-" => Directive::Cut(rest),
+            "held" => Directive::Held(rest),
             "read-step" => Directive::ReadStep(rest.parse()?),
             "write-step" => Directive::WriteStep(rest.parse()?),
             "failing-read" => Directive::FailingRead(rest.parse()?),
@@ -104,6 +113,7 @@ fn numbered<'a>(word: &str, rest: &'a str) -> Result<Directive<'a>> {
         "times" => Directive::Times(number.parse()?, text),
         "line" => Directive::Line(number.parse()?, text),
         "before" => Directive::Before(number.parse()?, text),
+        "fronts" => Directive::Fronts(number.parse()?, text),
         _ => bail!("`{word}` is no directive"),
     })
 }

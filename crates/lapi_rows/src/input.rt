@@ -1,11 +1,12 @@
 use anyhow::{Result, ensure};
 use std::alloc::{AllocError, Global};
 
-/// The lines of an input; the last may lack its line feed.
+/// The lines of an input, of which the last may lack its line feed, and the bytes behind them.
 #[derive(Drop)]
 pub struct Input {
     lines: Vec<String>,
     is_ended: bool,
+    bytes: Vec<u8>,
 }
 
 impl Input {
@@ -13,14 +14,16 @@ impl Input {
         Input {
             lines: Vec::new(alloc),
             is_ended: true,
+            bytes: Vec::new(alloc),
         }
     }
 
-    /// The same lines once more.
+    /// The same once more.
     pub fn copy(&self) -> Result<Input, AllocError> {
         Ok(Input {
             lines: self.lines.clone()?,
             is_ended: self.is_ended,
+            bytes: self.bytes.clone()?,
         })
     }
 
@@ -61,6 +64,10 @@ impl Input {
         self.is_ended = false;
     }
 
+    pub fn push_bytes(&mut self, bytes: &[u8]) -> Result<(), AllocError> {
+        self.bytes.extend_from_slice(bytes)
+    }
+
     pub fn bytes(&self, alloc: Global) -> Result<Vec<u8>, AllocError> {
         let mut bytes = Vec::new(alloc);
         for line in &self.lines {
@@ -70,6 +77,7 @@ impl Input {
         if !self.is_ended {
             let _line_feed = bytes.pop();
         }
+        bytes.extend_from_slice(self.bytes.as_slice())?;
         Ok(bytes)
     }
 }

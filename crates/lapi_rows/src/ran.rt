@@ -21,7 +21,7 @@ impl Ran {
         self.held.as_slice()
     }
 
-    /// The bytes as text; they are always ASCII.
+    /// The bytes as text; they are always ASCII, but for a capture.
     pub fn text(&self) -> &str {
         str::from_utf8(self.held.as_slice()).unwrap_or("bytes that are no text")
     }

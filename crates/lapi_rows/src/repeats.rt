@@ -18,6 +18,14 @@ pub fn written_out(alloc: Global, text: &str) -> Result<String> {
     Ok(out)
 }
 
+/// The bytes that the digits of such a text spell.
+pub fn spelled_out(alloc: Global, text: &str) -> Result<Vec<u8>> {
+    let digits = written_out(alloc, text)?;
+    hex::decode(alloc, digits.as_str())
+        .ok()
+        .context("no bytes in hexadecimal")
+}
+
 fn push_times(out: &mut String, count: u32, part: &str) -> Result<(), AllocError> {
     for _ in 0..count {
         out.push_str(part)?;

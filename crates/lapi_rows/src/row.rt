@@ -4,13 +4,14 @@ ghost use Rattle.lapi_base.specs.declared.layout.TheConstants.{LONGEST_INPUT};
 use crate::directive::{Case, Directive};
 use crate::input::Input;
 use crate::ran::Ran;
-use crate::repeats::written_out;
+use crate::repeats::{spelled_out, written_out};
 use anyhow::{Context, Result, bail, ensure};
 use lapi_base::LONGEST_INPUT;
 use lapi_handlers::Handlers;
 use lapi_io::{MemSink, MemSource};
 use lapi_tool::run;
 use std::alloc::Global;
+use std::str;
 
 /// The words and the input of a command, how its reads and writes go, and what is to come of it.
 #[derive(Drop)]
@@ -24,7 +25,7 @@ pub struct Row {
     failing_writes: Vec<u64>,
     room: usize,
     status: u8,
-    text: String,
+    text: Vec<u8>,
     ghost reads_move: { 1 ≤ read_step },
     ghost writes_move: { 1 ≤ write_step },
     ghost few: { room ≤ LONGEST_INPUT },
@@ -42,7 +43,7 @@ impl Row {
             failing_writes: Vec::new(alloc),
             room: 65_536,
             status: 0,
-            text: String::new(alloc),
+            text: Vec::new(alloc),
         })
     }
 
@@ -61,7 +62,7 @@ impl Row {
 
     /// The text that is wanted.
     pub fn text(&self) -> &str {
-        self.text.as_str()
+        str::from_utf8(self.text.as_slice()).unwrap_or("bytes that are no text")
     }
 
     pub fn set_input(&mut self, input: Input) {
@@ -87,9 +88,14 @@ impl Row {
             Directive::Status(status) => self.status = status,
             Directive::Wanted(text) => {
                 self.want(alloc, text)?;
-                self.text.push('\n')?;
+                self.text.push(b'\n')?;
             }
             Directive::Cut(text) => self.want(alloc, text)?,
+            Directive::Held(digits) => {
+                let bytes = spelled_out(alloc, digits)?;
+                self.text.extend_from_slice(bytes.as_slice())?;
+            }
+            Directive::Fronts(length, entry) => self.cut(alloc, length, entry)?,
             Directive::FailingRead(n) => self.failing_reads.push(n)?,
             Directive::FailingWrite(n) => self.failing_writes.push(n)?,
             Directive::ReadStep(n) => {
@@ -111,7 +117,18 @@ impl Row {
 
     fn want(&mut self, alloc: Global, text: &str) -> Result<()> {
         let text = written_out(alloc, text)?;
-        self.text.push_str(text.as_str())?;
+        self.text.extend_from_slice(text.as_bytes())?;
+        Ok(())
+    }
+
+    /// Cuts an entry of so many bytes after each number of bytes below, each time to be refused as short.
+    fn cut(&mut self, alloc: Global, length: usize, entry: &str) -> Result<()> {
+        for n in 0..length {
+            let cut = format!(in alloc; "0 cut {entry} {n}")?;
+            let told = format!(in alloc; "{} : bad {n} 1\n", cut.as_str())?;
+            self.text.extend_from_slice(told.as_bytes())?;
+            self.input.push(cut)?;
+        }
         Ok(())
     }
 
@@ -119,6 +136,10 @@ impl Row {
     fn take_input(&mut self, alloc: Global, directive: Directive) -> Result<()> {
         match directive {
             Directive::Given(text) => self.input.push(written_out(alloc, text)?)?,
+            Directive::Bytes(digits) => {
+                let bytes = spelled_out(alloc, digits)?;
+                self.input.push_bytes(bytes.as_slice())?;
+            }
             Directive::Times(count, text) => {
                 for _ in 0..count {
                     self.input.push(written_out(alloc, text)?)?;
@@ -150,6 +171,6 @@ impl Row {
 
     /// Whether this is what was wanted.
     pub fn accepts(&self, ran: &Ran) -> bool {
-        self.status == ran.status() && self.text.as_bytes() == ran.held()
+        self.status == ran.status() && self.text.as_slice() == ran.held()
     }
 }
