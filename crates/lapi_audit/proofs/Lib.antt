@@ -13,3 +13,5 @@ pub mod KnownLaws
 pub mod StepLaws
 pub mod BoundLaws
 pub mod JournalLaws
+pub mod EventCounts
+pub mod AuditedLaws

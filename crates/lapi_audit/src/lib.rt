@@ -1,6 +1,7 @@
 //! Whether a journal is one of the atomic message machine, and where it breaks which rule.
 #![tactic(auto)]
 
+mod audited;
 mod checker;
 mod counts;
 mod jobs;
@@ -14,6 +15,7 @@ mod table;
 mod turns;
 mod waits;
 
+pub use audited::journals_are_audited;
 pub use journal::audit;
 pub use rule::{Rule, Verdict};
 
