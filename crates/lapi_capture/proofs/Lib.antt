@@ -5,6 +5,7 @@ mod FewFragments
 mod Kept
 mod OneReading
 mod Told
+mod Together
 mod WholeFrames
 mod LineFrames
 mod FrameBytes

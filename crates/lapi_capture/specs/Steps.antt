@@ -16,14 +16,14 @@ use Rattle.lapi_capture.specs.Reading.{Reading}
 abbrev pub bad : Reading → ℕ → Flaw → Reading
 bad r place flaw = record r { stage = Faulty (faults.Bad place flaw) }
 
-abbrev pub more : Reading → ℕ → Reading
-more r b = record r { rest = r.rest ++ b ∷ [] }
+abbrev pub more : Reading → List ℕ → Reading
+more r bytes = record r { rest = r.rest ++ bytes }
 
 -- one of the first bytes
 abbrev pub opening : Reading → ℕ → Reading
 opening r b =
     if not (b == byte_at MAGIC (length r.rest)) then bad r (length r.rest) flaws.Magic
-    else if nat_lt (length r.rest + 1) (length MAGIC) then more r b
+    else if nat_lt (length r.rest + 1) (length MAGIC) then more r (b ∷ [])
     else record r { stage = Frames; place = length MAGIC; rest = [] }
 
 -- a byte behind a frame: the end, or the task that a further frame is from
@@ -32,7 +32,7 @@ first r b =
     if b == END then record r { stage = Over }
     else if nat_le MOST_FRAMES r.frames then record r { stage = Faulty (faults.Limit r.place) }
     else if nat_lt LAST_TASK b then bad r r.place flaws.Task
-    else more r b
+    else more r (b ∷ [])
 
 -- a whole frame of so many bytes, without a clash; then with a part
 abbrev pub counted : Reading → (length : ℕ) → Reading
@@ -62,7 +62,7 @@ further r =
     else whole (record r { rest = [] }) (length r.rest) (is_addressed r.rest) (part_of r.rest)
 
 abbrev pub within : Reading → ℕ → Reading
-within r b = if length r.rest == 0 then first r b else further (more r b)
+within r b = if length r.rest == 0 then first r b else further (more r (b ∷ []))
 
 -- one byte
 abbrev pub byte_by : Stage → Reading → ℕ → Reading
@@ -74,10 +74,11 @@ byte_by (Faulty fault) r b = r
 abbrev pub byte : Reading → ℕ → Reading
 byte r b = byte_by r.stage r b
 
--- Numbers stay small: a frame of which bytes are missing has fewer than its first four can tell.
+-- Numbers stay small: a frame of which bytes are missing has fewer than its first four tell, and than they can.
 pub record IsSmall (at_stage : Stage) (count at : ℕ) (bytes : List ℕ) : Type 0 where
   pub frames : count ≤ MOST_FRAMES
   pub opening : at_stage ≡ Opening → count ≡ 0
   pub within : 0 < length bytes → count < MOST_FRAMES
+  pub lacks : FRONT ≤ length bytes → length bytes < FRONT + size_of bytes
   pub rest : length bytes < MOST_TOLD
   pub place : at ≤ length MAGIC + MOST_TOLD * count

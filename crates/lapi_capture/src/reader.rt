@@ -1,4 +1,5 @@
-ghost use Rattle.std.specs.Prelude.{◌≡◌, ◌≢◌, ◌<◌, ◌≤◌, List, ℕ, [], length, Err, IfSome, OnOk};
+ghost use Rattle.std.specs.Prelude.{◌≡◌, ◌≢◌, ◌<◌, ◌≤◌, ◌+◌, List, ℕ, [], length, Err, IfOk, IfSome, OnOk};
+ghost use Rattle.std.specs.List.{fold};
 ghost use Rattle.lapi_capture.specs.declared.feed_fault.FeedFault.{FeedFault as Fault};
 ghost use Rattle.lapi_capture.specs.declared.feed_fault.FeedFault.TheVariants.{Memory as no_memory};
 ghost use Rattle.lapi_capture.specs.declared.stage.Stage.TheVariants.{Opening, Frames, Faulty};
@@ -15,6 +16,7 @@ use crate::part::{MOST_FRAGMENTS, Part};
 use crate::stage::Stage;
 use lapi_base::{CAPTURE_END, CAPTURE_MAGIC, Memory};
 use std::alloc::Global;
+use std::cmp;
 use std::marker::Model;
 
 /// Finds the landings in a capture, which comes in any pieces. It keeps one entry for each message.
@@ -67,10 +69,14 @@ impl Reader {
         if let Stage::Faulty(fault) = self.stage {
             return Err(fault);
         }
-        for i in 0..piece.len() {
-            if let Err(Memory) = self.take(piece[i]) {
-                self.stage = Stage::Faulty(FeedFault::Memory);
-                return Err(FeedFault::Memory);
+        let mut left = piece;
+        while !left.is_empty() {
+            match self.take(left) {
+                Ok(behind) => left = behind,
+                Err(Memory) => {
+                    self.stage = Stage::Faulty(FeedFault::Memory);
+                    return Err(FeedFault::Memory);
+                }
             }
         }
         self.fault()
@@ -115,7 +121,35 @@ impl Reader {
         }
     }
 
-    fn take(&mut self, b: u8) -> Result<(), Memory>
+    // Takes what a frame lacks, as far as it is there, or else one byte; the bytes behind.
+    fn take<'a>(&mut self, bytes: &'a [u8]) -> Result<&'a [u8], Memory>
+        requires { 0 < length bytes.now }
+        ensures fewer { IfOk result (λ behind. length behind.now < length bytes.now) }
+        ensures same { IfOk result (λ behind. fold byte self.new behind.now ≡ fold byte self.old bytes.now) }
+    {
+        if self.rest.len() >= FRONT && matches!(self.stage, Stage::Frames) {
+            return self.lacking(bytes);
+        }
+        let (one, behind) = bytes.split_at(1);
+        self.byte(one[0])?;
+        Ok(behind)
+    }
+
+    // Takes what a frame lacks behind its first four bytes, as far as it is there; the bytes behind.
+    fn lacking<'a>(&mut self, bytes: &'a [u8]) -> Result<&'a [u8], Memory>
+        requires bytes { 0 < length bytes.now }
+        requires front { FRONT ≤ length self.old.rest }
+        requires stage { self.old.stage ≡ Frames }
+        ensures fewer { IfOk result (λ behind. length behind.now < length bytes.now) }
+        ensures same { IfOk result (λ behind. fold byte self.new behind.now ≡ fold byte self.old bytes.now) }
+    {
+        let lacks = FRONT + size_of(self.rest.as_slice()) - self.rest.len();
+        let (part, behind) = bytes.split_at(cmp::min(lacks, bytes.len()));
+        self.further(part)?;
+        Ok(behind)
+    }
+
+    fn byte(&mut self, b: u8) -> Result<(), Memory>
         ensures { OnOk result (self.new ≡ byte self.old b) }
     {
         match self.stage {
@@ -124,7 +158,7 @@ impl Reader {
                 if self.rest.is_empty() {
                     self.first(b)
                 } else {
-                    self.further(b)
+                    self.further(&[b])
                 }
             }
             Stage::Over => {
@@ -177,12 +211,13 @@ impl Reader {
     }
 
     #[tactic(auto, unfolding(crate::specs::Steps::further))]
-    fn further(&mut self, b: u8) -> Result<(), Memory>
+    fn further(&mut self, bytes: &[u8]) -> Result<(), Memory>
         requires rest { 0 < length self.old.rest }
+        requires length { length self.old.rest + length bytes.now ≤ MOST_TOLD }
         requires stage { self.old.stage ≡ Frames }
-        ensures { OnOk result (self.new ≡ further (more self.old b)) }
+        ensures { OnOk result (self.new ≡ further (more self.old bytes.now)) }
     {
-        self.rest.push(b)?;
+        self.rest.extend_from_slice(bytes)?;
         let length = self.rest.len();
         if length == 2 && self.rest[1] > LAST_TASK {
             let place = self.place + 1;

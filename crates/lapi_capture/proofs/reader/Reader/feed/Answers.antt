@@ -1,9 +1,8 @@
-use Rattle.std.proofs.Common.{ap, sym, subst, ◌++◌, ◌∙◌, arith}
-use Rattle.std.specs.List.{fold}
-use Rattle.std.proofs.lemmas.List.{take_all}
+use Rattle.std.proofs.Common.{ap, sym, subst, length, ◌++◌, ◌∙◌}
+use Rattle.std.proofs.lemmas.Bool.{eqb-true}
 use Rattle.lapi_capture.specs.Reading.{IsReadingOf}
-use Rattle.lapi_capture.specs.Steps.{byte}
 use Rattle.lapi_capture.proofs.Told.{bytes_told, faulty_same}
+use Rattle.lapi_capture.proofs.Together.{none_left}
 use Rattle.lapi_capture.proofs.reader.Reader.feed.Goals as goal
 
 pub returns-in-Faulty-clause-told : goal.returns-in-Faulty-clause-told
@@ -12,5 +11,5 @@ returns-in-Faulty-clause-told c = λ ok bytes was.
 
 pub returns-clause-told : goal.returns-clause-told
 returns-clause-told c = λ ok bytes was.
-    let all = c.loop-i.invariant ∙ ap (fold byte c.args.self.now) (take_all c.loop-i.i c.args.piece.now (omega arith)) in
+    let all = none_left c.loop-left.self c.loop-left.left.now (eqb-true (length c.loop-left.left.now) 0 (sym c.loop-left-test.ensures)) ∙ c.loop-left.invariant in
     subst (λ r. IsReadingOf r (bytes ++ c.args.piece.now)) (sym all) (bytes_told c.args.self.now bytes c.args.piece.now was)
