@@ -65,6 +65,10 @@ link_of number b a =
       turn = slice_index (batch_of number b).turns a;
     }
 
+-- the links of all tasks
+abbrev pub links_of : (number b : ℕ) → List Link
+links_of number b = map (link_of number b) (numbers_below TASKS)
+
 -- what a batch adds to a wire at most: a request, what is sent again, and an answer
 abbrev pub most_added : ℕ
 most_added = 3 * most_packets

@@ -1,10 +1,12 @@
 ghost use Rattle.std.specs.Prelude.{◌≡◌, ◌*◌, ◌<◌, ◌≤◌};
+ghost use Rattle.std.specs.List.{AllByRecursion};
 ghost use Rattle.lapi_gen.specs.declared.form.TheConstants.{TASKS, BATCHES};
 ghost use Rattle.lapi_gen.specs.Batches.{IsBatch};
-ghost use Rattle.lapi_gen.specs.Schedules.{adds, most_added, entries, link_of, IsLink};
+ghost use Rattle.lapi_gen.specs.Schedules.{adds, most_added, entries, link_of, links_of, IsLink};
 
 use crate::batch::Batch;
 use crate::draws::Draws;
+use crate::form::TASKS;
 
 /// A task and its target in a batch.
 #[derive(Clone, Copy, Debug)]
@@ -19,8 +21,23 @@ pub struct Link {
     pub turn: u32,
 }
 
+/// The links of all tasks in batch `b`.
+pub fn links_at(draws: &Draws, b: u32) -> [Link; TASKS]
+    requires { b < BATCHES }
+    ensures links { result ≡ links_of draws.now b }
+    ensures bounds { AllByRecursion IsLink result }
+{
+    [
+        link_at(draws, b, 0),
+        link_at(draws, b, 1),
+        link_at(draws, b, 2),
+        link_at(draws, b, 3),
+        link_at(draws, b, 4),
+    ]
+}
+
 /// The link of task `a` in batch `b`.
-pub fn link_at(draws: &Draws, b: u32, a: u32) -> Link
+fn link_at(draws: &Draws, b: u32, a: u32) -> Link
     requires { (b < BATCHES) × (a < TASKS) }
     ensures link { result ≡ link_of draws.now b a }
     ensures bounds { IsLink result }

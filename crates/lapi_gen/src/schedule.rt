@@ -1,11 +1,14 @@
 ghost use Rattle.std.specs.Prelude.{◌≡◌, ◌<◌, ◌++◌, OnOk, IfOk};
+ghost use Rattle.std.specs.List.{AllByRecursion, flat_map};
 ghost use Rattle.lapi_gen.specs.declared.form.TheConstants.{BATCHES};
-ghost use Rattle.lapi_gen.specs.Schedules.{part_lines, batch_lines, all_batch_lines, store_steps, all_store_steps, schedule_of};
+ghost use Rattle.lapi_gen.specs.Batches.{IsBatch};
+ghost use Rattle.lapi_gen.specs.Schedules.{IsLink, link_lines, batch_lines, all_batch_lines, store_steps, all_store_steps, schedule_of};
 
+use crate::batch::Batch;
 use crate::draws::Draws;
 use crate::form::{BATCHES, STORES, TASKS};
 use crate::lines::{link_lines, step};
-use crate::link::link_at;
+use crate::link::{Link, links_at};
 use crate::part::Part;
 use lapi_base::{Memory, Schedule};
 use std::alloc::Global;
@@ -57,25 +60,32 @@ fn batch_lines(schedule: &mut Schedule, draws: &Draws, b: u32) -> Result<(), Mem
     requires { b < BATCHES }
     ensures { OnOk result (schedule.new ≡ schedule.old ++ batch_lines draws.now b) }
 {
-    part_lines(schedule, draws, b, Part::Steps)?;
-    part_lines(schedule, draws, b, Part::Polls)?;
-    part_lines(schedule, draws, b, Part::Requests)?;
-    part_lines(schedule, draws, b, Part::Acknowledgements)?;
-    part_lines(schedule, draws, b, Part::Again)?;
-    part_lines(schedule, draws, b, Part::Jobs)?;
-    part_lines(schedule, draws, b, Part::Answers)?;
-    part_lines(schedule, draws, b, Part::Returns)?;
+    let batch = draws.batch(b);
+    let links = links_at(draws, b);
+    part_lines(schedule, &batch, &links, Part::Steps)?;
+    part_lines(schedule, &batch, &links, Part::Polls)?;
+    part_lines(schedule, &batch, &links, Part::Requests)?;
+    part_lines(schedule, &batch, &links, Part::Acknowledgements)?;
+    part_lines(schedule, &batch, &links, Part::Again)?;
+    part_lines(schedule, &batch, &links, Part::Jobs)?;
+    part_lines(schedule, &batch, &links, Part::Answers)?;
+    part_lines(schedule, &batch, &links, Part::Returns)?;
     Ok(())
 }
 
-/// Appends a part of batch `b`, for each task.
-fn part_lines(schedule: &mut Schedule, draws: &Draws, b: u32, part: Part) -> Result<(), Memory>
-    requires { b < BATCHES }
-    ensures { OnOk result (schedule.new ≡ schedule.old ++ part_lines draws.now b part) }
+/// Appends a part of a batch, on each link.
+fn part_lines(
+    schedule: &mut Schedule,
+    batch: &Batch,
+    links: &[Link],
+    part: Part,
+) -> Result<(), Memory>
+    requires batch { IsBatch batch.now }
+    requires links { AllByRecursion IsLink links.now }
+    ensures { OnOk result (schedule.new ≡ schedule.old ++ flat_map (λ link. link_lines batch.now link part) links.now) }
 {
-    let batch = draws.batch(b);
-    for a in 0..TASKS as u32 {
-        link_lines(schedule, &batch, &link_at(draws, b, a), part)?;
+    for link in links {
+        link_lines(schedule, batch, link, part)?;
     }
     Ok(())
 }
