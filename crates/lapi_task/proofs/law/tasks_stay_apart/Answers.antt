@@ -1,4 +1,4 @@
-use Rattle.lapi_task.proofs.Apart.{stands-by-part, stays-apart}
+use Rattle.lapi_task.proofs.Standing.Apart.{stands-by-part, stays-apart}
 use Rattle.lapi_task.proofs.law.tasks_stay_apart.Goals as goal
 
 pub returns-clause-part : goal.returns-clause-part

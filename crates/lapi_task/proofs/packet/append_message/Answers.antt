@@ -7,7 +7,7 @@ use Rattle.lapi_base.specs.Packet.Spelling.{HasSpelling}
 use Rattle.lapi_base.specs.Packet.PacketBytes as written
 use Rattle.lapi_link.specs.Sender.{SendingEnd, appended}
 use Rattle.lapi_task.specs.Outgoing.{packet_of, bytes_of, extended}
-use Rattle.lapi_task.proofs.MessagePackets.{extended-none, extended-more, extended-count, fragment-count}
+use Rattle.lapi_task.proofs.Sending.MessagePackets.{extended-none, extended-more, extended-count, fragment-count}
 use Rattle.lapi_task.proofs.packet.append_message.Goals as goal
 
 pub append-requires : goal.append-requires

@@ -3,7 +3,7 @@ use Rattle.std.specs.Prelude.{slice_get}
 use mir.Val.{bool_byte}
 use Rattle.lapi_base.specs.declared.statement.Statement.{Statement}
 use Rattle.lapi_base.proofs.ListLaws.{found-at}
-use Rattle.lapi_task.proofs.RoundNumbers.{AreNumbered, byte-is, numbered-none, numbered-more}
+use Rattle.lapi_task.proofs.Joining.RoundNumbers.{AreNumbered, byte-is, numbered-none, numbered-more}
 use Rattle.lapi_task.proofs.rounds.rounds_of.Goals as goal
 use Rattle.lapi_task.proofs.rounds.rounds_of.Goals.{then-is_fence, else-is_fence}
 

@@ -1,4 +1,4 @@
-use Rattle.lapi_task.proofs.RoundNumbers.{AreNumbered}
+use Rattle.lapi_task.proofs.Joining.RoundNumbers.{AreNumbered}
 use Rattle.lapi_task.proofs.rounds.rounds_of.Given as goal
 
 abbrev pub invariant-loop-statement : goal.invariant-loop-statement

@@ -4,7 +4,7 @@ use Rattle.lapi_base.specs.declared.span.Span.{Span}
 use Rattle.lapi_memory.specs.TaskMemory.{bytes_at}
 use Rattle.lapi_vector.specs.Pieces.{Side}
 use Rattle.lapi_task.specs.Outgoing.{AreSpelled}
-use Rattle.lapi_task.proofs.CopyParts.{one-piece}
+use Rattle.lapi_task.proofs.Copying.CopyParts.{one-piece}
 use Rattle.lapi_task.proofs.copy.DataCopy.append.Goals as goal
 
 pub append_message-requires-clause-spelled : goal.append_message-requires-clause-spelled

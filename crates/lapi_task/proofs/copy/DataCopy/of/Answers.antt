@@ -1,6 +1,6 @@
 use Rattle.std.proofs.Common.{sym, ◌∙◌}
 use Rattle.lapi_base.specs.Record.Operations.{target}
-use Rattle.lapi_task.proofs.CopyParts.{message-made, asks, brings}
+use Rattle.lapi_task.proofs.Copying.CopyParts.{message-made, asks, brings}
 use Rattle.lapi_task.proofs.copy.DataCopy.of.Goals as goal
 
 pub returns-then-has_back : goal.returns-then-has_back

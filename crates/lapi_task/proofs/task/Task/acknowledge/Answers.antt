@@ -3,7 +3,7 @@ use Rattle.lapi_base.specs.Packet.Layout.{window_of}
 use Rattle.lapi_base.specs.Record.Wires.{has_number}
 use Rattle.lapi_base.specs.Record.Arrived.{least_number}
 use Rattle.lapi_base.proofs.BitLaws.{bits_of-small}
-use Rattle.lapi_task.proofs.AnswerLaws.{answers-for, answer-spelled, answer-put}
+use Rattle.lapi_task.proofs.Following.AnswerLaws.{answers-for, answer-spelled, answer-put}
 use Rattle.lapi_task.proofs.task.Task.acknowledge.Goals as goal
 use Rattle.lapi_base.proofs.Results.{on-ok}
 

@@ -2,9 +2,9 @@ use Rattle.std.proofs.Common.{sym, ◌∙◌, subst, ℕ, List, ◌≤◌, ◌<�
 use Rattle.std.specs.Prelude.{slice_index}
 use Rattle.std.specs.List.{AllByRecursion}
 use Rattle.lapi_task.specs.Unfinished.{times}
-use Rattle.lapi_task.proofs.ArrivingAcks.{covers-sent, acked-does}
-use Rattle.lapi_task.proofs.AckTracks.{tags-are-known, tags-are-left, tracks-noted}
-use Rattle.lapi_task.proofs.TimesLaws.{HasTaken}
+use Rattle.lapi_task.proofs.Acknowledging.ArrivingAcks.{covers-sent, acked-does}
+use Rattle.lapi_task.proofs.Acknowledging.AckTracks.{tags-are-known, tags-are-left, tracks-noted}
+use Rattle.lapi_task.proofs.Acknowledging.TimesLaws.{HasTaken}
 use Rattle.lapi_task.proofs.task.Task.acknowledged.Goals as goal
 
 pub acked-tags-requires : goal.acked-tags-requires

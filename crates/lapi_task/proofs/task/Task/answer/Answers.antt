@@ -1,7 +1,7 @@
 use Rattle.std.proofs.Common.{◌∷◌, [], sym, ◌∙◌, subst}
 use Rattle.std.proofs.lemmas.List.{append-nil}
 use Rattle.lapi_task.specs.Landed.{MayLeave, back_of}
-use Rattle.lapi_task.proofs.FollowerParts.{one-total, back-made}
+use Rattle.lapi_task.proofs.Following.FollowerParts.{one-total, back-made}
 use Rattle.lapi_task.proofs.task.Task.answer.Goals as goal
 
 pub send-requires-clause-allowed : goal.send-requires-clause-allowed

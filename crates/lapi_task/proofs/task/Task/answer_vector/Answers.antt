@@ -5,7 +5,7 @@ use Rattle.lapi_base.specs.declared.span.Span.{Span}
 use Rattle.lapi_memory.specs.TaskMemory.{bytes_at}
 use Rattle.lapi_vector.specs.Pieces.{Side}
 use Rattle.lapi_task.specs.Landed.{MayLeave, back_of}
-use Rattle.lapi_task.proofs.FollowerParts.{back-made}
+use Rattle.lapi_task.proofs.Following.FollowerParts.{back-made}
 use Rattle.lapi_task.proofs.task.Task.answer_vector.Goals as goal
 
 pub send-requires-clause-allowed : goal.send-requires-clause-allowed

@@ -6,7 +6,7 @@ use Rattle.lapi_handlers.specs.Handlers.{rules_of}
 use Rattle.lapi_task.specs.declared.task.Task.{Task}
 use Rattle.lapi_task.specs.Answered.{answer_to}
 use Rattle.lapi_task.specs.Landed.{MayTake}
-use Rattle.lapi_task.proofs.ReceiveLaws.{KeepsRest, Takes, takes-over, may-take, may-call, suits-arrival, has-taken, has-taken-still, is-of-statement, arrived-does}
+use Rattle.lapi_task.proofs.Receiving.ReceiveLaws.{KeepsRest, Takes, takes-over, may-take, may-call, suits-arrival, has-taken, has-taken-still, is-of-statement, arrived-does}
 use Rattle.lapi_task.proofs.task.Task.arrive.Goals as goal
 
 pub take-requires-clause-take : goal.take-requires-clause-take

@@ -2,7 +2,7 @@ use Rattle.std.proofs.Common.{◌<◌, subst, refl}
 use Rattle.lapi_base.specs.declared.sizes.Sizes.{Sizes}
 use Rattle.lapi_jobs.specs.declared.began.Began.{Began}
 use Rattle.lapi_jobs.specs.Jobs.{Begins}
-use Rattle.lapi_task.proofs.BeginLaws.{busy-does, idle-does, buffer-there, job-is, job-does}
+use Rattle.lapi_task.proofs.Working.BeginLaws.{busy-does, idle-does, buffer-there, job-is, job-does}
 use Rattle.lapi_task.proofs.task.Task.begin.Goals as goal
 
 pub returns-in-Idle-clause-effect : goal.returns-in-Idle-clause-effect

@@ -1,5 +1,5 @@
 use Rattle.std.proofs.Common.{arith}
-use Rattle.lapi_task.proofs.PollCopies.{none-copied, one-left, copies-next, one-copied, all-copied}
+use Rattle.lapi_task.proofs.Copying.PollCopies.{none-copied, one-left, copies-next, one-copied, all-copied}
 use Rattle.lapi_task.proofs.task.Task.copy_all.Goals as goal
 
 pub loop-copy-init : goal.loop-copy-init

@@ -3,7 +3,7 @@ use Rattle.lapi_base.specs.declared.rule.Rules.{Rules}
 use Rattle.lapi_base.specs.declared.script.Script.{Script}
 use Rattle.lapi_base.specs.Record.Wires.{Run}
 use Rattle.lapi_task.specs.HasEffect.{IsAt}
-use Rattle.lapi_task.proofs.PollCopies.{SomeCopied}
+use Rattle.lapi_task.proofs.Copying.PollCopies.{SomeCopied}
 use Rattle.lapi_task.proofs.task.Task.copy_all.Given as goal
 
 abbrev pub invariant-loop-copy : goal.invariant-loop-copy

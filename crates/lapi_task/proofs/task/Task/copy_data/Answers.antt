@@ -6,7 +6,7 @@ use Rattle.lapi_task.specs.declared.copy.DataCopy.{DataCopy}
 use Rattle.lapi_task.specs.declared.task.Task.{Task}
 use Rattle.lapi_task.specs.Copies.{IsCopyable, IsCopied}
 use Rattle.lapi_task.specs.StandsFor.{task_unit}
-use Rattle.lapi_task.proofs.CopyLaws.{popped-some, popped-asked, found-data, found-sendable, found-copy, copyable, has-count, has-copied}
+use Rattle.lapi_task.proofs.Copying.CopyLaws.{popped-some, popped-asked, found-data, found-sendable, found-copy, copyable, has-count, has-copied}
 use Rattle.lapi_task.proofs.task.Task.copy_data.Goals as goal
 
 pub unreachable-requires : goal.unreachable-requires

@@ -4,7 +4,7 @@ use Rattle.lapi_base.proofs.Results.{on-ok}
 use Rattle.lapi_parts.proofs.FirstLayout.{first-unit}
 use Rattle.lapi_task.specs.Copies.{join_of}
 use Rattle.lapi_task.specs.Landed.{MayLeave, with_follower}
-use Rattle.lapi_task.proofs.CopyJoins.{round-known, unit-here, some-statement, found-join, join-made, join-leaves}
+use Rattle.lapi_task.proofs.Copying.CopyJoins.{round-known, unit-here, some-statement, found-join, join-made, join-leaves}
 use Rattle.lapi_task.proofs.task.Task.copy_join.Goals as goal
 
 pub unreachable-requires : goal.unreachable-requires

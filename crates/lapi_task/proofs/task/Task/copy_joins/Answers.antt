@@ -3,7 +3,7 @@ use Rattle.std.proofs.lemmas.Bool.{ne_eqb}
 use Rattle.lapi_base.specs.declared.event.Event.{Event}
 use Rattle.lapi_base.proofs.TestLaws.{eqb-refl}
 use Rattle.lapi_task.specs.declared.task.Task.{Task}
-use Rattle.lapi_task.proofs.CopyJoins.{SomeTold, none-told, may-tell, one-told, own-told, all-told, tasks-here, number-here}
+use Rattle.lapi_task.proofs.Copying.CopyJoins.{SomeTold, none-told, may-tell, one-told, own-told, all-told, tasks-here, number-here}
 use Rattle.lapi_task.proofs.task.Task.copy_joins.Goals as goal
 use Rattle.lapi_task.proofs.task.Task.copy_joins.Goals.{then-d-self+in_ok-copy_join, else-d-self}
 

@@ -4,7 +4,7 @@ use Rattle.lapi_base.specs.declared.script.Script.{Script}
 use Rattle.lapi_base.specs.Record.Operations.{statement, has_join}
 use Rattle.lapi_base.specs.Record.Wires.{Run}
 use Rattle.lapi_task.specs.Copies.{CopiesNow}
-use Rattle.lapi_task.proofs.CopyJoins.{SomeTold}
+use Rattle.lapi_task.proofs.Copying.CopyJoins.{SomeTold}
 use Rattle.lapi_task.proofs.task.Task.copy_joins.Given as goal
 
 abbrev pub invariant-loop-d : goal.invariant-loop-d

@@ -2,7 +2,7 @@ use Rattle.std.proofs.Common.{◌<◌, length, refl, ap, ◌∙◌, subst, sym}
 use Rattle.lapi_base.specs.Record.Operations.{statements, has_join}
 use Rattle.lapi_base.proofs.Results.{on-ok}
 use Rattle.lapi_task.specs.Copies.{CopiesNext, HasCopied}
-use Rattle.lapi_task.proofs.CopyFirst.{first-is, popped-is, no-statement, found}
+use Rattle.lapi_task.proofs.Copying.CopyFirst.{first-is, popped-is, no-statement, found}
 use Rattle.lapi_task.proofs.task.Task.copy_next.Goals as goal
 
 pub unreachable-requires-in_default-statement_at : goal.unreachable-requires-in_default-statement_at

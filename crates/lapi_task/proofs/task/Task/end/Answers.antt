@@ -6,9 +6,9 @@ use Rattle.lapi_base.specs.Record.HeadSays.{noted}
 use Rattle.lapi_jobs.specs.declared.pending.Pending.{Pending}
 use Rattle.lapi_task.specs.Counting.{announced}
 use Rattle.lapi_task.specs.Landed.{MayLeave, with_follower}
-use Rattle.lapi_task.proofs.EndNotes.{end_note}
+use Rattle.lapi_task.proofs.Working.EndNotes.{end_note}
 use Rattle.lapi_task.specs.StandsFor.{task_unit}
-use Rattle.lapi_task.proofs.EndLaws.{worker-there, some-job, job-is, counter-there, link-there, note-leaves, ends-does}
+use Rattle.lapi_task.proofs.Working.EndLaws.{worker-there, some-job, job-is, counter-there, link-there, note-leaves, ends-does}
 use Rattle.lapi_task.proofs.task.Task.end.Goals as goal
 
 pub end-requires : goal.end-requires

@@ -4,7 +4,7 @@ use Rattle.lapi_base.specs.declared.head.NoteOp.{NoteOp}
 use Rattle.lapi_base.specs.declared.span.Span.{Span}
 use Rattle.lapi_task.specs.Landed.{note_of, back_of, follower, MayLeave}
 use Rattle.lapi_task.specs.StandsFor.{task_unit}
-use Rattle.lapi_task.proofs.FollowerParts.{MayFollow}
+use Rattle.lapi_task.proofs.Following.FollowerParts.{MayFollow}
 use Rattle.lapi_task.proofs.task.Task.follow.Goals as goal
 
 pub note-requires-clause-allowed : goal.note-requires-clause-allowed

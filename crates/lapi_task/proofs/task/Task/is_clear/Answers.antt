@@ -1,4 +1,4 @@
-use Rattle.lapi_task.proofs.FenceLaws.{clear-is}
+use Rattle.lapi_task.proofs.Stepping.FenceLaws.{clear-is}
 use Rattle.lapi_task.proofs.task.Task.is_clear.Goals as goal
 
 pub returns : goal.returns

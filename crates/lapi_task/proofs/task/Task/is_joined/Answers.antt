@@ -4,7 +4,7 @@ use Rattle.lapi_base.specs.declared.statement.Statement.{Statement}
 use Rattle.lapi_base.proofs.ListLaws.{some-same}
 use Rattle.lapi_collect.specs.Rounds.{is_complete}
 use Rattle.lapi_task.specs.HasRounds.{joins_like}
-use Rattle.lapi_task.proofs.CompleteRounds.{round-within, round-read, next-small, next-joined}
+use Rattle.lapi_task.proofs.Joining.CompleteRounds.{round-within, round-read, next-small, next-joined}
 use Rattle.lapi_task.proofs.task.Task.is_joined.Goals as goal
 
 pub index-round-requires : goal.index-round-requires

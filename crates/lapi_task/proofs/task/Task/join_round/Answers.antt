@@ -1,6 +1,6 @@
 use Rattle.std.proofs.Common.{refl, sym, ◌∙◌}
-use Rattle.lapi_task.proofs.JoinSteps.{passes-does, passes-replies, waits-does, waits-replies, joins-may, enters-does, enters-replies, stays-does, stays-replies}
-use Rattle.lapi_task.proofs.StepLaws.{next-fits}
+use Rattle.lapi_task.proofs.Joining.JoinSteps.{passes-does, passes-replies, waits-does, waits-replies, joins-may, enters-does, enters-replies, stays-does, stays-replies}
+use Rattle.lapi_task.proofs.Stepping.StepLaws.{next-fits}
 use Rattle.lapi_task.proofs.task.Task.join_round.Goals as goal
 
 pub returns-then-not-is_joined-clause-effect : goal.returns-then-not-is_joined-clause-effect

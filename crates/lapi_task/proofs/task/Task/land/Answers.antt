@@ -1,6 +1,6 @@
 use Rattle.std.proofs.Common.{◌≡◌, Bool, Option, is_some, sym, ap, ◌∙◌, subst}
 use Rattle.lapi_task.specs.StandsFor.{task_unit}
-use Rattle.lapi_task.proofs.FollowerParts.{MayFollow}
+use Rattle.lapi_task.proofs.Following.FollowerParts.{MayFollow}
 use Rattle.lapi_task.proofs.task.Task.land.Goals as goal
 
 pub follow-requires-clause-allowed : goal.follow-requires-clause-allowed

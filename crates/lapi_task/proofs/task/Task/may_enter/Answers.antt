@@ -1,6 +1,6 @@
 use Rattle.std.proofs.Common.{sym}
-use Rattle.lapi_task.proofs.JoinSteps.{enters-at-once, enters-clear}
-use Rattle.lapi_task.proofs.StepLaws.{is}
+use Rattle.lapi_task.proofs.Joining.JoinSteps.{enters-at-once, enters-clear}
+use Rattle.lapi_task.proofs.Stepping.StepLaws.{is}
 use Rattle.lapi_task.proofs.task.Task.may_enter.Goals as goal
 
 pub returns-then-not-is_gfence : goal.returns-then-not-is_gfence

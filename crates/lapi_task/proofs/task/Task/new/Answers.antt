@@ -2,8 +2,8 @@ use Rattle.std.proofs.Common.{List, length, replicate, false, refl, sym, ap, ◌
 use Rattle.lapi_base.specs.declared.sizes.Sizes.{Sizes}
 use Rattle.lapi_calls.specs.Limits.{limits_of}
 use Rattle.lapi_task.specs.StandsFor.{IsNewState}
-use Rattle.lapi_task.proofs.NewStands.{new-stands}
-use Rattle.lapi_task.proofs.ReasonForms.{few-statements}
+use Rattle.lapi_task.proofs.Standing.NewStands.{new-stands}
+use Rattle.lapi_task.proofs.Stepping.ReasonForms.{few-statements}
 use Rattle.lapi_task.proofs.task.Task.new.Goals as goal
 use Rattle.lapi_base.specs.declared.statement.Statement.{Statement}
 

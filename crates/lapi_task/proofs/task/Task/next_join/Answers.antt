@@ -2,7 +2,7 @@ use Rattle.std.proofs.Common.{ℕ, sym, ◌∙◌, subst, arith}
 use Rattle.lapi_base.specs.declared.statement.Statement.{Statement}
 use Rattle.lapi_base.proofs.ListLaws.{some-same}
 use Rattle.lapi_calls.specs.Heads.{IsJoinHead}
-use Rattle.lapi_task.proofs.CompleteRounds.{round-within, round-read, next-head}
+use Rattle.lapi_task.proofs.Joining.CompleteRounds.{round-within, round-read, next-head}
 use Rattle.lapi_task.proofs.task.Task.next_join.Goals as goal
 
 pub index-requires : goal.index-requires

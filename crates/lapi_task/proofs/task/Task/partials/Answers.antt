@@ -3,7 +3,7 @@ use Rattle.std.specs.Prelude.{option_map}
 use Rattle.lapi_link.specs.Receiver.{unanswered, kept_answer}
 use Rattle.lapi_reassembly.specs.Partials.{Gathering, partial}
 use Rattle.lapi_task.specs.Answered.{answer_for}
-use Rattle.lapi_task.proofs.KeptAnswers.{lent-partials, lent-answers}
+use Rattle.lapi_task.proofs.Standing.KeptAnswers.{lent-partials, lent-answers}
 use Rattle.lapi_task.proofs.task.Task.partials.Goals as goal
 
 pub returns-clause-came : goal.returns-clause-came

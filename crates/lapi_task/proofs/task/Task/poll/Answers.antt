@@ -3,7 +3,7 @@ use Rattle.lapi_task.specs.Copies.{AllSent, packets_now}
 use Rattle.lapi_task.specs.Sends.{entries_of}
 use Rattle.std.proofs.Common.{◌≡◌, ◌++◌}
 use Rattle.lapi_base.proofs.Results.{on-oks}
-use Rattle.lapi_task.proofs.PollSends.{poll-does}
+use Rattle.lapi_task.proofs.Sending.PollSends.{poll-does}
 use Rattle.lapi_task.proofs.task.Task.poll.Goals as goal
 
 pub send_all-requires : goal.send_all-requires

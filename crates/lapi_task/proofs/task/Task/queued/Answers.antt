@@ -1,5 +1,5 @@
 use Rattle.std.proofs.Common.{◌<◌, ◌^◌, subst, sym, ◌∙◌}
-use Rattle.lapi_task.proofs.JobCounts.{waiting-counted}
+use Rattle.lapi_task.proofs.Working.JobCounts.{waiting-counted}
 use Rattle.lapi_task.proofs.task.Task.queued.Goals as goal
 
 pub returns : goal.returns

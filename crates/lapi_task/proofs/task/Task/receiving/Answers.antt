@@ -1,6 +1,6 @@
 use Rattle.std.proofs.Common.{ap, ◌∙◌}
 use Rattle.lapi_window.specs.RecvWindow.{Receiving, is_taken}
-use Rattle.lapi_task.proofs.KeptAnswers.{lent-window}
+use Rattle.lapi_task.proofs.Standing.KeptAnswers.{lent-window}
 use Rattle.lapi_task.proofs.task.Task.receiving.Goals as goal
 
 pub returns : goal.returns

@@ -1,5 +1,5 @@
 use Rattle.std.proofs.Common.{◌<◌, ◌^◌, subst, sym, ◌∙◌}
-use Rattle.lapi_task.proofs.JobCounts.{running-counted, running-few}
+use Rattle.lapi_task.proofs.Working.JobCounts.{running-counted, running-few}
 use Rattle.lapi_task.proofs.task.Task.running.Goals as goal
 
 pub returns : goal.returns

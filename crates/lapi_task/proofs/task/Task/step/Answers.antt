@@ -1,11 +1,11 @@
 use Rattle.std.proofs.Common.{refl, sym, ap, ◌∙◌, subst, Some, None}
 use Rattle.lapi_base.specs.declared.statement.Statement.{Statement}
-use Rattle.lapi_task.proofs.StepLaws.{FindsReason, found-reason, next-fits, is-suited, has-flag, idle-does, idle-replies, refused-does, refused-replies, issued-does, issued-replies, passed-does, passed-replies, blocked-does, blocked-replies}
+use Rattle.lapi_task.proofs.Stepping.StepLaws.{FindsReason, found-reason, next-fits, is-suited, has-flag, idle-does, idle-replies, refused-does, refused-replies, issued-does, issued-replies, passed-does, passed-replies, blocked-does, blocked-replies}
 use Rattle.lapi_task.proofs.task.Task.step.Goals as goal
 use Rattle.lapi_base.specs.Record.Acts.{step}
 use Rattle.lapi_task.specs.declared.unfinished.Unfinished.{Unfinished}
 use Rattle.lapi_task.specs.HasEffect.{HasEffect}
-use Rattle.lapi_task.proofs.FenceSteps.{fence-passes, fence-replies, fence-waits, fence-blocks}
+use Rattle.lapi_task.proofs.Stepping.FenceSteps.{fence-passes, fence-replies, fence-waits, fence-blocks}
 
 pub returns-in_default-clause-effect : goal.returns-in_default-clause-effect
 returns-in_default-clause-effect c = λ script rules t r at. idle-does script rules at.stands.calls.valid c.args.self.now t r at c.args.out.now (sym c.in_default.ensures)

@@ -3,7 +3,7 @@ use Rattle.std.specs.List.{list_all}
 use Rattle.std.proofs.lemmas.Iterator.{YieldsList-from_slice}
 use Rattle.std.proofs.lemmas.Iterator.Search.{all_from_yields_List}
 use borrow.Author.Tests.{tests}
-use Rattle.lapi_task.proofs.StillLaws.{settled, still-is}
+use Rattle.lapi_task.proofs.Standing.StillLaws.{settled, still-is}
 use Rattle.lapi_task.proofs.task.Task.still.Goals as goal
 
 pub returns-then-is_free : goal.returns-then-is_free

@@ -3,7 +3,7 @@ use Rattle.std.specs.Prelude.{slice_get}
 use Rattle.std.proofs.lemmas.Option.{slice_get_read}
 use Rattle.lapi_link.specs.Sender.{kept}
 use Rattle.lapi_task.specs.Sends.{entries_of}
-use Rattle.lapi_task.proofs.TickLaws.{resent-none, resent-more, tick-does}
+use Rattle.lapi_task.proofs.Sending.TickLaws.{resent-none, resent-more, tick-does}
 use Rattle.lapi_task.proofs.task.Task.tick.Goals as goal
 
 pub loop-to-init : goal.loop-to-init

@@ -4,8 +4,8 @@ use Rattle.lapi_base.proofs.ListLaws.{at-place, get-some}
 use Rattle.lapi_link.specs.Sender.{entries_to}
 use Rattle.lapi_task.specs.Copies.{AllSent, sent_now, packets_now}
 use Rattle.lapi_task.specs.Sends.{entries_of}
-use Rattle.lapi_task.proofs.PollSends.{none-sent, one-sent}
-use Rattle.lapi_task.proofs.SenderLaws.{entries-none, entries-more}
+use Rattle.lapi_task.proofs.Sending.PollSends.{none-sent, one-sent}
+use Rattle.lapi_task.proofs.Sending.SenderLaws.{entries-none, entries-more}
 use Rattle.lapi_task.proofs.task.polling.send_all.Goals as goal
 
 pub loop-b-init : goal.loop-b-init

@@ -1,6 +1,6 @@
 use Rattle.std.proofs.Common.{take, sym, subst}
 use Rattle.std.specs.Prelude.{slice_index_or}
-use Rattle.lapi_task.proofs.TimesLaws.{HasTaken, taken-more, some-left, take-next, known-at}
+use Rattle.lapi_task.proofs.Acknowledging.TimesLaws.{HasTaken, taken-more, some-left, take-next, known-at}
 use Rattle.lapi_task.proofs.unfinished.Unfinished.acknowledged.Goals as goal
 
 pub one_acknowledged-requires-clause-one : goal.one_acknowledged-requires-clause-one

@@ -1,5 +1,5 @@
 use Rattle.std.proofs.Common.{take}
-use Rattle.lapi_task.proofs.TimesLaws.{HasTaken}
+use Rattle.lapi_task.proofs.Acknowledging.TimesLaws.{HasTaken}
 use Rattle.lapi_task.proofs.unfinished.Unfinished.acknowledged.Given as goal
 
 -- those before this place were taken

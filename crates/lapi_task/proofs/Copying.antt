@@ -1,0 +1,10 @@
+pub mod CallsStay
+pub mod CopyFirst
+pub mod CopyJoins
+pub mod CopyLaws
+pub mod CopyLists
+pub mod CopyParts
+pub mod CopySendable
+pub mod MessageCopies
+pub mod PollCopies
+pub mod UncopiedLaws

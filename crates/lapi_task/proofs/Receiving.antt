@@ -1,0 +1,9 @@
+pub mod ArrivingData
+pub mod ArrivingFits
+pub mod ReceiveCounts
+pub mod ReceiveEvents
+pub mod ReceiveHolds
+pub mod ReceiveKinds
+pub mod ReceiveLaws
+pub mod ReceiveLinks
+pub mod ReceiveSuits

@@ -1,0 +1,5 @@
+pub mod MessagePackets
+pub mod Packets
+pub mod PollSends
+pub mod SenderLaws
+pub mod TickLaws

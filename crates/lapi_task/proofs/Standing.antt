@@ -1,0 +1,5 @@
+pub mod Apart
+pub mod KeptAnswers
+pub mod NewStands
+pub mod StillLaws
+pub mod Tags
