@@ -264,11 +264,11 @@ module _ (plan : Plan) where
 
   -- ---- that they are there
 
-  body-own : (k a : ℕ) (op : Op) → slice_get plan.ops k ≡ Some op → a ≡ (patch_of op).task → body k a ≡ own_statements plan k op
+  pub body-own : (k a : ℕ) (op : Op) → slice_get plan.ops k ≡ Some op → a ≡ (patch_of op).task → body k a ≡ own_statements plan k op
   body-own k a op e h = ap (λ x. op_statements plan k x a) e ∙ cond-true (a == (patch_of op).task) (own_statements plan k op) [] (ap (λ x. a == x) (sym h) ∙ eqb-refl a)
 
   -- place o of the operation's own statements
-  own-there : (k o : ℕ) (op : Op) → slice_get plan.ops k ≡ Some op → (patch_of op).task < tasks_of plan → o < length (own_statements plan k op) →
+  pub own-there : (k o : ℕ) (op : Op) → slice_get plan.ops k ≡ Some op → (patch_of op).task < tasks_of plan → o < length (own_statements plan k op) →
       let a = (patch_of op).task in
       Has (compiled plan) a (begin k a + o) × (epoch (compiled plan) a (begin k a + o) ≡ k) × (statement (compiled plan) a (begin k a + o) ≡ get_or (own_statements plan k op) o Fence)
   own-there k o op e t l =

@@ -9,3 +9,4 @@ pub mod PlanLines
 pub mod ScriptLimits
 pub mod PlanLimits
 pub mod SmallPlan
+pub mod CountedLines

@@ -20,6 +20,7 @@ use Rattle.lapi_base.specs.Record.Refusals.{next}
 use Rattle.lapi_base.specs.Record.Wires.{Run, start, numbered, has_number}
 use Rattle.lapi_base.specs.Record.Acts.{joins, to_copy_of, ready, after, run_of}
 use Rattle.lapi_base.proofs.NameLaws.{happened-nil}
+use Rattle.lapi_base.proofs.BelowLaws.{below-all}
 use Rattle.lapi_laws.proofs.Lines.{SoundRun}
 use Rattle.lapi_base.proofs.ListLaws.{all-flat_map, all-any, get-some}
 use Rattle.lapi_laws.proofs.Runs.{start-sound}
@@ -51,13 +52,13 @@ use Rattle.lapi_flush.proofs.QuietRecords.{settled-quiet}
 use Rattle.lapi_blocks.proofs.NeverRefused.{never-refused, stride-total}
 
 -- a list without one place
-get-some_nth : (xs : List ℕ) (i : ℕ) → i < length xs → slice_get xs i ≡ Some (get_or xs i 0)
+pub get-some_nth : (xs : List ℕ) (i : ℕ) → i < length xs → slice_get xs i ≡ Some (get_or xs i 0)
 get-some_nth [] i l = absurd (omega arith)
 get-some_nth (x ∷ xs) zero l = refl
 get-some_nth (x ∷ xs) (suc i) l = get-some_nth xs i (omega arith)
 
 -- kinds of the statements of an operation
-is_call : Statement → Bool
+unfoldable pub is_call : Statement → Bool
 is_call s = is_store s || (goes s || comes s)
 
 moves-call : (plan : Plan) (k : ℕ) (op : Op) (part : Patch) → is_call (moves plan k op part) ≡ true
@@ -69,7 +70,7 @@ moves-no_note : (plan : Plan) (k : ℕ) (op : Op) (part : Patch) → cmpl_counte
 moves-no_note plan k (Set task row col rows cols values) part = refl
 moves-no_note plan k (Get task row col rows cols) part = refl
 
-moves-target : (plan : Plan) (k : ℕ) (op : Op) (part : Patch) → target_of (moves plan k op part) ≡ Some part.task
+pub moves-target : (plan : Plan) (k : ℕ) (op : Op) (part : Patch) → target_of (moves plan k op part) ≡ Some part.task
 moves-target plan k (Set task row col rows cols values) part = refl
 moves-target plan k (Get task row col rows cols) part = refl
 
@@ -82,7 +83,7 @@ op-calls : (plan : Plan) (k : ℕ) (o : Option Op) (t : ℕ) → AllByRecursion 
 op-calls plan k None t = tt
 op-calls plan k (Some op) t = cond_both (t == (patch_of op).task) (own_statements plan k op) [] (AllByRecursion (λ s. is_call s ≡ true)) (λ _. own-calls plan k op) (λ _. tt)
 
-call-no_join : (s : Statement) → is_call s ≡ true → has_join s ≡ false
+pub call-no_join : (s : Statement) → is_call s ≡ true → has_join s ≡ false
 unfolding is_call
 call-no_join Gfence h = absurd (false≢true h)
 call-no_join (Statement.Addr at) h = absurd (false≢true h)
@@ -130,12 +131,12 @@ spike-sum n t c y f h = let s = spike n t c y f h in let q = small (nat_lt t n) 
     small false c = omega arith
 
 -- how many stand before the moves
-before_moves : Op → ℕ
+unfoldable pub before_moves : Op → ℕ
 before_moves op = cond (is_set op) 1 0
 
 module _ (plan : Plan) (valid : ValidPlan plan) (rules : Rules) where
   -- the place of the move to owner w
-  move_place : (k : ℕ) (op : Op) (w : ℕ) → ℕ
+  unfoldable pub move_place : (k : ℕ) (op : Op) (w : ℕ) → ℕ
   move_place k op w = begin plan k (patch_of op).task + (before_moves op + length (filter (λ x. nat_lt x w) (owners plan (patch_of op))))
 
   owner-index : (p : Patch) (j : ℕ) → j < length (owners plan p) → length (filter (λ x. nat_lt x (get_or (owners plan p) j 0)) (owners plan p)) ≡ j
@@ -161,9 +162,9 @@ module _ (plan : Plan) (valid : ValidPlan plan) (rules : Rules) where
       (o, lj, (let q : o ≡ 0 + o = omega arith in q), get_or-map g (owners plan (patch_of op)) o 0 Fence lj)
 
   -- so an operation's data statement is known by its owner
-  data-place : (k : ℕ) (op : Op) (a i : ℕ) → slice_get plan.ops k ≡ Some op → a < tasks_of plan → begin plan k a ≤ i → i ≤ begin plan k a + length (body plan k a) → is_data (statement (compiled plan) a i) ≡ true →
-      (w : ℕ) × (a ≡ (patch_of op).task) × (i ≡ move_place k op w) × (statement (compiled plan) a i ≡ moves plan k op (part_of plan (patch_of op) w))
-  unfolding move_place
+  pub data-place : (k : ℕ) (op : Op) (a i : ℕ) → slice_get plan.ops k ≡ Some op → a < tasks_of plan → begin plan k a ≤ i → i ≤ begin plan k a + length (body plan k a) → is_data (statement (compiled plan) a i) ≡ true →
+      (w : ℕ) × (a ≡ (patch_of op).task) × (i ≡ move_place k op w) × (statement (compiled plan) a i ≡ moves plan k op (part_of plan (patch_of op) w)) × (is_nonempty (part_of plan (patch_of op) w) ≡ true)
+  unfolding move_place owners
   data-place k op a i e la low high d =
       let lk = (nth-of_get plan.ops k op op e).1 in
       let o = i - begin plan k a in
@@ -174,13 +175,13 @@ module _ (plan : Plan) (valid : ValidPlan plan) (rules : Rules) where
       (λ (lt : o < length (body plan k a)).
       let is : statement (compiled plan) a i ≡ get_or (body plan k a) o Fence = ap (statement (compiled plan) a) (sym here) ∙ at.1 ∙ in-body plan k a o lt in
       let same = ap (λ x. op_statements plan k x a) e in
-      elim (a == (patch_of op).task) as (λ b. (a == (patch_of op).task) ≡ b → o < length (cond b (own_statements plan k op) []) → statement (compiled plan) a i ≡ get_or (cond b (own_statements plan k op) []) o Fence → (w : ℕ) × (a ≡ (patch_of op).task) × (i ≡ move_place k op w) × (statement (compiled plan) a i ≡ moves plan k op (part_of plan (patch_of op) w))) [
+      elim (a == (patch_of op).task) as (λ b. (a == (patch_of op).task) ≡ b → o < length (cond b (own_statements plan k op) []) → statement (compiled plan) a i ≡ get_or (cond b (own_statements plan k op) []) o Fence → (w : ℕ) × (a ≡ (patch_of op).task) × (i ≡ move_place k op w) × (statement (compiled plan) a i ≡ moves plan k op (part_of plan (patch_of op) w)) × (is_nonempty (part_of plan (patch_of op) w) ≡ true)) [
         | true ↦ λ mine lo is'.
             let task = eqb-true a (patch_of op).task mine in
             let r = own-index k op o lo (ap is_data (sym is') ∙ d) in
             let w = get_or (owners plan (patch_of op)) r.0 0 in
             let place : i ≡ move_place k op w = sym here ∙ ap (λ n. begin plan k a + n) (r.2 ∙ ap (λ n. before_moves op + n) (sym (owner-index (patch_of op) r.0 r.1))) ∙ ap (λ t. begin plan k t + (before_moves op + length (filter (λ x. nat_lt x w) (owners plan (patch_of op))))) task in
-            (w, task, place, is' ∙ r.3)
+            (w, task, place, is' ∙ r.3, (all-nth (λ t. (t < tasks_of plan) × (is_nonempty (part_of plan (patch_of op) t) ≡ true)) (owners plan (patch_of op)) r.0 0 (below-all (tasks_of plan) (λ t. is_nonempty (part_of plan (patch_of op) t))) r.1).1)
         | false ↦ λ other lo is'. absurd (omega arith)
       ] refl (subst (λ xs. o < length xs) same lt) (is ∙ ap (λ xs. get_or xs o Fence) same))
       (λ (ge : length (body plan k a) ≤ o).
@@ -273,7 +274,7 @@ module _ (plan : Plan) (valid : ValidPlan plan) (rules : Rules) where
 
   -- ---- a plan's script is one of rounds
 
-  no-notes : (a i : ℕ) → Has (compiled plan) a i → cmpl_counter (statement (compiled plan) a i) ≡ None
+  pub no-notes : (a i : ℕ) → Has (compiled plan) a i → cmpl_counter (statement (compiled plan) a i) ≡ None
   no-notes a i has =
       let s = stand plan a i has in
       ⊎_elim
@@ -285,11 +286,11 @@ module _ (plan : Plan) (valid : ValidPlan plan) (rules : Rules) where
       x.1)
       s.kind
 
-  no-answers : (a i : ℕ) → answers (compiled plan) rules a i ≡ false
+  pub no-answers : (a i : ℕ) → answers (compiled plan) rules a i ≡ false
   unfolding answers may_answer
   no-answers a i = refl
 
-  calls-are : (k a i : ℕ) → k < count plan → a < tasks_of plan → begin plan k a ≤ i → i < op_fence plan k a → is_call (statement (compiled plan) a i) ≡ true
+  pub calls-are : (k a i : ℕ) → k < count plan → a < tasks_of plan → begin plan k a ≤ i → i < op_fence plan k a → is_call (statement (compiled plan) a i) ≡ true
   calls-are k a i lk la low high =
       let o = i - begin plan k a in
       let size = round-length plan k a in
@@ -406,7 +407,7 @@ module _ (plan : Plan) (valid : ValidPlan plan) (rules : Rules) where
       (λ h. absurd (both_ways _ (happened-nil (Entered a i)) (and_parts (has_join (statement (compiled plan) a i)) (happened (Entered a i) []) h).1))
       (λ _. tt)))
 
-  at-start : IsAtRound (compiled plan) rules (op_begin plan) 0 start
+  pub at-start : IsAtRound (compiled plan) rules (op_begin plan) 0 start
   unfolding next numbered has_number data_count
   at-start = record {
     settled = record {
@@ -418,11 +419,11 @@ module _ (plan : Plan) (valid : ValidPlan plan) (rules : Rules) where
     passed = λ a i h. absurd (both_ways _ (happened-nil (Entered a i)) h);
   }
 
-  start-owes : Owes (compiled plan) rules start.journal
+  pub start-owes : Owes (compiled plan) rules start.journal
   start-owes = record { lands = λ m h. absurd (both_ways _ (happened-nil (Landed m)) h); ends = λ m h. absurd (both_ways _ (happened-nil (Ended m)) h) }
 
   -- a plan's script is of the first layout
-  start-paid : IsPaid (compiled plan) rules start
+  pub start-paid : IsPaid (compiled plan) rules start
   unfolding holds_back
   start-paid = (refl, λ a b. refl)
 
@@ -511,14 +512,14 @@ module _ (plan : Plan) (valid : ValidPlan plan) (rules : Rules) where
       next_bound : (g f w k : ℕ) → g ≤ f + w → w ≤ 128 → f ≤ 128 * k → g ≤ 128 * suc k
       next_bound g f w k a b c = omega arith
 
-  record Reached (n : ℕ) (r : Run) (acts : List Act) : Type 0 where
-    at_round : IsAtRound (compiled plan) rules (op_begin plan) n r
-    is_sound : SoundRun (compiled plan) rules r
+  pub record Reached (n : ℕ) (r : Run) (acts : List Act) : Type 0 where
+    pub at_round : IsAtRound (compiled plan) rules (op_begin plan) n r
+    pub is_sound : SoundRun (compiled plan) rules r
     lines : length acts ≤ 57 * n + 2 * all_data (tasks_of plan) r
     links : links_of r ≤ 128 * n
     named : AllNamed (compiled plan) rules start acts
 
-  all-rounds : (n : ℕ) → n ≤ count plan → Reached n (after (compiled plan) rules packet_size refusal start (plan_acts plan rules n)) (plan_acts plan rules n)
+  pub all-rounds : (n : ℕ) → n ≤ count plan → Reached n (after (compiled plan) rules packet_size refusal start (plan_acts plan rules n)) (plan_acts plan rules n)
   unfolding plan_acts after
   all-rounds zero l = record { at_round = at-start; is_sound = start-sound (compiled plan) rules; lines = omega arith; links = start-links; named = tt }
   all-rounds (suc k) l =

@@ -1,3 +1,4 @@
 pub mod Plans
 pub mod Arrays
 pub mod PlanRuns
+pub mod PlanCounts

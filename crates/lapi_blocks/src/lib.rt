@@ -11,5 +11,5 @@ mod scripts;
 pub use arrays::arrays_are_plain;
 pub use patch::Patch;
 pub use plan::{Op, Ops, Plan};
-pub use runs::plans_run;
+pub use runs::{plans_are_counted, plans_run};
 pub use scripts::scripts_are_valid;

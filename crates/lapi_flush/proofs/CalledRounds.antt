@@ -56,7 +56,7 @@ use Rattle.lapi_flush.proofs.FlushedTasks.{after-join}
 use Rattle.lapi_laws.proofs.TakenStatements.{taken, kind}
 
 -- what two stretches of events add, one after the other
-regroup : (J K L : List Event) (ys xs : List Event) → L ≡ ys ++ K → K ≡ xs ++ J → L ≡ (ys ++ xs) ++ J
+pub regroup : (J K L : List Event) (ys xs : List Event) → L ≡ ys ++ K → K ≡ xs ++ J → L ≡ (ys ++ xs) ++ J
 regroup J K L ys xs p q = p ∙ ap (λ M. ys ++ M) q ∙ sym (append_assoc ys xs J)
 
 -- ---- lines that add events of statements alone
@@ -202,7 +202,7 @@ module _ (script : Script) (rules : Rules) where
 
   module _ (rounds : ℕ) (begin fence : (round task : ℕ) → ℕ) (f : IsFenced script rules rounds begin fence) where
     -- what was taken was issued, or passed
-    data-issued : (J : List Event) (a i : ℕ) → Atomic script rules J → Has script a i → is_data (statement script a i) ≡ true → i < next J a → happened (Issued a i) J ≡ true
+    pub data-issued : (J : List Event) (a i : ℕ) → Atomic script rules J → Has script a i → is_data (statement script a i) ≡ true → i < next J a → happened (Issued a i) J ≡ true
     data-issued J a i h has d l =
         ⊎_elim
         (λ (x : happened (Issued a i) J ≡ true). x)
@@ -242,7 +242,7 @@ module _ (script : Script) (rules : Rules) where
         ready-join script rules r.journal (λ m. happened (Copied m) r.journal) a i d (list_all-at (λ m. happened (Copied m) r.journal) (ready script r.journal a) (s.copied a has.0)) has.1 leg (join-entered r.journal a i sound.atomic has parts.0 l)
 
     -- a message that was copied is of a statement that its task has come to
-    come-to : (K : List Event) (a i : ℕ) (leg : Leg) → Atomic script rules K → happened (Copied (message a i leg)) K ≡ true → Has script a i × (has_leg script (answers script rules a i) a leg (statement script a i) ≡ true) × (i ≤ next K a)
+    pub come-to : (K : List Event) (a i : ℕ) (leg : Leg) → Atomic script rules K → happened (Copied (message a i leg)) K ≡ true → Has script a i × (has_leg script (answers script rules a i) a leg (statement script a i) ≡ true) × (i ≤ next K a)
     unfolding needs
     come-to K a i leg h c =
         let is = and_parts (has_statement script rules a i) (has_leg script (answers script rules a i) a leg (statement script a i)) (there script rules (Copied (message a i leg)) K h c) in
@@ -257,8 +257,18 @@ module _ (script : Script) (rules : Rules) where
         come (Join x) q d = let l : i ≤ next K a = behind script rules (Entered a i) K h (closed script rules (Copied (message a i (Join x))) K h d).0 in l
 
     module _ (k : ℕ) (lk : k < rounds) (r : Run) (sound : SoundRun script rules r) (paid : IsPaid script rules r) (owes : Owes script rules r.journal) (at : IsAtRound script rules begin k r) where
+      -- a message that was not copied before the round is one of it
+      pub not-low : (m : MsgName) → Has script m.origin m.statement → has_leg script (answers script rules m.origin m.statement) m.origin m.leg (statement script m.origin m.statement) ≡ true → happened (Copied m) r.journal ≡ false → begin k m.origin ≤ m.statement
+      not-low m has leg absent =
+          ⊎_elim
+          (λ (lt : m.statement < begin k m.origin).
+          let place = at.place m.origin has.0 in
+          absurd (both_ways _ absent (complete r at.settled sound owes m.origin m.statement m.leg has leg (omega arith))))
+          (λ (ge : begin k m.origin ≤ m.statement). ge)
+          (cases_lt m.statement (begin k m.origin))
+
       -- in the round no link gets more numbers than the window has
-      room-of : (K later : List Event) → K ≡ later ++ r.journal → Atomic script rules K → ((a : ℕ) → a < script.tasks → next K a ≡ fence k a) → (a b : ℕ) → (la : a < script.tasks) → (lb : b < script.tasks) → length (numbered script K a b) ≤ length (numbered script r.journal a b) + weigh script (f.few k a b lk la lb).0
+      pub room-of : (K later : List Event) → K ≡ later ++ r.journal → Atomic script rules K → ((a : ℕ) → a < script.tasks → next K a ≡ fence k a) → (a b : ℕ) → (la : a < script.tasks) → (lb : b < script.tasks) → length (numbered script K a b) ≤ length (numbered script r.journal a b) + weigh script (f.few k a b lk la lb).0
       room-of K later same h places a b la lb =
           let few = f.few k a b lk la lb in
           let whole = subst (Atomic script rules) same h in
@@ -266,29 +276,20 @@ module _ (script : Script) (rules : Rules) where
           let here = come-to K m.origin m.statement m.leg h (subst (λ L. happened (Copied m) L ≡ true) (sym same) c) in
           let place = places m.origin here.0.0 in
           let top = here.2 in
-          few.1 m here.0 here.1 (low m here.0 here.1 absent) (let q : m.statement ≤ fence k m.origin = omega arith in q) from to) in
+          few.1 m here.0 here.1 (not-low m here.0 here.1 absent) (let q : m.statement ≤ fence k m.origin = omega arith in q) from to) in
           let e = ap (λ L. length (numbered script L a b)) same in
           omega arith
-        where
-          low : (m : MsgName) → Has script m.origin m.statement → has_leg script (answers script rules m.origin m.statement) m.origin m.leg (statement script m.origin m.statement) ≡ true → happened (Copied m) r.journal ≡ false → begin k m.origin ≤ m.statement
-          low m has leg absent =
-              ⊎_elim
-              (λ (lt : m.statement < begin k m.origin).
-              let place = at.place m.origin has.0 in
-              absurd (both_ways _ absent (complete r at.settled sound owes m.origin m.statement m.leg has leg (omega arith))))
-              (λ (ge : begin k m.origin ≤ m.statement). ge)
-              (cases_lt m.statement (begin k m.origin))
 
       -- ---- the calls
 
-      record Called (u : Run) (n j : ℕ) : Type 0 where
-        u_sound : SoundRun script rules u
-        u_owes : Owes script rules u.journal
-        steps : Steps r u
-        full : (a : ℕ) → a < script.tasks → a < n → next u.journal a ≡ fence k a
+      pub record Called (u : Run) (n j : ℕ) : Type 0 where
+        pub u_sound : SoundRun script rules u
+        pub u_owes : Owes script rules u.journal
+        pub steps : Steps r u
+        pub full : (a : ℕ) → a < script.tasks → a < n → next u.journal a ≡ fence k a
         part : n < script.tasks → next u.journal n ≡ begin k n + j
         rest : (a : ℕ) → a < script.tasks → n < a → next u.journal a ≡ begin k a
-        same_entered : (a i : ℕ) → happened (Entered a i) u.journal ≡ true → happened (Entered a i) r.journal ≡ true
+        pub same_entered : (a i : ℕ) → happened (Entered a i) u.journal ≡ true → happened (Entered a i) r.journal ≡ true
 
       next-issue : (J : List Event) (n i a : ℕ) → next (Issue n i ∷ J) a ≡ cond (a == n) (suc (next J a)) (next J a)
       unfolding next
@@ -330,7 +331,7 @@ module _ (script : Script) (rules : Rules) where
           subst (λ v. Called v n (suc j)) (sym (after-more script rules (steps_of script rules n j) (Step n) u))
           (one-call (after script rules packet_size refusal u (steps_of script rules n j)) n j l (omega arith) (calls-of u n j l (omega arith) c))
 
-      all-calls : (n : ℕ) → n ≤ script.tasks → Called (after script rules packet_size refusal r (calls_to script rules begin fence k n)) n 0
+      pub all-calls : (n : ℕ) → n ≤ script.tasks → Called (after script rules packet_size refusal r (calls_to script rules begin fence k n)) n 0
       unfolding calls_to after
       all-calls zero l = record {
         u_sound = sound;
@@ -366,14 +367,14 @@ module _ (script : Script) (rules : Rules) where
       -- ---- sweeps within the round
 
       -- a record of the round in which every task has come to its fence
-      record AtFences (u : Run) : Type 0 where
-        f_sound : SoundRun script rules u
-        f_paid : IsPaid script rules u
-        f_owes : Owes script rules u.journal
-        since : (later : List Event) × (u.journal ≡ later ++ r.journal)
-        f_place : (a : ℕ) → a < script.tasks → next u.journal a ≡ fence k a
+      pub record AtFences (u : Run) : Type 0 where
+        pub f_sound : SoundRun script rules u
+        pub f_paid : IsPaid script rules u
+        pub f_owes : Owes script rules u.journal
+        pub since : (later : List Event) × (u.journal ≡ later ++ r.journal)
+        pub f_place : (a : ℕ) → a < script.tasks → next u.journal a ≡ fence k a
 
-      swept-fences : (u : Run) → AtFences u → ((a b : ℕ) → a < script.tasks → b < script.tasks → IsCalm u a b (length (numbered script u.journal a b))) →
+      pub swept-fences : (u : Run) → AtFences u → ((a b : ℕ) → a < script.tasks → b < script.tasks → IsCalm u a b (length (numbered script u.journal a b))) →
           let s = after script rules packet_size refusal u (two_sweeps script rules u) in
           IsSettled script rules s × AtFences s × AddsEvents u.journal s.journal × (length (two_sweeps script rules u) + 2 * all_data script.tasks u ≤ 2 * script.tasks + 2 * all_data script.tasks s) × AllNamed script rules u (two_sweeps script rules u)
       swept-fences u g calm =
@@ -407,12 +408,12 @@ module _ (script : Script) (rules : Rules) where
       -- ---- entering
 
       module _ (s : Run) (settled : IsSettled script rules s) (g : AtFences s) (new : (a : ℕ) → a < script.tasks → happened (Entered a (fence k a)) s.journal ≡ false) where
-        record Enters (u : Run) (n : ℕ) : Type 0 where
-          e_sound : SoundRun script rules u
-          e_owes : Owes script rules u.journal
-          e_steps : Steps s u
-          e_place : (a : ℕ) → a < script.tasks → next u.journal a ≡ fence k a
-          inside : (a : ℕ) → a < script.tasks → a < n → happened (Entered a (fence k a)) u.journal ≡ true
+        pub record Enters (u : Run) (n : ℕ) : Type 0 where
+          pub e_sound : SoundRun script rules u
+          pub e_owes : Owes script rules u.journal
+          pub e_steps : Steps s u
+          pub e_place : (a : ℕ) → a < script.tasks → next u.journal a ≡ fence k a
+          pub inside : (a : ℕ) → a < script.tasks → a < n → happened (Entered a (fence k a)) u.journal ≡ true
           outside : (a : ℕ) → a < script.tasks → n ≤ a → happened (Entered a (fence k a)) u.journal ≡ false
 
         -- the data of all calls are happened
@@ -474,7 +475,7 @@ module _ (script : Script) (rules : Rules) where
                   (happened-cases (Entered a (fence k a)) (Enter n i) J (subst (λ L. happened (Entered a (fence k a)) L ≡ true) x.1 d)));
             }
 
-        all-enter : (n : ℕ) → n ≤ script.tasks → Enters (after script rules packet_size refusal s (steps_to script rules n)) n
+        pub all-enter : (n : ℕ) → n ≤ script.tasks → Enters (after script rules packet_size refusal s (steps_to script rules n)) n
         unfolding steps_to after perform
         all-enter zero l = record { e_sound = g.f_sound; e_owes = g.f_owes; e_steps = no-steps s; e_place = g.f_place; inside = λ a la lt. absurd (omega arith); outside = λ a la lt. new a la }
         all-enter (suc n) l =
@@ -484,10 +485,10 @@ module _ (script : Script) (rules : Rules) where
       -- ---- passing
 
       module _ (s : Run) (settled : IsSettled script rules s) (g : AtFences s) (entered : (a : ℕ) → a < script.tasks → happened (Entered a (fence k a)) s.journal ≡ true) where
-        record Passes (u : Run) (n : ℕ) : Type 0 where
+        pub record Passes (u : Run) (n : ℕ) : Type 0 where
           p_sound : SoundRun script rules u
           p_owes : Owes script rules u.journal
-          p_steps : Steps s u
+          pub p_steps : Steps s u
           gone : (a : ℕ) → a < script.tasks → a < n → next u.journal a ≡ suc (fence k a)
           here : (a : ℕ) → a < script.tasks → n ≤ a → next u.journal a ≡ fence k a
           same_ready : (a : ℕ) → ready script u.journal a ≡ ready script s.journal a
@@ -572,7 +573,7 @@ module _ (script : Script) (rules : Rules) where
               back = λ a j d. c.back a j (⊎_elim (λ (y : Entered a j ≡ Passed n i). absurd (cc)) (λ (y : happened (Entered a j) J ≡ true). y) (happened-cases (Entered a j) (Pass n i) J (subst (λ L. happened (Entered a j) L ≡ true) x.1 d)));
             }
 
-        all-pass : (n : ℕ) → n ≤ script.tasks → Passes (after script rules packet_size refusal s (steps_to script rules n)) n
+        pub all-pass : (n : ℕ) → n ≤ script.tasks → Passes (after script rules packet_size refusal s (steps_to script rules n)) n
         unfolding steps_to after perform
         all-pass zero l = record { p_sound = g.f_sound; p_owes = g.f_owes; p_steps = no-steps s; gone = λ a la lt. absurd (omega arith); here = λ a la lt. g.f_place a la; same_ready = λ a. refl; back = λ a i d. d }
         all-pass (suc n) l =
@@ -581,7 +582,7 @@ module _ (script : Script) (rules : Rules) where
 
       -- ---- the whole round
 
-      after-and : (u : Run) (acts : List Act) (more : Run → List Act) → after script rules packet_size refusal u (and_after script rules u acts more) ≡ after script rules packet_size refusal (after script rules packet_size refusal u acts) (more (after script rules packet_size refusal u acts))
+      pub after-and : (u : Run) (acts : List Act) (more : Run → List Act) → after script rules packet_size refusal u (and_after script rules u acts more) ≡ after script rules packet_size refusal (after script rules packet_size refusal u acts) (more (after script rules packet_size refusal u acts))
       after-and u acts more = after-join script rules acts (more (after script rules packet_size refusal u acts)) u
 
       -- from the calls to the next round

@@ -8,3 +8,7 @@ pub mod QuietRecords
 pub mod ValidLines
 pub mod SmallFlushes
 pub mod CountedFlushes
+pub mod ExactLinks
+pub mod OwnPolls
+pub mod CountedSweeps
+pub mod CountedRounds

@@ -60,7 +60,7 @@ module _ (script : Script) where
       swapped : (x m a b : ℕ) → a ≡ m + b → x + a ≡ m + (x + b)
       swapped x m a b e = omega arith
 
-  fragments-length : (m : MsgName) → length (fragments script m) ≡ fragment_count script m
+  pub fragments-length : (m : MsgName) → length (fragments script m) ≡ fragment_count script m
   unfolding fragments
   fragments-length m = length-map (numbers_below (fragment_count script m)) _ ∙ numbers_below-length (fragment_count script m)
 

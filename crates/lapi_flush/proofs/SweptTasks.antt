@@ -120,12 +120,12 @@ module _ (script : Script) (rules : Rules) where
   -- ---- task by task
 
   module _ (r : Run) (tops : ℕ → ℕ → ℕ) (room : HasRoom script rules r tops) where
-    record Swept (u : Run) (n : ℕ) : Type 0 where
-      is_sound : SoundRun script rules u
-      is_paid : IsPaid script rules u
-      events : AddsEvents r.journal u.journal
-      rest : (a b : ℕ) → n ≤ a → a < script.tasks → b < script.tasks → IsCalm u a b (tops a b)
-      marks : (a : ℕ) → a < n → IsSweptAt script rules r u a
+    pub record Swept (u : Run) (n : ℕ) : Type 0 where
+      pub is_sound : SoundRun script rules u
+      pub is_paid : IsPaid script rules u
+      pub events : AddsEvents r.journal u.journal
+      pub rest : (a b : ℕ) → n ≤ a → a < script.tasks → b < script.tasks → IsCalm u a b (tops a b)
+      pub marks : (a : ℕ) → a < n → IsSweptAt script rules r u a
       named : AllNamed script rules r (sweep_to script rules r n)
       lines : length (sweep_to script rules r n) + 2 * all_data script.tasks r ≤ n + 2 * all_data script.tasks u
 
@@ -181,7 +181,7 @@ module _ (script : Script) (rules : Rules) where
         sums : (all x y z f g h n : ℕ) → all ≡ x + y → z ≡ y → x + 2 * f ≤ n + 2 * g → z + 2 * g ≤ 1 + 2 * h → all + 2 * f ≤ suc n + 2 * h
         sums all x y z f g h n a b c d = omega arith
 
-    all-tasks : SoundRun script rules r → IsPaid script rules r → ((a b : ℕ) → a < script.tasks → b < script.tasks → IsCalm r a b (tops a b)) → (n : ℕ) → n ≤ script.tasks → Swept (after script rules packet_size refusal r (sweep_to script rules r n)) n
+    pub all-tasks : SoundRun script rules r → IsPaid script rules r → ((a b : ℕ) → a < script.tasks → b < script.tasks → IsCalm r a b (tops a b)) → (n : ℕ) → n ≤ script.tasks → Swept (after script rules packet_size refusal r (sweep_to script rules r n)) n
     unfolding sweep_to after
     all-tasks sound paid calm zero l = record { is_sound = sound; is_paid = paid; events = ([], refl, tt); rest = λ a b _ la lb. calm a b la lb; marks = λ a la. absurd (omega arith); named = tt; lines = omega arith }
     all-tasks sound paid calm (suc t) l =
