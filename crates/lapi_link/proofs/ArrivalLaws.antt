@@ -23,7 +23,7 @@ use Rattle.lapi_window.specs.RecvWindow.{Receiving, is_taken, base_of}
 use Rattle.lapi_reassembly.specs.Partial.{Gathered, nothing_of, with_fragment, is_whole, message, fragment}
 use Rattle.lapi_reassembly.specs.Partials.{Gathering, partial, is_there, HasRoom, Agrees, IsMissing, kept_of}
 use Rattle.lapi_link.specs.declared.arrival.Arrival.TheVariants.{Repeat}
-use Rattle.lapi_link.specs.Receiver.{ReceivingEnd, is_complete, fragment_at, gathered_by, partial_by, partial_of, came, kept_answer, answer_of, unanswered, ReceivesFor, IsPartOnly, MayArrive, MayBring, WhatArrivesMayBeTaken, message_of, arrival_of, gathered_with, arrival_with}
+use Rattle.lapi_link.specs.Receiver.{ReceivingEnd, is_complete, fragment_at, gathered_by, partial_by, partial_of, came, kept_answer, answer_of, unanswered, ReceivesFor, IsPartOnly, MayArrive, MayBring, WhatArrivesMayBeTaken, WholeIsComplete, message_of, arrival_of, gathered_with, arrival_with}
 use Rattle.lapi_link.proofs.FragmentLists.{every-all, joined-map, told-at, none-yet, one-more}
 use Rattle.lapi_base.proofs.HeldPackets.{number-more, number-known, packet-found, none-found, no-fragment, fragment-there}
 use Rattle.lapi_link.proofs.HeldFragments.{is_some-at, bytes-at, missing-at, first-at, later-at, held-at}
@@ -176,6 +176,9 @@ module _ (script : Script) where
             ∙ ap (λ g. with_fragment g p.fragment p.payload) so-far
             ∙ with-one
 
+        whole-now : is_whole (gathered_with s p) ≡ is_complete script (Data p ∷ ps) p.name p.length
+        whole-now = ap is_whole gathered-is ∙ sym (complete-is (Data p ∷ ps) p.name p)
+
         kept-now : option_map unanswered (kept_of (gathered_with s p)) ≡ partial_of script (Data p ∷ ps) p.name
         kept-now = kept-unanswered (gathered_with s p) ∙ ap kept_of gathered-is ∙ sym (kept-is (Data p ∷ ps) p.name p) ∙ sym (own-partial ps p)
 
@@ -317,6 +320,10 @@ may-take script s ps p receives fits = record {
   reach = reached script ps p s.window s.partials s refl receives fits;
   fresh = brings script ps p s.window s.partials s refl receives fits;
 }
+
+-- What is whole then is complete.
+pub whole-is : WholeIsComplete
+whole-is script s ps p receives fits absent = whole-now script ps p fits (sym (receives.taken p.seq) ∙ absent) s.partials receives.sizes.1 (receives.partials p.name)
 
 -- The answers to headers.
 pub answers-kept : (old new : Gathering) (p : DataPacket) → partial new p.name ≡ kept_of (gathered_with old p) → ((m : MsgName) → m ≢ p.name → partial new m ≡ partial old m) → (m : MsgName) → is_there new m ≡ true → kept_answer (partial new m) ≡ kept_answer (partial old m)

@@ -135,6 +135,11 @@ IsNewReceiver window unit s = (script : Script) → window_of script ≡ window 
 abbrev pub gathered_with : Gathering → DataPacket → Gathered
 gathered_with s p = gathered s p.name p.head p.length p.fragment p.payload
 
+-- With a new number an end has all of a message exactly where all its fragments are among the packets that the end stands
+-- for and this one.
+abbrev pub WholeIsComplete : Type 0
+WholeIsComplete = (script : Script) (end : ReceivingEnd) (ps : List Packet) (p : DataPacket) → ReceivesFor script end ps → MayArrive script ps p → is_taken end.window p.seq ≡ false → is_whole (gathered_with end.partials p) ≡ is_complete script (Data p ∷ ps) p.name p.length
+
 abbrev pub arrival_with : (some : Bool) → Gathered → Arrival
 arrival_with some g = came some (is_whole g) (message g)
 

@@ -76,6 +76,7 @@ impl Receiver {
         requires { is_partial self.old name ≡ true }
         ensures kept { (script : Script) (ps : List Packet) → ReceivesFor script self.old ps
             → ReceivesFor script self.new ps }
+        ensures numbers { self.new.window ≡ self.old.window }
         ensures answer { answer_of self.new name ≡ Some out }
         ensures others { (other : MsgName) → other ≢ name
             → answer_of self.new other ≡ answer_of self.old other }

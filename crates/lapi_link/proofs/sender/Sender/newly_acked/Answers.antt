@@ -1,6 +1,6 @@
-use Rattle.std.proofs.Common.{◌≡◌, ℕ, ◌+◌, ◌≤◌, [], ◌∷◌, ◌++◌, List, Option, length, sym, ap, ◌∙◌, arith, append-nil, length-append}
+use Rattle.std.proofs.Common.{◌≡◌, ℕ, [], ◌∷◌, ◌++◌, List, Option, length, sym, ap, ◌∙◌, arith, append-nil, length-append}
 use Rattle.std.specs.List.{cons_option}
-use Rattle.lapi_window.specs.SendWindow.{Sending, sent_count}
+use Rattle.lapi_window.specs.SendWindow.{sent_count}
 use Rattle.lapi_link.specs.Sender.{SendingEnd, covered_tag}
 use Rattle.lapi_link.proofs.SenderLaws.{gives_below, below-none-yet, below-one-more, below-all-sent}
 use Rattle.lapi_link.proofs.sender.Sender.newly_acked.Goals.{in-Some, in_default}

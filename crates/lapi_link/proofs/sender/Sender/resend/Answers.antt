@@ -1,6 +1,6 @@
-use Rattle.std.proofs.Common.{◌≡◌, ℕ, ◌+◌, ◌≤◌, [], ◌∷◌, ◌++◌, List, Option, Some, None, sym, ap, ◌∙◌, arith, append-nil}
+use Rattle.std.proofs.Common.{◌≡◌, ℕ, [], ◌∷◌, ◌++◌, List, Some, sym, ap, ◌∙◌, arith, append-nil}
 use Rattle.lapi_base.specs.declared.wire.WireEntry.{WireEntry}
-use Rattle.lapi_window.specs.SendWindow.{Sending, sent_count, bytes_of, packet_of}
+use Rattle.lapi_window.specs.SendWindow.{sent_count, bytes_of, packet_of}
 use Rattle.lapi_link.specs.Sender.{SendingEnd, entries_to}
 use Rattle.lapi_link.proofs.SenderLaws.{gives_below, below-none-yet, below-all-sent, resent-one, resent-none}
 use Rattle.lapi_link.proofs.sender.Sender.resend.Goals.{in-Some+in_ok-bytes+in_ok-push, in_default}
