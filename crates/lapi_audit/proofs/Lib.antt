@@ -3,6 +3,7 @@ pub mod NamedLaws
 pub mod OrderLaws
 pub mod RoundLaws
 pub mod TurnLaws
+pub mod PendingLaws
 pub mod WaitLaws
 pub mod JobLaws
 pub mod FirstLaws

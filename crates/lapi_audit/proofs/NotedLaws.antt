@@ -273,7 +273,28 @@ module _ (script : Script) (rules : Rules) (valid : ValidScript script) where
   suits-there o (End m t w) j h = leg_eq-true m.leg Go (and_parts _ _ (and_parts (has_message script rules m) (leg_eq m.leg Go && is_am (statement script m.origin m.statement)) (and_parts _ _ h).0).1).0
   suits-there o _ j h = tt
 
-  -- after an event the states stand for the journal with it
+  -- after an event there is a state for each operation still
+  pub states-after : (t : List (List Operation)) (e : Event) → HasStates script t → is_there script rules e ≡ true → HasStates script (noted_in t e)
+  states-after t e fits h =
+      let a = task_of (key_of e) in
+      let i = statement_of (key_of e) in
+      let o = operation t a i in
+      let at = place-in t e fits h in
+      record {
+        tasks = length-set t a (set (get_or t a []) i (after e o)) ∙ fits.tasks;
+        lists = λ b lb.
+            ap length (get-set t a b (set (get_or t a []) i (after e o)) [] at.0)
+            ∙ cond_both (b == a) (set (get_or t a []) i (after e o)) (get_or t b []) (λ r. length r ≡ length (statements script b))
+            (λ e'. length-set (get_or t a []) i (after e o) ∙ ap (λ n. length (get_or t n [])) (sym (eqb-true b a e')) ∙ fits.lists b lb)
+            (λ _. fits.lists b lb);
+        joins = λ b j lb lj.
+            ap (λ (x : Operation). length x.joins) (operation-set t a i b j (after e o) at.0 at.1)
+            ∙ cond_both (b == a && j == i) (after e o) (operation t b j) (λ (x : Operation). length x.joins ≡ 8)
+            (λ _. joins-after o e ∙ at.2)
+            (λ _. fits.joins b j lb lj);
+      }
+
+  -- and the states stand for the journal with it
   pub operations-after : (t : List (List Operation)) (J : List Event) (e : Event) → OperationsStand script t J → is_there script rules e ≡ true → OperationsStand script (noted_in t e) (e ∷ J)
   operations-after t J e s h =
       let a = task_of (key_of e) in
@@ -281,19 +302,6 @@ module _ (script : Script) (rules : Rules) (valid : ValidScript script) where
       let o = operation t a i in
       let at = place-in t e s.fits h in
       record {
-        fits =
-            record {
-              tasks = length-set t a (set (get_or t a []) i (after e o)) ∙ s.fits.tasks;
-              lists = λ b lb.
-                  ap length (get-set t a b (set (get_or t a []) i (after e o)) [] at.0)
-                  ∙ cond_both (b == a) (set (get_or t a []) i (after e o)) (get_or t b []) (λ r. length r ≡ length (statements script b))
-                  (λ e'. length-set (get_or t a []) i (after e o) ∙ ap (λ n. length (get_or t n [])) (sym (eqb-true b a e')) ∙ s.fits.lists b lb)
-                  (λ _. s.fits.lists b lb);
-              joins = λ b j lb lj.
-                  ap (λ (x : Operation). length x.joins) (operation-set t a i b j (after e o) at.0 at.1)
-                  ∙ cond_both (b == a && j == i) (after e o) (operation t b j) (λ (x : Operation). length x.joins ≡ 8)
-                  (λ _. joins-after o e ∙ at.2)
-                  (λ _. s.fits.joins b j lb lj);
-            };
+        fits = states-after t e s.fits h;
         deeds = λ d. stood-after t e d at.0 at.1 (suits-there o e at.2 h) ∙ ap (λ x. key_eq d (key_of e) || x) (s.deeds d) ∙ sym (happened-cons d e J);
       }

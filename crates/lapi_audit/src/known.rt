@@ -44,7 +44,7 @@ impl Seen<'_> {
         ensures round { result ≡ slice_get (table_rounds self.now.setting.script.now d) round }
         ensures there { (j : ℕ) → result ≡ Some j → j < length (statements self.now.setting.script.now d) }
     {
-        self.rounds.round(Call::Table, d, round)
+        self.rounds.round(Call::Table, d, round as usize)
     }
 
     /// The address that task `d` gave in a round; 0 where it has no such round.

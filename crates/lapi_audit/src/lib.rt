@@ -9,6 +9,7 @@ mod journal;
 mod known;
 mod operation;
 mod order;
+mod pending;
 mod rounds;
 mod rule;
 mod table;
