@@ -7,6 +7,8 @@ mod calls;
 #[cfg(test)]
 mod capture;
 #[cfg(test)]
+mod changed_captures;
+#[cfg(test)]
 mod collect;
 #[cfg(test)]
 mod counters;
