@@ -137,18 +137,18 @@ pub(crate) fn write(alloc: Global, out: &mut Vec<u8>, act: &Act) -> Result<(), M
     ensures { OnOk result (out.new.items ≡ out.old.items ++ 32 ∷ row_line (act_row act.now)) }
 {
     let row = act.row();
-    values::put(out, b" ")?;
+    out.push(b' ')?;
     values::put(out, row.word.as_bytes())?;
-    numbers(alloc, out, row.numbers.as_slice())?;
+    numbers(out, row.numbers.as_slice())?;
     injected(alloc, out, row.injected)
 }
 
 /// Each number, behind a space.
-fn numbers(alloc: Global, out: &mut Vec<u8>, numbers: &[u32]) -> Result<(), Memory>
+fn numbers(out: &mut Vec<u8>, numbers: &[u32]) -> Result<(), Memory>
     ensures { OnOk result (out.new.items ≡ out.old.items ++ flat_map number_text numbers.now) }
 {
     for each in numbers {
-        values::number(alloc, out, *each)?;
+        values::number(out, *each)?;
     }
     Ok(())
 }

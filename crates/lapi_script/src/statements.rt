@@ -94,17 +94,17 @@ pub(crate) fn write(alloc: Global, out: &mut Vec<u8>, statement: &Statement) -> 
 {
     match statement {
         Statement::Store { at, bytes } => store::write(alloc, out, *at, bytes.as_slice()),
-        Statement::Put { .. } => put::write(alloc, out, statement),
-        Statement::Get { .. } => get::write(alloc, out, statement),
-        Statement::Putv { .. } => putv::write(alloc, out, statement),
-        Statement::Getv { .. } => getv::write(alloc, out, statement),
-        Statement::Rmw { .. } => rmw::write(alloc, out, statement),
+        Statement::Put { .. } => put::write(out, statement),
+        Statement::Get { .. } => get::write(out, statement),
+        Statement::Putv { .. } => putv::write(out, statement),
+        Statement::Getv { .. } => getv::write(out, statement),
+        Statement::Rmw { .. } => rmw::write(out, statement),
         Statement::Am { .. } => amsend::write(alloc, out, statement),
-        Statement::Wait { counter, value } => waitcntr::write(alloc, out, *counter, *value),
-        Statement::Set { counter, value } => setcntr::write(alloc, out, *counter, *value),
-        Statement::Read { counter } => getcntr::write(alloc, out, *counter),
+        Statement::Wait { counter, value } => waitcntr::write(out, *counter, *value),
+        Statement::Set { counter, value } => setcntr::write(out, *counter, *value),
+        Statement::Read { counter } => getcntr::write(out, *counter),
         Statement::Fence => values::put(out, b"fence"),
         Statement::Gfence => values::put(out, b"gfence"),
-        Statement::Addr { at } => address_init::write(alloc, out, *at),
+        Statement::Addr { at } => address_init::write(out, *at),
     }
 }

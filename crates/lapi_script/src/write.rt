@@ -9,7 +9,7 @@ ghost use Rattle.lapi_base.specs.Input.Rows.{statement_row, task_row, head_row, 
 ghost use Rattle.lapi_base.specs.Input.Reading.{read, most_input};
 ghost use Rattle.lapi_script.specs.Inputs.{input_of, IsWritable};
 
-use crate::write::values::{number, put};
+use crate::write::values::{digits, number, put};
 use crate::{acts, statements};
 use lapi_base::{Bytes, Line, Memory, Script, Statement, Statements};
 use lapi_text::text_laws;
@@ -20,8 +20,7 @@ use std::alloc::Global;
 fn line(alloc: Global, out: &mut Vec<u8>, line: &Line) -> Result<(), Memory>
     ensures { OnOk result (out.new.items ≡ out.old.items ++ row_line (line_row line.now)) }
 {
-    let lane = line.lane.to_string(alloc)?;
-    put(out, lane.as_str().as_bytes())?;
+    digits(out, line.lane)?;
     acts::write(alloc, out, &line.act)
 }
 
@@ -39,7 +38,7 @@ fn lines(alloc: Global, out: &mut Vec<u8>, schedule: &[Line]) -> Result<(), Memo
 {
     for each in schedule {
         line(alloc, out, each)?;
-        put(out, b"\n")?;
+        out.push(b'\n')?;
     }
     Ok(())
 }
@@ -49,33 +48,33 @@ fn statement_lines(alloc: Global, out: &mut Vec<u8>, list: &[Statement]) -> Resu
 {
     for each in list {
         statements::write(alloc, out, each)?;
-        put(out, b"\n")?;
+        out.push(b'\n')?;
     }
     Ok(())
 }
 
 /// A name and its number.
-fn named(alloc: Global, out: &mut Vec<u8>, name: &[u8], n: u32) -> Result<(), Memory>
+fn named(out: &mut Vec<u8>, name: &[u8], n: u32) -> Result<(), Memory>
     ensures { OnOk result (out.new.items ≡ out.old.items ++ (name.now ++ 32 ∷ decimal n)) }
 {
     put(out, name)?;
-    number(alloc, out, n)
+    number(out, n)
 }
 
-fn head(alloc: Global, out: &mut Vec<u8>, layout: u32) -> Result<(), Memory>
+fn head(out: &mut Vec<u8>, layout: u32) -> Result<(), Memory>
     ensures { OnOk result (out.new.items ≡ out.old.items ++ row_text (head_row layout)) }
 {
-    named(alloc, out, b"lapi", layout)?;
+    named(out, b"lapi", layout)?;
     put(out, b"\n")
 }
 
-fn sizes(alloc: Global, out: &mut Vec<u8>, script: &Script) -> Result<(), Memory>
+fn sizes(out: &mut Vec<u8>, script: &Script) -> Result<(), Memory>
     ensures { OnOk result (out.new.items ≡ out.old.items ++ row_text (sizes_row script.now)) }
 {
-    named(alloc, out, b"tasks", script.tasks)?;
-    named(alloc, out, b" memory", script.memory)?;
-    named(alloc, out, b" counters", script.counters)?;
-    named(alloc, out, b" workers", script.workers)?;
+    named(out, b"tasks", script.tasks)?;
+    named(out, b" memory", script.memory)?;
+    named(out, b" counters", script.counters)?;
+    named(out, b" workers", script.workers)?;
     put(out, b"\n")
 }
 
@@ -109,8 +108,8 @@ fn input(alloc: Global, script: &Script, schedule: &[Line]) -> Result<Bytes, Mem
     ensures { IfOk result (λ text. text ≡ canon (input_of script.now schedule.now)) }
 {
     let mut out = Vec::new(alloc);
-    head(alloc, &mut out, script.layout)?;
-    sizes(alloc, &mut out, script)?;
+    head(&mut out, script.layout)?;
+    sizes(&mut out, script)?;
     tasks(alloc, &mut out, script.lists.as_slice())?;
     put(&mut out, b"schedule\n")?;
     lines(alloc, &mut out, schedule)?;

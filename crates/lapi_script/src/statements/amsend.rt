@@ -56,10 +56,10 @@ pub(crate) fn write(alloc: Global, out: &mut Vec<u8>, statement: &Statement) -> 
         unreachable!()
     };
     values::put(out, b"amsend")?;
-    values::number(alloc, out, *target)?;
-    values::number(alloc, out, *handler)?;
+    values::number(out, *target)?;
+    values::number(out, *handler)?;
     values::optional_hex(alloc, out, header.as_slice())?;
-    values::number(alloc, out, *from)?;
-    values::number(alloc, out, *len)?;
-    values::three_counters(alloc, out, *tgt, *org, *cmpl)
+    values::number(out, *from)?;
+    values::number(out, *len)?;
+    values::three_counters(out, *tgt, *org, *cmpl)
 }

@@ -11,7 +11,6 @@ use crate::fields::{address, counter, end, number};
 use crate::words::Words;
 use crate::write::values;
 use lapi_base::{Memory, Statement};
-use std::alloc::Global;
 
 #[tactic(auto, unfolding(lapi_base::specs::Input::Forms::get_form))]
 pub(crate) fn read(words: &mut Words) -> Result<Statement, LineFault>
@@ -34,7 +33,7 @@ pub(crate) fn read(words: &mut Words) -> Result<Statement, LineFault>
     })
 }
 
-pub(crate) fn write(alloc: Global, out: &mut Vec<u8>, statement: &Statement) -> Result<(), Memory>
+pub(crate) fn write(out: &mut Vec<u8>, statement: &Statement) -> Result<(), Memory>
     requires { IsGet statement.now }
     ensures { OnOk result (out.new.items ≡ out.old.items ++ row_line (statement_row statement.now)) }
 {
@@ -50,9 +49,9 @@ pub(crate) fn write(alloc: Global, out: &mut Vec<u8>, statement: &Statement) -> 
         unreachable!()
     };
     values::put(out, b"get")?;
-    values::number(alloc, out, *target)?;
-    values::address(alloc, out, *from)?;
-    values::number(alloc, out, *to)?;
-    values::number(alloc, out, *len)?;
-    values::two_counters(alloc, out, *tgt, *org)
+    values::number(out, *target)?;
+    values::address(out, *from)?;
+    values::number(out, *to)?;
+    values::number(out, *len)?;
+    values::two_counters(out, *tgt, *org)
 }

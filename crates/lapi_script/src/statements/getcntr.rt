@@ -10,7 +10,6 @@ use crate::fields::{end, number};
 use crate::words::Words;
 use crate::write::values;
 use lapi_base::{Memory, Statement};
-use std::alloc::Global;
 
 #[tactic(auto, unfolding(lapi_base::specs::Input::Forms::read_form))]
 pub(crate) fn read(words: &mut Words) -> Result<Statement, LineFault>
@@ -21,9 +20,9 @@ pub(crate) fn read(words: &mut Words) -> Result<Statement, LineFault>
     Ok(Statement::Read { counter })
 }
 
-pub(crate) fn write(alloc: Global, out: &mut Vec<u8>, counter: u32) -> Result<(), Memory>
+pub(crate) fn write(out: &mut Vec<u8>, counter: u32) -> Result<(), Memory>
     ensures { OnOk result (out.new.items ≡ out.old.items ++ row_line (statement_row (Statement.Read counter))) }
 {
     values::put(out, b"getcntr")?;
-    values::number(alloc, out, counter)
+    values::number(out, counter)
 }

@@ -13,7 +13,6 @@ use crate::statements::ReadStatement;
 use crate::words::Words;
 use crate::write::values;
 use lapi_base::{Memory, Statement};
-use std::alloc::Global;
 
 #[tactic(auto, unfolding(lapi_base::specs::Input::Forms::getv_form, lapi_base::specs::Input::Reading::keeps_pieces))]
 pub(crate) fn read(words: &mut Words) -> Result<ReadStatement, LineFault>
@@ -37,7 +36,7 @@ pub(crate) fn read(words: &mut Words) -> Result<ReadStatement, LineFault>
     })
 }
 
-pub(crate) fn write(alloc: Global, out: &mut Vec<u8>, statement: &Statement) -> Result<(), Memory>
+pub(crate) fn write(out: &mut Vec<u8>, statement: &Statement) -> Result<(), Memory>
     requires { IsGetv statement.now }
     ensures { OnOk result (out.new.items ≡ out.old.items ++ row_line (statement_row statement.now)) }
 {
@@ -52,8 +51,8 @@ pub(crate) fn write(alloc: Global, out: &mut Vec<u8>, statement: &Statement) -> 
         unreachable!()
     };
     values::put(out, b"getv")?;
-    values::number(alloc, out, *target)?;
-    values::vector(alloc, out, from)?;
-    values::vector(alloc, out, to)?;
-    values::two_counters(alloc, out, *tgt, *org)
+    values::number(out, *target)?;
+    values::vector(out, from)?;
+    values::vector(out, to)?;
+    values::two_counters(out, *tgt, *org)
 }

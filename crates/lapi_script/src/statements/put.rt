@@ -11,7 +11,6 @@ use crate::fields::{address, counter, end, number};
 use crate::words::Words;
 use crate::write::values;
 use lapi_base::{Memory, Statement};
-use std::alloc::Global;
 
 #[tactic(auto, unfolding(lapi_base::specs::Input::Forms::put_form))]
 pub(crate) fn read(words: &mut Words) -> Result<Statement, LineFault>
@@ -36,7 +35,7 @@ pub(crate) fn read(words: &mut Words) -> Result<Statement, LineFault>
     })
 }
 
-pub(crate) fn write(alloc: Global, out: &mut Vec<u8>, statement: &Statement) -> Result<(), Memory>
+pub(crate) fn write(out: &mut Vec<u8>, statement: &Statement) -> Result<(), Memory>
     requires { IsPut statement.now }
     ensures { OnOk result (out.new.items ≡ out.old.items ++ row_line (statement_row statement.now)) }
 {
@@ -53,9 +52,9 @@ pub(crate) fn write(alloc: Global, out: &mut Vec<u8>, statement: &Statement) -> 
         unreachable!()
     };
     values::put(out, b"put")?;
-    values::number(alloc, out, *target)?;
-    values::address(alloc, out, *to)?;
-    values::number(alloc, out, *from)?;
-    values::number(alloc, out, *len)?;
-    values::three_counters(alloc, out, *tgt, *org, *cmpl)
+    values::number(out, *target)?;
+    values::address(out, *to)?;
+    values::number(out, *from)?;
+    values::number(out, *len)?;
+    values::three_counters(out, *tgt, *org, *cmpl)
 }

@@ -13,7 +13,6 @@ use crate::statements::ReadStatement;
 use crate::words::Words;
 use crate::write::values;
 use lapi_base::{Memory, Statement};
-use std::alloc::Global;
 
 #[tactic(auto, unfolding(lapi_base::specs::Input::Forms::putv_form, lapi_base::specs::Input::Reading::keeps_pieces))]
 pub(crate) fn read(words: &mut Words) -> Result<ReadStatement, LineFault>
@@ -39,7 +38,7 @@ pub(crate) fn read(words: &mut Words) -> Result<ReadStatement, LineFault>
     })
 }
 
-pub(crate) fn write(alloc: Global, out: &mut Vec<u8>, statement: &Statement) -> Result<(), Memory>
+pub(crate) fn write(out: &mut Vec<u8>, statement: &Statement) -> Result<(), Memory>
     requires { IsPutv statement.now }
     ensures { OnOk result (out.new.items ≡ out.old.items ++ row_line (statement_row statement.now)) }
 {
@@ -55,8 +54,8 @@ pub(crate) fn write(alloc: Global, out: &mut Vec<u8>, statement: &Statement) -> 
         unreachable!()
     };
     values::put(out, b"putv")?;
-    values::number(alloc, out, *target)?;
-    values::vector(alloc, out, to)?;
-    values::vector(alloc, out, from)?;
-    values::three_counters(alloc, out, *tgt, *org, *cmpl)
+    values::number(out, *target)?;
+    values::vector(out, to)?;
+    values::vector(out, from)?;
+    values::three_counters(out, *tgt, *org, *cmpl)
 }

@@ -12,7 +12,6 @@ use crate::fields::{address, counter, end, number, word};
 use crate::words::{Words, is_text};
 use crate::write::values;
 use lapi_base::{Addr, Memory, RmwOp, Statement};
-use std::alloc::Global;
 
 /// An operation with one operand.
 #[tactic(auto, unfolding(lapi_base::specs::Input::Forms::one_operand_form))]
@@ -76,35 +75,28 @@ pub(crate) fn read(words: &mut Words) -> Result<Statement, LineFault>
 }
 
 /// A second operand, with a compare-and-swap alone.
-fn second_operand(alloc: Global, out: &mut Vec<u8>, op: RmwOp, in2: u32) -> Result<(), Memory>
+fn second_operand(out: &mut Vec<u8>, op: RmwOp, in2: u32) -> Result<(), Memory>
     ensures { OnOk result (out.new.items ≡ out.old.items ++ second_text op in2) }
 {
     match op {
-        RmwOp::Cas => values::number(alloc, out, in2),
+        RmwOp::Cas => values::number(out, in2),
         RmwOp::Add | RmwOp::Or | RmwOp::Swap => Ok(()),
     }
 }
 
 /// An operation, an address and the operands.
-fn operation(
-    alloc: Global,
-    out: &mut Vec<u8>,
-    op: RmwOp,
-    at: Addr,
-    in1: u32,
-    in2: u32,
-) -> Result<(), Memory>
+fn operation(out: &mut Vec<u8>, op: RmwOp, at: Addr, in1: u32, in2: u32) -> Result<(), Memory>
     ensures { OnOk result (out.new.items ≡ out.old.items ++ operation_text op at in1 in2) }
 {
     values::put(out, b" ")?;
     values::put(out, op.word().as_bytes())?;
-    values::address(alloc, out, at)?;
-    values::number(alloc, out, in1)?;
-    second_operand(alloc, out, op, in2)
+    values::address(out, at)?;
+    values::number(out, in1)?;
+    second_operand(out, op, in2)
 }
 
 #[tactic(auto, using(crate::proofs::Texts::rmw_text))]
-pub(crate) fn write(alloc: Global, out: &mut Vec<u8>, statement: &Statement) -> Result<(), Memory>
+pub(crate) fn write(out: &mut Vec<u8>, statement: &Statement) -> Result<(), Memory>
     requires { IsRmw statement.now }
     ensures { OnOk result (out.new.items ≡ out.old.items ++ row_line (statement_row statement.now)) }
 {
@@ -121,8 +113,8 @@ pub(crate) fn write(alloc: Global, out: &mut Vec<u8>, statement: &Statement) -> 
         unreachable!()
     };
     values::put(out, b"rmw")?;
-    values::number(alloc, out, *target)?;
-    operation(alloc, out, *op, *at, *in1, *in2)?;
-    values::number(alloc, out, *prev)?;
-    values::counter(alloc, out, *org)
+    values::number(out, *target)?;
+    operation(out, *op, *at, *in1, *in2)?;
+    values::number(out, *prev)?;
+    values::counter(out, *org)
 }

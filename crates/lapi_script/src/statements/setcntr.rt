@@ -10,7 +10,6 @@ use crate::fields::{end, number};
 use crate::words::Words;
 use crate::write::values;
 use lapi_base::{Memory, Statement};
-use std::alloc::Global;
 
 #[tactic(auto, unfolding(lapi_base::specs::Input::Forms::set_form))]
 pub(crate) fn read(words: &mut Words) -> Result<Statement, LineFault>
@@ -22,13 +21,8 @@ pub(crate) fn read(words: &mut Words) -> Result<Statement, LineFault>
     Ok(Statement::Set { counter, value })
 }
 
-pub(crate) fn write(
-    alloc: Global,
-    out: &mut Vec<u8>,
-    counter: u32,
-    value: u32,
-) -> Result<(), Memory>
+pub(crate) fn write(out: &mut Vec<u8>, counter: u32, value: u32) -> Result<(), Memory>
     ensures { OnOk result (out.new.items ≡ out.old.items ++ row_line (statement_row (Statement.Set counter value))) }
 {
-    values::word_with_two(alloc, out, b"setcntr", counter, value)
+    values::word_with_two(out, b"setcntr", counter, value)
 }

@@ -26,6 +26,6 @@ pub(crate) fn write(alloc: Global, out: &mut Vec<u8>, at: u32, bytes: &[u8]) -> 
     ensures { OnOk result (out.new.items ≡ out.old.items ++ row_line (statement_row (Statement.Store at bytes.now))) }
 {
     values::put(out, b"store")?;
-    values::number(alloc, out, at)?;
+    values::number(out, at)?;
     values::hex(alloc, out, bytes)
 }

@@ -13,8 +13,8 @@ returns c =
     let numbers = flat_map number_text row.numbers.items in
     let injected = injected_text row.injected in
     let spelled : row_line (act_row c.args.act.now) ≡ word ++ (numbers ++ injected) = sym (ap row_line c.row-row.ensures.row) ∙ row_spelled row in
-    let space : c.put.new.out.items ≡ old ++ 32 ∷ [] = c.in_ok-put.ensures in
-    let begun : c.put-2.new.out.items ≡ (old ++ 32 ∷ []) ++ word = rw c.as_bytes.ensures.value at c.in_ok-put-2.ensures ∙ ap (λ o. o ++ word) space in
+    let space : c.push.new.self.items ≡ old ++ 32 ∷ [] = c.in_ok-push.ensures.items in
+    let begun : c.put.new.out.items ≡ (old ++ 32 ∷ []) ++ word = rw c.as_bytes.ensures.value at c.in_ok-put.ensures ∙ ap (λ o. o ++ word) space in
     let listed : c.numbers.new.out.items ≡ ((old ++ 32 ∷ []) ++ word) ++ numbers = rw c.as_slice.ensures.value at c.in_ok-numbers.ensures ∙ ap (λ o. o ++ numbers) begun in
     let whole : old ++ 32 ∷ row_line (act_row c.args.act.now) ≡ c.numbers.new.out.items ++ injected =
     ap (λ t. old ++ 32 ∷ t) spelled
