@@ -1,5 +1,6 @@
 pub mod ArrivingData
 pub mod ArrivingFits
+pub mod MayCome
 pub mod ReceiveCounts
 pub mod ReceiveEvents
 pub mod ReceiveHolds
@@ -7,3 +8,4 @@ pub mod ReceiveKinds
 pub mod ReceiveLaws
 pub mod ReceiveLinks
 pub mod ReceiveSuits
+pub mod WiresCome

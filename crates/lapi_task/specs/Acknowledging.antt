@@ -1,5 +1,5 @@
 -- What a task answers to the packets that came to it.
-use Rattle.std.specs.Prelude.{◌≡◌, ℕ, ◌<◌, List, slice_get, Option, None, Some}
+use Rattle.std.specs.Prelude.{◌≡◌, ℕ, ◌<◌, ◌≤◌, List, length, slice_get, Option, None, Some}
 use Rattle.lapi_base.specs.declared.script.Script.{Script}
 use Rattle.lapi_base.specs.declared.packet.Packet.{Packet}
 use Rattle.lapi_base.specs.declared.wire.WireEntry.{WireEntry}
@@ -17,6 +17,13 @@ answer script ps a b = record { to = a; bytes = written.packet (ack_of script ps
 abbrev pub ReceivesAt : Script → List Packet → Option ReceivingEnd → Type 0
 ReceivesAt script ps None = ⊥
 ReceivesAt script ps (Some s) = ReceivesFor script s ps
+
+-- The task may tell another one what it took: both are among eight tasks, and the window has 32 numbers at most.
+pub record MayAnswer (task : Task) (from : ℕ) : Type 0 where
+  pub own : task.state.number ≤ 7
+  pub other : from ≤ 7
+  pub there : from < length task.receivers.items
+  pub window : (end : ReceivingEnd) → slice_get task.receivers.items from ≡ Some end → end.window.window ≤ 32
 
 -- Task t has taken these packets from a task.
 pub record HasTaken (script : Script) (t : ℕ) (task : Task) (from : ℕ) (ps : List Packet) : Type 0 where

@@ -1,5 +1,5 @@
 -- What a call of a task did, where it stood for a record.
-use Rattle.std.specs.Prelude.{◌≡◌, ℕ, ◌<◌, ◌==◌, List, ◌++◌, map, filter, slice_get, Some, Result, Ok, Err}
+use Rattle.std.specs.Prelude.{◌≡◌, ℕ, ◌<◌, ◌==◌, List, ◌++◌, map, filter, Result, Ok, Err}
 use Rattle.std.specs.List.{AllByRecursion}
 use Rattle.lapi_base.specs.declared.script.Script.{Script}
 use Rattle.lapi_base.specs.declared.rule.Rules.{Rules}
@@ -48,17 +48,6 @@ abbrev pub Performs : (Script → Rules → Run → ℕ → Run) → (before aft
 Performs line before after old new =
     (script : Script) (rules : Rules) (t : ℕ) (r : Run)
     → IsAt script rules t before r → HasEffect script rules t r (line script rules r t) after old new
-
--- A packet is an entry of the wire from a task, by some record that this task stands for.
-pub record IsOnWire (endpoint : Task) (from : ℕ) (p : Packet) : Type 0 where
-  pub script : Script
-  pub rules : Rules
-  pub task : ℕ
-  pub run : Run
-  pub place : ℕ
-  pub at : IsAt script rules task endpoint run
-  pub from_known : from < script.tasks
-  pub entry : slice_get (run.wire from task) place ≡ Some p
 
 -- what bytes are told as: where they spell no packet, where they fail and why, else the packet's kind
 abbrev pub received_as : Result Packet Bad → Received

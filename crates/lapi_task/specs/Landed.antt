@@ -1,5 +1,5 @@
 -- What the arrival of a packet makes of a task.
-use Rattle.std.specs.Prelude.{◌≡◌, ◌≢◌, ℕ, ◌*◌, ◌^◌, ◌<◌, ◌≤◌, Bool, true, false, cond, ◌&&◌, List, [], ◌∷◌, ◌++◌, length, slice_get, slice_set, Option, Some, None, option_map}
+use Rattle.std.specs.Prelude.{◌≡◌, ◌≢◌, ℕ, ◌*◌, ◌^◌, ◌<◌, ◌≤◌, Bool, true, false, cond, ◌&&◌, List, [], ◌∷◌, ◌++◌, length, slice_get, slice_set, Option, Some, None, option_map, IfSome}
 use Rattle.std.specs.Option.{option_or}
 use Rattle.std.specs.List.{flat_map, fold}
 use Rattle.lapi_base.specs.declared.event.Event.{Event}
@@ -25,11 +25,12 @@ use Rattle.lapi_base.specs.Record.Values.{Write, rmw_word, scattered}
 use Rattle.lapi_memory.specs.TaskMemory.{bytes_at, written}
 use Rattle.lapi_vector.specs.Pieces.{AreWithin, total_of}
 use Rattle.lapi_reassembly.specs.declared.message.Message.{Message}
+use Rattle.lapi_reassembly.specs.Partial.{IsMessageOf}
 use Rattle.lapi_jobs.specs.declared.pending.Pending.{Pending}
 use Rattle.lapi_jobs.specs.Jobs.{Works}
 use Rattle.lapi_link.specs.declared.arrival.Arrival.{Arrival}
 use Rattle.lapi_link.specs.declared.arrival.Arrival.TheVariants.{Whole, Repeat, First, More, FirstWhole}
-use Rattle.lapi_link.specs.Receiver.{ReceivingEnd, ReceivesFor, MayArrive, is_partial, answer_of, arrival_of}
+use Rattle.lapi_link.specs.Receiver.{ReceivingEnd, ReceivesFor, MayArrive, MayTake, TakesOnce, is_partial, answer_of, arrival_of, whole_message}
 use Rattle.lapi_link.specs.Sender.{SendingEnd}
 use Rattle.lapi_task.specs.Answered.{completes_in, kept_pieces, job_in}
 use Rattle.lapi_task.specs.Outgoing.{with_message, AreSpelled}
@@ -115,12 +116,12 @@ pub record MayLeave (unit : ℕ) (x : Follower) : Type 0 where
   pub short : x.packet.length ≤ 64 * unit
   pub spelled : AreSpelled unit x.packet x.bytes
 
--- The message may land: its places, the places that it asks for and its counter are there, its origin may join the round
+-- A message with so many bytes may land: its places, the places that it asks for and its counter are there, its origin may join the round
 -- that it names, and what follows may leave.
-pub record HeadMayLand (unit t a : ℕ) (m : MsgName) (head : Head) (completion : Bool) (bytes memory counters : List ℕ) (collective : Collective) : Type 0 where
+pub record HeadMayLand (unit t a : ℕ) (m : MsgName) (head : Head) (completion : Bool) (len : ℕ) (memory counters : List ℕ) (collective : Collective) : Type 0 where
   pub direct : IsDirect head
-  pub pieces : AreWithin (head_pieces head (length bytes)) (length memory)
-  pub total : is_active head ≡ false → total_of (head_pieces head (length bytes)) ≡ length bytes
+  pub pieces : AreWithin (head_pieces head len) (length memory)
+  pub total : is_active head ≡ false → total_of (head_pieces head len) ≡ len
   pub asked : AreWithin (asked_pieces head) (length memory)
   pub counter : (c : ℕ) → announces head completion ≡ Some c → c < length counters
   pub joins : MayJoin a head collective
@@ -175,7 +176,7 @@ events_of count None = []
 
 abbrev pub ArrivalMayLand : (unit t a count : ℕ) → Option Message → (memory counters : List ℕ) → Collective → Type 0
 ArrivalMayLand unit t a count (Some m) memory counters collective =
-    HeadMayLand unit t a m.name m.head (completes_in count m.out) m.bytes memory counters collective
+    HeadMayLand unit t a m.name m.head (completes_in count m.out) (length m.bytes) memory counters collective
 ArrivalMayLand unit t a count None memory counters collective = Unit {0}
 
 -- task a joined the round that the message names, if one has come and it names one
@@ -210,18 +211,15 @@ kept_now _ now = None
 
 -- The end keeps the answer, and is as before but for it.
 pub record KeepsAnswer (m : MsgName) (now : Option HeaderOut) (before after : ReceivingEnd) : Type 0 where
+  pub numbers : after.window ≡ before.window
   pub stands : (script : Script) (packets : List Packet) → ReceivesFor script before packets → ReceivesFor script after packets
   pub own : answer_of after m ≡ option_or now (answer_of before m)
   pub others : (k : MsgName) → k ≢ m → answer_of after k ≡ answer_of before k
 
 -- the packet may come to the end of the link from task a
-pub record MayTake (ends : List ReceivingEnd) (a : ℕ) (p : DataPacket) : Type 0 where
-  pub end : ReceivingEnd
-  pub there : slice_get ends a ≡ Some end
-  pub script : Script
-  pub packets : List Packet
-  pub stands : ReceivesFor script end packets
-  pub fits : MayArrive script packets p
+pub record MayCome (ends : List ReceivingEnd) (a : ℕ) (p : DataPacket) : Type 0 where
+  pub there : a < length ends
+  pub takes : (end : ReceivingEnd) → slice_get ends a ≡ Some end → MayTake end p
 
 -- The end of the link from task a took the packet: what came of it, and what is answered now to an active message's
 -- first fragment, which is kept while others are missing.
@@ -231,6 +229,8 @@ pub record HasCome (before after : List ReceivingEnd) (a : ℕ) (p : DataPacket)
   pub end : ReceivingEnd
   pub ends : after ≡ slice_set before a end
   pub stands : (script : Script) (packets : List Packet) → ReceivesFor script old packets → MayArrive script packets p → ReceivesFor script mid (Data p ∷ packets)
+  pub once : TakesOnce old mid p arrival
+  pub message : IfSome (whole_message arrival) (IsMessageOf p.name p.head p.length)
   pub told : (script : Script) (packets : List Packet) → ReceivesFor script old packets → MayArrive script packets p → arrival ≡ arrival_of script packets p (answer_of old p.name)
   pub answers : (m : MsgName) → is_partial mid m ≡ true → answer_of mid m ≡ answer_of old m
   pub keeps : KeepsAnswer p.name (kept_now arrival now) mid end

@@ -9,6 +9,7 @@ pub mod HasJobs
 pub mod HasRounds
 pub mod Joining
 pub mod Landed
+pub mod MayReceive
 pub mod Outgoing
 pub mod Sends
 pub mod StandsFor

@@ -20,7 +20,7 @@ mod statement;
 mod task;
 mod unfinished;
 
-pub use law::tasks_stay_apart;
+pub use law::{tasks_stay_apart, wires_may_come};
 pub use outcome::Outcome;
 pub use received::Received;
 pub use task::Task;

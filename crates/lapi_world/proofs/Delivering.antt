@@ -21,7 +21,7 @@ use Rattle.lapi_link.specs.Sender.{SendingEnd}
 use Rattle.lapi_base.proofs.Spellings.{one_packet}
 use Rattle.lapi_parts.proofs.SpelledPackets.{packets-written}
 use Rattle.lapi_task.specs.declared.task.Task.{Task}
-use Rattle.lapi_task.specs.HasEffect.{IsOnWire}
+use Rattle.lapi_task.specs.MayReceive.{MayReceive, WiresMayCome}
 use Rattle.lapi_task.specs.StandsFor.{SenderAt}
 use Rattle.lapi_world.specs.declared.network.Network.{Network}
 use Rattle.lapi_world.specs.Stands.{TaskAt, Stands}
@@ -119,19 +119,10 @@ module _ (script : Script) (rules : Rules) where
         let some = some-packet (slice_get (r.wire a b) k) bytes (entry-is ∙ found) in
         (some.0, some.1, subst (Spells some.0) (sym some.2) (packets-written script rules r is perf valid-rules a b k some.0 some.1))
 
-    pub on-wire : ValidScript script → IsRecord script rules r → (bytes : List ℕ) → slice_get wire k ≡ Some bytes → (task : Task) → task ≡ get_or network.tasks.items b task → (p : Packet) → Spells p bytes → IsOnWire task a p
-    on-wire perf is bytes found task read p spells =
+    pub may-come : WiresMayCome → ValidScript script → IsRecord script rules r → (bytes : List ℕ) → slice_get wire k ≡ Some bytes → (task : Task) → task ≡ get_or network.tasks.items b task → (p : Packet) → Spells p bytes → MayReceive task a p
+    may-come law perf is bytes found task read p spells =
         let entry = entry-spells perf is bytes found in
-        record {
-          script = script;
-          rules = rules;
-          task = b;
-          run = r;
-          place = k;
-          at = task-read script rules r b network task is h lb read;
-          from_known = la;
-          entry = entry.1 ∙ ap Some (one_packet entry.0 p bytes entry.2 spells);
-        }
+        law script rules b task r a k p (task-read script rules r b network task is h lb read) (entry.1 ∙ ap Some (one_packet entry.0 p bytes entry.2 spells))
 
   hand-replies : (r : Run) (a b : ℕ) (p : Packet) → (hand_over script rules r a b p).replies ≡ r.replies
   unfolding hand_over

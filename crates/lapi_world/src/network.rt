@@ -22,7 +22,7 @@ use crate::wire::Wire;
 use lapi_base::{Act, Bytes, Entries, Event, Events, Memory, Reply, Script, WireEntry};
 use lapi_handlers::{Begun, Finished, Handlers};
 use lapi_packet::spelling_laws;
-use lapi_task::{Outcome, Received, Task, tasks_stay_apart};
+use lapi_task::{Outcome, Received, Task, tasks_stay_apart, wires_may_come};
 use std::alloc::Global;
 
 /// The tasks, the wires between them, and what happened so far.
@@ -170,6 +170,7 @@ impl Network {
         let Some(entry) = wire.entry(k) else {
             return Ok(Reply::Absent);
         };
+        wires_may_come();
         let mut out = Outcome::new(alloc);
         let task = &mut self.tasks[b as usize];
         task.receive(alloc, a, entry, handlers, &mut out)?;

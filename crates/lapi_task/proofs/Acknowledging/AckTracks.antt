@@ -1,7 +1,6 @@
 -- What is not done after an acknowledgement came.
-use Rattle.std.proofs.Common.{◌≡◌, ℕ, ◌+◌, ◌<◌, ◌≤◌, ◌==◌, Bool, true, false, ◌&&◌, not, List, length, get_or, Some, refl, sym, ap, ◌∙◌, subst, ⊎_elim, arith}
+use Rattle.std.proofs.Common.{◌≡◌, ℕ, ◌+◌, ◌<◌, ◌≤◌, ◌==◌, Bool, true, false, ◌&&◌, not, List, get_or, Some, refl, sym, ap, ◌∙◌, subst, ⊎_elim, arith}
 use Rattle.std.specs.Prelude.{slice_get, slice_index}
-use Rattle.std.specs.List.{AllByRecursion}
 use Rattle.std.proofs.lemmas.Bool.{and_left, and_right, cases_eq, cases_lt, eq-eqb, ne_eqb}
 use Rattle.lapi_base.specs.declared.script.Script.{Script}
 use Rattle.lapi_base.specs.declared.rule.Rules.{Rules}
@@ -12,14 +11,12 @@ use Rattle.lapi_base.specs.declared.packet.Packet.TheVariants.{Ack}
 use Rattle.lapi_base.specs.declared.schedule.Act.TheVariants.{Deliver}
 use Rattle.lapi_base.specs.Laws.Copying.{numbers_that, unacknowledged}
 use Rattle.lapi_base.specs.Record.Names.{message, happened, Issued, Copied}
-use Rattle.lapi_base.specs.Record.Operations.{statements, statement, is_data, has_back, receiver}
+use Rattle.lapi_base.specs.Record.Operations.{statement, is_data, has_back, receiver}
 use Rattle.lapi_base.specs.Record.Wires.{Run, numbered, covers, is_acked, has_ack}
 use Rattle.lapi_base.specs.Record.WorldView.{performed}
-use Rattle.lapi_base.proofs.ListLaws.{all-weaker}
 use Rattle.lapi_link.specs.Sender.{SendingEnd, newly_acked}
 use Rattle.lapi_parts.proofs.CopiedCounts.{count_in, uncopied-count, count-is, counted-same}
 use Rattle.lapi_parts.proofs.LocalQuestions.{by_points}
-use Rattle.lapi_parts.proofs.Records.{record-sound}
 use Rattle.lapi_parts.proofs.UnackedCounts.{done-is, acks-lower}
 use Rattle.lapi_window.specs.NumberSet.{is_covered}
 use Rattle.lapi_window.specs.SendWindow as window
@@ -31,7 +28,7 @@ use Rattle.lapi_collect.specs.Outstanding.{is_open}
 use Rattle.lapi_task.proofs.Acknowledging.ArrivingAcks.{noted, delivered, handed-other, here, covers-sent}
 use Rattle.lapi_task.proofs.Receiving.ReceiveHolds.{delivers}
 use Rattle.lapi_task.proofs.Acknowledging.TimesLaws.{HasTaken, still, still-none, still-some, still-last}
-use Rattle.lapi_task.proofs.Acknowledging.UnfinishedAcks.{newly, counted, uncounted, elsewhere, tags-known}
+use Rattle.lapi_task.proofs.Acknowledging.UnfinishedAcks.{newly, counted, uncounted, elsewhere}
 use Rattle.lapi_task.proofs.Acknowledging.UnfinishedLaws.{done-back}
 use Rattle.lapi_task.specs.Sends.{SendsFor}
 
@@ -100,24 +97,7 @@ module _ (script : Script) (rules : Rules) (r : Run) (from t k x y base bits : �
   less : (i : ℕ) → has_back (statement script t i) ≡ false → unacknowledged script rules then t i + times i told ≡ unacknowledged script rules r t i
   less i none = ap (λ n. unacknowledged script rules then t i + n) (times-is i none) ∙ lowered i
 
-  -- What the end tells of is known, and of each statement no more than is left.
   module _ (u : Unfinished) (h : Tracks script rules t u r) where
-    pub tags-are-known : AllByRecursion (λ i. (i < length u.left) × (i < length u.undone)) told
-    tags-are-known =
-        all-weaker (λ i. i < length (statements script t)) (λ i. (i < length u.left) × (i < length u.undone)) (λ i l. let a = h.size.0 in let b = h.size.1 in (omega (arith, l, b), omega (arith, l, a))) told
-        (tags-known script t rules from J end sends.numbers.numbers sends.tags base bits sent (record-sound script rules r at.recorded).atomic)
-
-    pub tags-are-left : (i : ℕ) → times i told ≤ slice_index u.left i
-    tags-are-left i =
-        elim (has_back (statement script t i)) as (λ b. has_back (statement script t i) ≡ b → times i told ≤ slice_index u.left i) [
-          | true ↦ λ e. let z = times-none i e in omega (arith, z)
-          | false ↦ λ e. either i e (happened (Copied (message t i Go)) J) refl
-        ] refl
-      where
-        either : (i : ℕ) → has_back (statement script t i) ≡ false → (c : Bool) → happened (Copied (message t i Go)) J ≡ c → times i told ≤ slice_index u.left i
-        either i none true d = let a = less i none in let b = h.left i none d in omega (arith, a, b)
-        either i none false d = let z = uncopied i none d in omega (arith, z)
-
     module _ (after : Unfinished) (g : HasTaken u after told) where
       abbrev unfinished-by : (d i c : Bool) (n : ℕ) → Bool
       unfinished-by d i c n = d && (i && not (c && n == 0))

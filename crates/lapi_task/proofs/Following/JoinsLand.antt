@@ -34,7 +34,7 @@ use Rattle.lapi_base.specs.Record.WorldView.{IsRecord}
 use Rattle.lapi_base.proofs.BelowLaws.{below-member}
 use Rattle.lapi_base.proofs.NameLaws.{happened-other}
 use Rattle.lapi_base.proofs.TestLaws.{eqb-refl}
-use Rattle.lapi_collect.specs.Rounds.{Joins, joined}
+use Rattle.lapi_collect.specs.Rounds.{Joins}
 use Rattle.lapi_laws.proofs.Backward.{Atomic-head}
 use Rattle.lapi_parts.proofs.Deliveries.{facts}
 use Rattle.lapi_parts.proofs.JoinedRounds.{joins-its-round, joins-no-other}

@@ -21,7 +21,6 @@ use Rattle.lapi_base.specs.Record.Counters.{reads}
 use Rattle.lapi_base.specs.Record.Handlers.{has_completion}
 use Rattle.lapi_base.specs.Record.Jobs.{runs}
 use Rattle.lapi_base.specs.Record.Names.{message, leg_eq, name_eq, Issued, Entered, Copied, happened}
-use Rattle.lapi_base.specs.Record.Operations.{statement}
 use Rattle.lapi_base.specs.Record.Wires.{has_number}
 use Rattle.lapi_base.specs.Record.Acts.{followed}
 use Rattle.lapi_base.specs.Record.Refusals.{next, refusals}

@@ -1,9 +1,9 @@
 -- What the delivery of a data packet makes of its task.
-use Rattle.std.proofs.Common.{◌≡◌, ◌+◌, ◌≤◌, ℕ, ◌<◌, ◌==◌, Bool, true, false, cond, ◌&&◌, ◌||◌, List, [], ◌∷◌, ◌++◌, map, length, slice_set, Option, Some, None, refl, sym, ap, ◌∙◌, subst, ⊎_elim, arith, append_assoc}
+use Rattle.std.proofs.Common.{◌≡◌, ◌≤◌, ℕ, ◌<◌, ◌==◌, Bool, true, false, cond, ◌&&◌, ◌||◌, not, List, [], ◌∷◌, ◌++◌, map, length, slice_set, Option, Some, None, refl, sym, ap, ◌∙◌, subst, ⊎_elim, arith, append_assoc}
 use Rattle.std.specs.Prelude.{slice_get}
 use Rattle.std.specs.List.{list_any}
 use Rattle.std.specs.Option.{option_or}
-use Rattle.std.proofs.lemmas.Bool.{cond-true, cond-false, cond_both, cases_eq, and_from, and_left, and_right, and_parts, ne_eqb}
+use Rattle.std.proofs.lemmas.Bool.{cond-true, cond-false, cond_both, cases_eq, and_from, and_left, and_right, and_parts, not-true, ne_eqb}
 use Rattle.std.specs.Vec.{with_items}
 use Rattle.std.specs.declared.vec.Vec.{Vec}
 use Rattle.std.proofs.lemmas.List.{append-nil, length-set, map-append, with_items_is}
@@ -29,11 +29,13 @@ use Rattle.lapi_base.specs.Record.Acts.{followed, hand_over, deliver_entry, deli
 use Rattle.lapi_base.specs.Record.Valid.{ValidScript}
 use Rattle.lapi_base.specs.declared.layout.TheConstants.{LONGEST_ACTIVE}
 use Rattle.lapi_base.specs.Packet.PacketBytes as written
-use Rattle.lapi_base.proofs.ListLaws.{get-set, get-set-other}
+use Rattle.lapi_base.proofs.ListLaws.{get-set, get-set-other, some-same}
 use Rattle.lapi_base.proofs.TestLaws.{eqb-refl}
 use Rattle.lapi_laws.proofs.Lines.{deliver-sound}
 use Rattle.lapi_reassembly.specs.declared.message.Message.{Message}
-use Rattle.lapi_link.specs.Receiver.{ReceivingEnd, ReceivesFor, MayArrive, answer_of, arrival_of}
+use Rattle.lapi_link.specs.Receiver.{ReceivingEnd, ReceivesFor, MayArrive, WhatArrivesMayBeTaken, WholeIsComplete, gathered_with, answer_of, arrival_of}
+use Rattle.lapi_reassembly.specs.Partial.{is_whole}
+use Rattle.lapi_window.specs.RecvWindow.{is_taken}
 use Rattle.lapi_link.specs.Sender.{entries_to}
 use Rattle.lapi_parts.proofs.ArrivingPackets.{arrivals-told, next-acks-told}
 use Rattle.lapi_parts.proofs.Records.{record-sound}
@@ -41,7 +43,8 @@ use Rattle.lapi_task.specs.declared.outcome.Outcome.{Outcome}
 use Rattle.lapi_task.specs.declared.task.Task.{Task}
 use Rattle.lapi_task.specs.Acknowledging.{ReceivesAt, HasTaken, answer}
 use Rattle.lapi_task.specs.HasEffect.{IsAt, HasEffect, bytes_to}
-use Rattle.lapi_task.specs.Landed.{IsDirect, Follower, follower, MayLeave, MayCall, called, is_first, kept_now, ends_after, events_of, ArrivalMayLand, HasArrived, MayTake, HasCome, landed}
+use Rattle.lapi_task.specs.Landed.{IsDirect, Follower, follower, MayLeave, MayCall, HeadMayLand, called, is_first, kept_now, ends_after, events_of, HasArrived, HasCome, landed}
+use Rattle.lapi_task.specs.MayReceive.{DataFits}
 use Rattle.lapi_task.specs.Answered.{KeepsAnswers, completes_in}
 use Rattle.lapi_task.specs.declared.state.State.{State}
 use Rattle.lapi_task.specs.HasRounds.{MayJoin}
@@ -49,15 +52,14 @@ use Rattle.lapi_task.specs.StandsFor.{task_unit}
 use Rattle.lapi_task.proofs.Copying.CopyLaws.{unit-is}
 use Rattle.lapi_task.proofs.Receiving.ReceiveHolds.{Lands}
 use Rattle.lapi_base.specs.Packet.Layout.{layout_of, unit, unit_of, longest_of, longest_active_of, longest_active as most_active}
-use Rattle.lapi_parts.proofs.FirstLayout.{first-unit}
 use Rattle.lapi_task.specs.StandsFor.{SenderAt, ReceiverAt}
 use Rattle.lapi_task.proofs.Receiving.ArrivingFits.{arriving-fits}
 use Rattle.lapi_task.proofs.Following.HeaderAnswers.{is-told}
 use Rattle.lapi_task.proofs.Receiving.ReceiveEvents.{come, come-is, come-told, come-events, first-is, is_opening, came_bytes}
-use Rattle.lapi_task.proofs.Receiving.ReceiveHolds.{came-length, holds-arrived, answer_now, handlers_now, lands_now, events_now}
+use Rattle.lapi_task.proofs.Receiving.ReceiveHolds.{holds-arrived, answer_now, handlers_now, lands_now, events_now}
 use Rattle.lapi_task.proofs.Receiving.ReceiveKinds.{Comes, comes as what-comes, there-is, direct-is}
 use Rattle.lapi_task.proofs.Following.Followers.{Follows, follower-is, follower-leaves}
-use Rattle.lapi_task.proofs.Receiving.ReceiveSuits.{suits-come}
+use Rattle.lapi_task.proofs.Receiving.ReceiveSuits.{suits-head}
 use Rattle.lapi_task.proofs.Receiving.ReceiveLinks.{told, Settled, ends-come, ends-length}
 use Rattle.lapi_task.proofs.Sending.SenderLaws.{bytes-here, bytes-there}
 use Rattle.lapi_task.proofs.Following.JoinsLand.{head-joins, joins-may}
@@ -65,8 +67,8 @@ use Rattle.lapi_task.proofs.Standing.KeptAnswers.{kept-by, kept-before, still-ke
 use Rattle.lapi_task.proofs.Stepping.StepMemories.{memory-length}
 use Rattle.lapi_parts.proofs.FirstLayout.{holds-nothing, told-at-once}
 use Rattle.lapi_task.specs.declared.unfinished.Unfinished.{Unfinished}
-use Rattle.lapi_task.specs.Unfinished.{flags_landed, IsOfStatement, Tracks}
-use Rattle.lapi_task.proofs.Receiving.ArrivingData.{IsOwnAnswer, own-answer, come-of, tracks-come}
+use Rattle.lapi_task.specs.Unfinished.{flags_landed, Tracks}
+use Rattle.lapi_task.proofs.Receiving.ArrivingData.{IsOwnAnswer, own-answer, tracks-come}
 
 -- What has changed only in its receiving ends.
 pub record KeepsRest (before after : Task) : Type 0 where
@@ -183,9 +185,6 @@ module _ (script : Script) (rules : Rules) where
     end-there : (end : ReceivingEnd) × (slice_get task.receivers.items a ≡ Some end) × (ReceivesFor script end (r.handed a t) × KeepsAnswers rules end)
     end-there = receiver-there script rules (r.handed a t) (slice_get task.receivers.items a) (at.stands.receivers a known_task)
 
-    pub may-take : MayTake task.receivers.items a p
-    may-take = record { end = end-there.0; there = end-there.1; script = script; packets = r.handed a t; stands = end-there.2.0; fits = fits }
-
     pub may-call : MayCall p
     may-call =
         let valid = at.stands.calls.valid in
@@ -245,15 +244,34 @@ module _ (script : Script) (rules : Rules) where
         (subst (λ b. Atomic script rules (followed r.journal (called first p.name p.head ++ events_of count (come b p.name p.head bytes out)))) whole atomic)
         known_task packet-comes.fits.head (head-joins script rules t r at.recorded a k p entry) at.stands.holds.rounds
 
-    pub room-there : (mid : Task) → KeepsRest task mid → task_unit mid ≤ 256
-    room-there mid g = let e = unit-then mid g in let u = first-unit script at.stands.calls.valid in omega (arith, e, u)
-
-    pub link-there : (mid : Task) → KeepsRest task mid → a < length mid.senders.items
-    link-there mid g = let n = ap length g.senders ∙ at.stands.sender_count in let l = known_task in omega (arith, n, l)
-
     -- an answer is of the task's own statement
     own-answers : IsOwnAnswer script rules t p.name
     own-answers = let f = packet-comes.facts in own-answer script rules t p.name r.journal f.atomic f.copied f.leg f.place
+
+    -- where all of its message has come, that may land
+    may-land : completes script rules r a t p ≡ true → (later : Bool) → HeadMayLand (task_unit task) task.state.number a p.name p.head later p.length task.state.memory task.state.counters task.state.collective
+    may-land whole later =
+        let h = at.stands.holds in
+        let there = there-is script rules p.head p.length packet-comes.kind packet-comes.fits.head in
+        subst (λ u. HeadMayLand u task.state.number a p.name p.head later p.length task.state.memory task.state.counters task.state.collective) (sym (unit-is script rules t task at.stands.calls))
+        (subst (λ n. HeadMayLand (unit_of script) n a p.name p.head later p.length task.state.memory task.state.counters task.state.collective) (sym h.number)
+        (suits-head script rules (unit_of script) t a p.name p.head later p.length task.state.memory task.state.counters task.state.collective direct there (ap length h.memory ∙ memory-length script rules r.journal t) h.counter_count (joins whole) (leaves later whole)))
+
+    -- the packet fits what the task has
+    module _ (may-take : WhatArrivesMayBeTaken) (whole-is : WholeIsComplete) where
+      pub data-fits : (end : ReceivingEnd) → slice_get task.receivers.items a ≡ Some end → DataFits task a p end
+      data-fits end here =
+          let same : end-there.0 ≡ end = some-same end-there.0 end (sym end-there.1 ∙ here) in
+          let receives = subst (λ x. ReceivesFor script x (r.handed a t)) same end-there.2.0 in
+          record {
+            take = may-take script end (r.handed a t) p receives fits;
+            call = may-call;
+            own = λ back. subst (λ n. p.name.statement < n) (sym (ap length at.stands.calls.statements)) (own-answers back).1;
+            lands = λ last.
+                let both = and_parts (not (is_taken end.window p.seq)) (is_whole (gathered_with end.partials p)) last in
+                let absent = not-true (is_taken end.window p.seq) both.0 in
+                may-land (and_from (not (is_delivered r a t p.seq)) _ (ap not (sym (receives.taken p.seq) ∙ absent)) (sym (whole-is script end (r.handed a t) p receives fits absent) ∙ both.1));
+          }
 
     -- the task with what is not done then
     abbrev pub with_unfinished : Task → Unfinished → Task
@@ -279,32 +297,8 @@ module _ (script : Script) (rules : Rules) where
       came-some : came ≡ come (completes script rules r a t p) p.name p.head (came_bytes script (r.handed a t) p) given
       came-some = own.whole ∙ ap (landed now) arrival-told ∙ come-is script (r.handed a t) p (answer_of end-there.0 p.name) now
 
-      -- it may land, whatever was answered
-      pub suits-arrival : (count : ℕ) → ArrivalMayLand (task_unit mid) mid.state.number a count came mid.state.memory mid.state.counters mid.state.collective
-      suits-arrival count =
-          let h = at.stands.holds in
-          let c = packet-comes in
-          let some = come (completes script rules r a t p) p.name p.head (came_bytes script (r.handed a t) p) given in
-          subst (λ x. ArrivalMayLand (task_unit mid) mid.state.number a count x mid.state.memory mid.state.counters mid.state.collective) (sym came-some)
-          (subst (λ (x : State). ArrivalMayLand (task_unit mid) x.number a count some x.memory x.counters x.collective) (sym g.state)
-          (subst (λ n. ArrivalMayLand (task_unit mid) n a count some task.state.memory task.state.counters task.state.collective) (sym h.number)
-          (subst (λ u. ArrivalMayLand u t a count some task.state.memory task.state.counters task.state.collective) (sym (unit-then mid g))
-          (suits-come script rules (unit_of script) t a count (completes script rules r a t p) p.name p.head p.length (came_bytes script (r.handed a t) p) given task.state.memory task.state.counters task.state.collective
-          direct
-          (there-is script rules p.head p.length c.kind c.fits.head)
-          (λ whole. came-length script rules t r a p c (and_parts _ _ whole).1)
-          (ap length h.memory ∙ memory-length script rules r.journal t)
-          h.counter_count
-          joins
-          (leaves (completes_in count given))))))
-
       unfinished-same : (count : ℕ) (after : Task) (new : List Event) → HasArrived a count came mid after during new → after.unfinished ≡ task.unfinished
       unfinished-same count after new h = ap (λ (x : Task). x.unfinished) h.rest ∙ g.unfinished
-
-      pub is-of-statement : (count : ℕ) (after : Task) (new : List Event) → HasArrived a count came mid after during new → IsOfStatement came (length after.unfinished.undone)
-      is-of-statement count after new h =
-          subst (λ o. IsOfStatement o (length after.unfinished.undone)) (sym came-some)
-          (come-of script rules t (completes script rules r a t p) p.name p.head (came_bytes script (r.handed a t) p) given (length after.unfinished.undone) (ap (λ (x : Unfinished). length x.undone) (unfinished-same count after new h) ∙ at.stands.unfinished.size.0) own-answers)
 
       stands-end : ReceivesFor script own.end (Data p ∷ r.handed a t)
       stands-end = own.keeps.stands script (Data p ∷ r.handed a t) stands-mid

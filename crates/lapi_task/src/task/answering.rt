@@ -1,5 +1,5 @@
 //! How a task answers what it took, and what it notes of the answers of others.
-ghost use Rattle.std.specs.Prelude.{◌≡◌, ℕ, ◌<◌, [], ◌∷◌, ◌++◌, List, OnOk, slice_get, Some};
+ghost use Rattle.std.specs.Prelude.{◌≡◌, ℕ, ◌<◌, ◌^◌, [], ◌∷◌, ◌++◌, List, OnOk, slice_get, Some};
 ghost use Rattle.lapi_base.specs.declared.rule.Rules.{Rules};
 ghost use Rattle.lapi_base.specs.declared.script.Script.{Script};
 ghost use Rattle.lapi_base.specs.declared.packet.Packet.{Packet as ThePacket};
@@ -7,8 +7,9 @@ ghost use Rattle.lapi_base.specs.declared.packet.Packet.TheVariants.{Ack};
 ghost use Rattle.lapi_base.specs.Record.Wires.{Run};
 ghost use Rattle.lapi_base.specs.Record.Acts.{deliver};
 ghost use Rattle.lapi_task.specs.declared.outcome.Outcome.{Outcome};
-ghost use Rattle.lapi_task.specs.Acknowledging.{HasTaken, answer};
-ghost use Rattle.lapi_task.specs.HasEffect.{IsAt, HasEffect, IsOnWire};
+ghost use Rattle.lapi_task.specs.Acknowledging.{MayAnswer, HasTaken, answer};
+ghost use Rattle.lapi_task.specs.HasEffect.{IsAt, IsAtSome, HasEffect};
+ghost use Rattle.lapi_task.specs.MayReceive.{MayReceive};
 
 use crate::packet::spelled;
 use crate::task::Task;
@@ -23,24 +24,21 @@ impl Task {
         from: u32,
         entries: &mut Entries,
     ) -> Result<(), Memory>
-        requires { (script : Script) × (t : ℕ) × (ps : List ThePacket) × HasTaken script t self.now from ps }
+        requires { MayAnswer self.now from }
         ensures { OnOk result ((script : Script) (t : ℕ) (ps : List ThePacket) → HasTaken script t self.now from ps
             → entries.new ≡ entries.old ++ answer script ps from t ∷ []) }
     {
         let (base, bits) = self.receivers[from as usize].ack();
-        let packet = Packet::Ack {
-            from: self.state.number,
-            to: from,
-            base,
-            bits: bits as u32,
-        };
+        let bits = bits as u32;
+        let packet = acknowledgement(self.state.number, from, base, bits);
         let bytes = spelled(alloc, &packet)?;
         entries.push(WireEntry { to: from, bytes })
     }
 
     /// Notes an acknowledgement that came from task `from`.
     pub(super) fn acknowledged(&mut self, from: u32, base: u32, bits: u32)
-        requires { (x : ℕ) × (y : ℕ) × IsOnWire self.old from (Ack x y base bits) }
+        requires stands { IsAtSome self.old }
+        requires may { (x : ℕ) × (y : ℕ) × MayReceive self.old from (Ack x y base bits) }
         ensures { (script : Script) (rules : Rules) (t k x y : ℕ) (r : Run) (out : Outcome)
             → IsAt script rules t self.old r → from < script.tasks
             → slice_get (r.wire from t) k ≡ Some (Ack x y base bits)
@@ -48,5 +46,18 @@ impl Task {
     {
         let tags = self.senders[from as usize].acked(base, bits as u64);
         self.unfinished.acknowledged(tags.as_slice());
+    }
+}
+
+/// The packet by which one task tells another what it has taken.
+fn acknowledgement(from: u32, to: u32, base: u32, bits: u32) -> Packet
+    ensures packet { result ≡ Ack from to base bits }
+    ensures small { (base < 2 ^ 32) × (bits < 2 ^ 32) }
+{
+    Packet::Ack {
+        from,
+        to,
+        base,
+        bits,
     }
 }

@@ -11,8 +11,9 @@ ghost use Rattle.lapi_base.specs.Packet.Spelling.{Spells, decoded};
 ghost use Rattle.lapi_handlers.specs.Handlers.{rules_of};
 ghost use Rattle.lapi_link.specs.Receiver.{ReceivingEnd};
 ghost use Rattle.lapi_task.specs.Answered.{answer_to};
-ghost use Rattle.lapi_task.specs.HasEffect.{IsAt, HasEffect, IsOnWire, received_as};
-ghost use Rattle.lapi_task.specs.Landed.{ArrivalMayLand, HasArrived, MayTake, MayCall, HasCome};
+ghost use Rattle.lapi_task.specs.HasEffect.{IsAt, IsAtSome, HasEffect, received_as};
+ghost use Rattle.lapi_task.specs.Landed.{ArrivalMayLand, HasArrived, MayCome, MayCall, HasCome};
+ghost use Rattle.lapi_task.specs.MayReceive.{MayReceive};
 ghost use Rattle.lapi_task.specs.StandsFor.{task_unit};
 ghost use Rattle.lapi_base.specs.declared.layout.TheConstants.{PAYLOAD_ROOM};
 
@@ -40,7 +41,8 @@ impl Task {
         handlers: &Handlers,
         out: &mut Outcome,
     ) -> Result<Received, Memory>
-        requires { (p : ThePacket) → Spells p bytes.now → IsOnWire self.old from p }
+        requires stands { (p : ThePacket) → Spells p bytes.now → IsAtSome self.old }
+        requires may { (p : ThePacket) → Spells p bytes.now → MayReceive self.old from p }
         ensures refused { (bad : Bad) → decoded bytes.now ≡ Err bad → (result ≡ Ok (Received.Refused bad))
             × (self.new ≡ self.old) × (out.new ≡ out.old) }
         ensures kind { IfOk result (λ received. received ≡ received_as (decoded bytes.now)) }
@@ -71,7 +73,8 @@ impl Task {
         handlers: &Handlers,
         out: &mut Outcome,
     ) -> Result<(), Memory>
-        requires { IsOnWire self.old from (Data packet.now) }
+        requires stands { IsAtSome self.old }
+        requires may { MayReceive self.old from (Data packet.now) }
         ensures { OnOk result ((script : Script) (t k : ℕ) (r : Run)
             → let rules = rules_of handlers.now in IsAt script rules t self.old r → from < script.tasks
             → slice_get (r.wire from t) k ≡ Some (Data packet.now)
@@ -158,7 +161,7 @@ fn take(
     handlers: &Handlers,
     events: &mut Events,
 ) -> Result<Option<Message>, Memory>
-    requires take { MayTake receivers.old from packet.now }
+    requires come { MayCome receivers.old from packet.now }
     requires call { MayCall packet.now }
     ensures { IfOk result (λ message. (end : ReceivingEnd) → slice_get receivers.old from ≡ Some end
         → HasCome receivers.old receivers.new from packet.now (answer_to (rules_of handlers.now) packet.now.name

@@ -6,8 +6,11 @@ use Rattle.lapi_task.specs.declared.received.Received.TheVariants as received
 use Rattle.lapi_world.proofs.Refusing.{is-refused, none-spelled}
 use Rattle.lapi_world.proofs.network.refuse.Goals as goal
 
-pub receive-requires : goal.receive-requires
-receive-requires g c = λ p spells. absurd (none-spelled c.args.bytes.now p c.requires (c.spelling_laws.ensures.round_trip p c.args.bytes.now spells))
+pub receive-requires-clause-stands : goal.receive-requires-clause-stands
+receive-requires-clause-stands g c = λ p spells. absurd (none-spelled c.args.bytes.now p c.requires (c.spelling_laws.ensures.round_trip p c.args.bytes.now spells))
+
+pub receive-requires-clause-may : goal.receive-requires-clause-may
+receive-requires-clause-may g c = λ p spells. absurd (none-spelled c.args.bytes.now p c.requires (c.spelling_laws.ensures.round_trip p c.args.bytes.now spells))
 
 pub returns-in_err-bad : goal.returns-in_err-bad
 returns-in_err-bad g c =

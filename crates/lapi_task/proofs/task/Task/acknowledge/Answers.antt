@@ -1,21 +1,28 @@
-use Rattle.std.proofs.Common.{◌<◌, ◌^◌, ◌+◌, sym, subst}
-use Rattle.lapi_base.specs.Packet.Layout.{window_of}
-use Rattle.lapi_base.specs.Record.Wires.{has_number}
-use Rattle.lapi_base.specs.Record.Arrived.{least_number}
+use Rattle.std.proofs.Common.{◌<◌, ◌^◌, ◌+◌, sym, ap, ◌∙◌, subst}
+use Rattle.lapi_base.specs.Packet.PacketBytes as written
+use Rattle.lapi_base.specs.declared.packet.Packet.TheVariants.{Ack}
+use Rattle.lapi_base.specs.Packet.Spelling.{HasSpelling}
+use Rattle.lapi_window.specs.RecvWindow.{is_taken, base_of}
 use Rattle.lapi_base.proofs.BitLaws.{bits_of-small}
-use Rattle.lapi_task.proofs.Following.AnswerLaws.{answers-for, answer-spelled, answer-put}
-use Rattle.lapi_task.proofs.task.Task.acknowledge.Goals as goal
+use Rattle.lapi_base.proofs.ListLaws.{found-at}
 use Rattle.lapi_base.proofs.Results.{on-ok}
+use Rattle.lapi_parts.proofs.SpelledPackets.{acknowledgement-spelled}
+use Rattle.lapi_task.proofs.Following.AnswerLaws.{answer-put}
+use Rattle.lapi_task.proofs.task.Task.acknowledge.Goals as goal
 
-pub overflow_cast-packet : goal.overflow_cast-packet
-overflow_cast-packet c =
-    let x = c.requires in
-    let receives = answers-for x.0 x.1 c.args.self.now c.args.from x.2 x.3 c.index.result.now c.index.ensures in
-    let bits = (c.ack-base.ensures.packets x.0 x.2 receives.1).1 in
-    record { fits = subst (λ n. n < 2 ^ 32) (sym bits) (bits_of-small (window_of x.0) (λ i. has_number x.2 (least_number x.2 + i)) receives.0) }
+pub overflow_cast-bits : goal.overflow_cast-bits
+overflow_cast-bits c =
+    let end = c.index.result.now in
+    let few = c.requires.window end (found-at c.args.self.now.receivers.items c.args.from end c.requires.there c.index.ensures) in
+    record { fits = subst (λ n. n < 2 ^ 32) (sym c.ack-base.ensures.bits) (bits_of-small end.window.window (λ i. is_taken end.window (base_of end.window + i)) few) }
 
 pub spelled-requires : goal.spelled-requires
-spelled-requires c = let x = c.requires in answer-spelled x.0 x.1 c.args.self.now c.args.from x.2 x.3 c.index.result.now c.index.ensures c.ack-base.result.0 c.ack-base.result.1 (c.ack-base.ensures.packets x.0 x.2)
+spelled-requires c =
+    let number = c.args.self.now.state.number in
+    let base = c.ack-base.result.0 in
+    let bits = c.ack-base.result.1 in
+    subst HasSpelling (sym c.acknowledgement-packet.ensures.packet)
+    (written.packet (Ack number c.args.from base bits), acknowledgement-spelled number c.args.from base bits c.requires.own c.requires.other c.acknowledgement-packet.ensures.small.0 c.acknowledgement-packet.ensures.small.1 c.ack-base.ensures.fits.1)
 
 pub returns : goal.returns
-returns c = on-ok _ _ c.push.result (λ put script t ps taken. answer-put script t c.args.self.now c.args.from ps taken c.index.result.now c.index.ensures c.ack-base.result.0 c.ack-base.result.1 (c.ack-base.ensures.packets script ps) c.args.entries.now c.push.new.self c.in_ok-bytes.bytes c.in_ok-bytes.ensures.bytes put) c.push.ensures.ok
+returns c = on-ok _ _ c.push.result (λ put script t ps taken. answer-put script t c.args.self.now c.args.from ps taken c.index.result.now c.index.ensures c.ack-base.result.0 c.ack-base.result.1 (c.ack-base.ensures.packets script ps) c.args.entries.now c.push.new.self c.in_ok-bytes.bytes (c.in_ok-bytes.ensures.bytes ∙ ap written.packet c.acknowledgement-packet.ensures.packet) put) c.push.ensures.ok

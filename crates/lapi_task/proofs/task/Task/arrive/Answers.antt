@@ -1,59 +1,72 @@
-use Rattle.std.proofs.Common.{◌∷◌, length, refl, sym, subst}
+use Rattle.std.proofs.Common.{◌≡◌, ◌∷◌, length, refl, sym, ap, ◌∙◌, subst}
 use Rattle.std.specs.Vec.{with_items}
 use Rattle.lapi_base.specs.declared.packet.Packet.TheVariants.{Data}
+use Rattle.lapi_base.proofs.ListLaws.{get-some}
 use Rattle.lapi_base.proofs.Results.{on-ok}
 use Rattle.lapi_handlers.specs.Handlers.{rules_of}
 use Rattle.lapi_task.specs.declared.task.Task.{Task}
 use Rattle.lapi_task.specs.Answered.{answer_to}
-use Rattle.lapi_task.specs.Landed.{MayTake}
-use Rattle.lapi_task.proofs.Receiving.ReceiveLaws.{KeepsRest, Takes, takes-over, may-take, may-call, suits-arrival, has-taken, has-taken-still, is-of-statement, arrived-does}
+use Rattle.lapi_task.specs.Landed.{MayCome}
+use Rattle.lapi_task.proofs.Receiving.ReceiveLaws.{KeepsRest, Takes, takes-over, has-taken, has-taken-still, arrived-does}
+use Rattle.lapi_task.proofs.Receiving.MayCome.{may-land-now, of-statement, as-wide, may-answer, receiver-there}
 use Rattle.lapi_task.proofs.task.Task.arrive.Goals as goal
 
-pub take-requires-clause-take : goal.take-requires-clause-take
-take-requires-clause-take g c =
-    let x = c.requires in
-    subst (λ ends. MayTake ends c.args.from c.args.packet.now) (sym c.deref_mut.ensures.value) (may-take x.script x.rules x.task x.run c.args.self.now x.at c.args.from x.place x.from_known c.args.packet.now x.entry)
+pub take-requires-clause-come : goal.take-requires-clause-come
+take-requires-clause-come g c =
+    let task = c.args.self.now in
+    let a = c.args.from in
+    let fits = c.requires.may.fits in
+    subst (λ ends. MayCome ends a c.args.packet.now) (sym c.deref_mut.ensures.value)
+    (record { there = receiver-there task c.requires.stands a c.requires.may.known; takes = λ end here. (fits end here).take })
 
 pub take-requires-clause-call : goal.take-requires-clause-call
 take-requires-clause-call g c =
-    let x = c.requires in
-    may-call x.script x.rules x.task x.run c.args.self.now x.at c.args.from x.place x.from_known c.args.packet.now x.entry
+    let task = c.args.self.now in
+    let a = c.args.from in
+    let end = get-some task.receivers.items a (receiver-there task c.requires.stands a c.requires.may.known) in
+    (c.requires.may.fits end.0 end.1).call
 
 pub take_effect-requires-clause-allowed : goal.take_effect-requires-clause-allowed
 take_effect-requires-clause-allowed g c =
-    let x = c.requires in
     let task = c.args.self.now in
     let a = c.args.from in
     let p = c.args.packet.now in
     let now = answer_to (rules_of c.args.handlers.now) p.name p.head p.length in
+    let end = get-some task.receivers.items a (receiver-there task c.requires.stands a c.requires.may.known) in
     let mid : Task = record task { receivers = with_items task.receivers c.take.new.receivers } in
-    let keeps : KeepsRest task mid = record { sizes = refl; statements = refl; limits = refl; rounds = refl; state = refl; unfinished = refl; senders = refl } in
     let takes : Takes a p now c.in_ok-message.message c.args.out.now.events c.take.new.events task.receivers.items mid.receivers.items = takes-over task.receivers a p now c.in_ok-message.message c.args.out.now.events c.take.new.events c.deref_mut.result.now c.take.new.receivers c.deref_mut.ensures.value c.in_ok-message.ensures in
-    suits-arrival x.script x.rules x.task x.run task x.at a x.place x.from_known p x.entry mid keeps now c.in_ok-message.message c.args.out.now.events c.take.new.events takes (length (rules_of c.args.handlers.now).completions)
+    may-land-now task a p end.0 (c.requires.may.fits end.0 end.1) now c.in_ok-message.message task.receivers.items mid.receivers.items c.args.out.now.events c.take.new.events (takes end.0 end.1) (length (rules_of c.args.handlers.now).completions)
 
 pub arrived-requires : goal.arrived-requires
 arrived-requires g c =
-    let x = c.requires in
     let task = c.args.self.now in
     let a = c.args.from in
     let p = c.args.packet.now in
     let now = answer_to (rules_of c.args.handlers.now) p.name p.head p.length in
+    let end = get-some task.receivers.items a (receiver-there task c.requires.stands a c.requires.may.known) in
     let mid : Task = record task { receivers = with_items task.receivers c.take.new.receivers } in
-    let keeps : KeepsRest task mid = record { sizes = refl; statements = refl; limits = refl; rounds = refl; state = refl; unfinished = refl; senders = refl } in
     let takes : Takes a p now c.in_ok-message.message c.args.out.now.events c.take.new.events task.receivers.items mid.receivers.items = takes-over task.receivers a p now c.in_ok-message.message c.args.out.now.events c.take.new.events c.deref_mut.result.now c.take.new.receivers c.deref_mut.ensures.value c.in_ok-message.ensures in
-    is-of-statement x.script x.rules x.task x.run task x.at a x.place x.from_known p x.entry mid keeps now c.in_ok-message.message c.args.out.now.events c.take.new.events takes (length (rules_of c.args.handlers.now).completions) c.take_effect.new.self c.take_effect.new.events c.in_ok-take_effect.ensures
+    let undone = c.take_effect.new.self.unfinished.undone in
+    let same : length undone ≡ length task.unfinished.undone = ap (λ (x : Task). length x.unfinished.undone) c.in_ok-take_effect.ensures.rest in
+    let size : length task.unfinished.undone ≡ length task.statements = c.requires.stands.4.stands.unfinished.size.0 ∙ sym (ap length c.requires.stands.4.stands.calls.statements) in
+    of-statement task a p end.0 (c.requires.may.fits end.0 end.1) now c.in_ok-message.message task.receivers.items mid.receivers.items c.args.out.now.events c.take.new.events (takes end.0 end.1) (length undone) (same ∙ size)
 
 pub acknowledge-requires : goal.acknowledge-requires
 acknowledge-requires g c =
-    let x = c.requires in
     let task = c.args.self.now in
     let a = c.args.from in
     let p = c.args.packet.now in
     let now = answer_to (rules_of c.args.handlers.now) p.name p.head p.length in
+    let end = get-some task.receivers.items a (receiver-there task c.requires.stands a c.requires.may.known) in
     let mid : Task = record task { receivers = with_items task.receivers c.take.new.receivers } in
-    let keeps : KeepsRest task mid = record { sizes = refl; statements = refl; limits = refl; rounds = refl; state = refl; unfinished = refl; senders = refl } in
     let takes : Takes a p now c.in_ok-message.message c.args.out.now.events c.take.new.events task.receivers.items mid.receivers.items = takes-over task.receivers a p now c.in_ok-message.message c.args.out.now.events c.take.new.events c.deref_mut.result.now c.take.new.receivers c.deref_mut.ensures.value c.in_ok-message.ensures in
-    (x.script, x.task, Data p ∷ x.run.handed a x.task, has-taken-still x.script x.rules x.task x.run task x.at a x.place x.from_known p x.entry c.take_effect.new.self c.arrived.new.self (has-taken x.script x.rules x.task x.run task x.at a x.place x.from_known p x.entry mid keeps now c.in_ok-message.message c.args.out.now.events c.take.new.events takes (length (rules_of c.args.handlers.now).completions) c.take_effect.new.self c.take_effect.new.events c.in_ok-take_effect.ensures))
+    let own = takes end.0 end.1 in
+    let rest = c.in_ok-take_effect.ensures.rest in
+    let after = c.take_effect.new.self in
+    let ends : after.receivers.items ≡ mid.receivers.items = ap (λ (x : Task). x.receivers.items) rest in
+    let number : after.state.number ≡ task.state.number = ap (λ (x : Task). x.state.number) rest in
+    may-answer task c.requires.stands a c.requires.may.known (record after { unfinished = c.arrived.new.self }) end.0 own.end end.1 (as-wide task a p end.0 (c.requires.may.fits end.0 end.1) now c.in_ok-message.message task.receivers.items mid.receivers.items c.args.out.now.events c.take.new.events (takes end.0 end.1))
+    (ends ∙ own.ends) number
 
 pub returns : goal.returns
 returns g c =

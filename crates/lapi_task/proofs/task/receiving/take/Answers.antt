@@ -1,11 +1,10 @@
-use Rattle.std.proofs.Common.{refl, sym, subst}
+use Rattle.std.proofs.Common.{get_or, refl, subst}
 use Rattle.std.proofs.lemmas.Option.{get_or_from_slice_get}
 use Rattle.std.specs.Prelude.{Result, Ok, Err, OnOk, IfOk}
-use Rattle.lapi_link.specs.Receiver.{ReceivingEnd, MayTake}
-use Rattle.lapi_link.proofs.ArrivalLaws.{may-take}
 use Rattle.lapi_handlers.specs.Handlers.{rules_of}
 use Rattle.lapi_task.specs.Answered.{answer_to}
 use Rattle.lapi_task.specs.Landed.{HasCome}
+use Rattle.lapi_task.proofs.Receiving.MayCome.{read-there}
 use Rattle.lapi_task.proofs.task.receiving.take.Goals as goal
 
 -- what follows from a fact of what an Ok holds and from two facts of the answer Ok
@@ -13,12 +12,8 @@ if-ons : {A B : Type 0} (P : A → Type 0) (Q R : Type 0) (S : A → Type 0) (re
 if-ons P Q R S (Ok x) f p q r = f x p q r
 if-ons P Q R S (Err e) f p q r = p
 
--- by the law of what arrives, the end may take it
 pub arrive-requires : goal.arrive-requires
-arrive-requires g c =
-    let x = c.requires.take in
-    let same = get_or_from_slice_get c.args.receivers.now c.args.from x.end c.index-receivers-from.result x.there in
-    subst (λ (end : ReceivingEnd). MayTake end c.args.packet.now) (sym same) (may-take x.script x.end x.packets c.args.packet.now x.stands x.fits)
+arrive-requires g c = c.requires.come.takes (get_or c.args.receivers.now c.args.from c.index-receivers-from.result) (read-there c.args.receivers.now c.args.from c.index-receivers-from.result c.requires.come.there)
 
 pub returns : goal.returns
 returns g c =
@@ -33,6 +28,8 @@ returns g c =
       end = c.answer.new.receiver;
       ends = refl;
       stands = c.in_ok-arrival.ensures.kept;
+      once = c.in_ok-arrival.ensures.once;
+      message = c.in_ok-arrival.ensures.whole;
       told = c.in_ok-arrival.ensures.arrival;
       answers = c.in_ok-arrival.ensures.answers;
       keeps = keeps;

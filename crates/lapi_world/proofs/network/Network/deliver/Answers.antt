@@ -2,7 +2,7 @@ use Rattle.std.proofs.Common.{refl, sym}
 use Rattle.lapi_base.specs.declared.schedule.Act.TheVariants.{Deliver}
 use Rattle.lapi_base.specs.Record.Acts as records
 use Rattle.lapi_world.proofs.Acts.{task-read, performed-deliver, act-stands, outcome-ends}
-use Rattle.lapi_world.proofs.Delivering.{absent-stands, absent-replies, entry-spells, on-wire, did-replies}
+use Rattle.lapi_world.proofs.Delivering.{absent-stands, absent-replies, entry-spells, may-come, did-replies}
 use Rattle.lapi_handlers.specs.Handlers.{rules_of}
 use Rattle.lapi_world.proofs.network.Network.deliver.Goals as goal
 
@@ -14,10 +14,17 @@ pub returns-in_default-clause-reply : goal.returns-in_default-clause-reply
 returns-in_default-clause-reply g c = λ r is h.
     absent-replies c.args.script.now (rules_of c.args.handlers.now) c.args.self.now r c.args.a c.args.b c.args.k c.place.result c.index-wire.result.now h c.requires.tasks.0 c.requires.tasks.1 c.place.ensures c.index-wire.ensures (sym c.in_default.ensures)
 
-pub receive-requires : goal.receive-requires
-receive-requires g c =
+pub receive-requires-clause-stands : goal.receive-requires-clause-stands
+receive-requires-clause-stands g c = λ p spells.
+    let script = c.args.script.now in
+    let rules = rules_of c.args.handlers.now in
     let s = c.requires.stands in
-    on-wire c.args.script.now (rules_of c.args.handlers.now) c.args.self.now s.0 c.args.a c.args.b c.args.k c.place.result c.index-wire.result.now s.2 c.requires.tasks.0 c.requires.tasks.1 c.place.ensures c.index-wire.ensures c.requires.script s.1 c.in-Some.entry.now (sym c.in-Some.ensures) c.index_mut-task.result.now c.index_mut-task.ensures.value
+    (script, rules, c.args.b, s.0, task-read script rules s.0 c.args.b c.args.self.now c.index_mut-task.result.now s.1 s.2 c.requires.tasks.1 c.index_mut-task.ensures.value)
+
+pub receive-requires-clause-may : goal.receive-requires-clause-may
+receive-requires-clause-may g c =
+    let s = c.requires.stands in
+    may-come c.args.script.now (rules_of c.args.handlers.now) c.args.self.now s.0 c.args.a c.args.b c.args.k c.place.result c.index-wire.result.now s.2 c.requires.tasks.0 c.requires.tasks.1 c.place.ensures c.index-wire.ensures c.wires_may_come.ensures c.requires.script s.1 c.in-Some.entry.now (sym c.in-Some.ensures) c.index_mut-task.result.now c.index_mut-task.ensures.value
 
 pub add-requires-clause-ends : goal.add-requires-clause-ends
 add-requires-clause-ends g c =
