@@ -1,5 +1,5 @@
 -- A schedule line begins with its lane.
-use Rattle.std.proofs.Common.{◌≡◌, ◌++◌, sym, append_assoc}
+use Rattle.std.proofs.Common.{◌≡◌, ℕ, List, ◌++◌, sym, ap, ◌∙◌, append_assoc}
 use Rattle.std.specs.Prelude.{codes}
 use Rattle.std.specs.Fmt.{decimal}
 use Rattle.lapi_base.specs.declared.schedule.Line.{Line}
@@ -19,3 +19,7 @@ act_after line (Act.End t w) = sym (append_assoc (decimal line.lane) (codes " ")
 
 pub lane_first : (line : Line) → row_line (line_row line) ≡ (decimal line.lane ++ codes " ") ++ row_line (act_row line.act)
 lane_first line = act_after line line.act
+
+-- and so does one that was taken, behind its word
+pub took_first : (line : Line) (begun : List ℕ) → begun ≡ codes "took " ++ decimal line.lane ++ codes " " → begun ++ row_line (act_row line.act) ≡ codes "took " ++ row_line (line_row line)
+took_first line begun e = ap (λ b. b ++ row_line (act_row line.act)) e ∙ sym (ap (λ r. codes "took " ++ r) (lane_first line))
