@@ -1,0 +1,9 @@
+use Rattle.lapi_picture.specs.Chart.{row_labels}
+use Rattle.lapi_picture.proofs.EachRow.{row_added, rows_done}
+use Rattle.lapi_picture.proofs.chart.add_all_labels.Goals as goal
+
+pub loop-j-preserved : goal.loop-j-preserved
+loop-j-preserved c = row_added (row_labels c.args.page c.args.rows.now) c.loop-j.j c.args.rows.now _ _ _ _ c.loop-j-test.true c.loop-j.invariant c.in_ok-add_labels.ensures
+
+pub returns : goal.returns
+returns c = rows_done (row_labels c.args.page c.args.rows.now) c.loop-j.j c.args.rows.now _ _ c.loop-j-test.false c.loop-j.invariant
