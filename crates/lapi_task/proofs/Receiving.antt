@@ -8,4 +8,5 @@ pub mod ReceiveKinds
 pub mod ReceiveLaws
 pub mod ReceiveLinks
 pub mod ReceiveSuits
+pub mod TakenAlone
 pub mod WiresCome

@@ -197,6 +197,7 @@ pub record HasArrived (a count : ℕ) (arrival : Option Message) (before after :
   pub joins : ArrivalJoins a arrival before.state.collective after.state.collective
   pub senders : after.senders.items ≡ ends_after (task_unit before) before.state.number a count arrival before.state.memory before.senders.items
   pub events : new ≡ old ++ events_of count arrival
+  pub none : arrival ≡ None → after ≡ before
   pub rest : after ≡ record before { senders = after.senders; state = record before.state { memory = after.state.memory; counters = after.state.counters; jobs = after.state.jobs; collective = after.state.collective } }
 
 -- The header handler may be given the message.
@@ -212,6 +213,7 @@ kept_now _ now = None
 -- The end keeps the answer, and is as before but for it.
 pub record KeepsAnswer (m : MsgName) (now : Option HeaderOut) (before after : ReceivingEnd) : Type 0 where
   pub numbers : after.window ≡ before.window
+  pub none : now ≡ None → after ≡ before
   pub stands : (script : Script) (packets : List Packet) → ReceivesFor script before packets → ReceivesFor script after packets
   pub own : answer_of after m ≡ option_or now (answer_of before m)
   pub others : (k : MsgName) → k ≢ m → answer_of after k ≡ answer_of before k

@@ -1,4 +1,5 @@
 pub mod Acknowledging
+pub mod Alone
 pub mod Answered
 pub mod Apart
 pub mod Copies

@@ -19,12 +19,21 @@ use Rattle.lapi_base.specs.Packet.PacketBytes as written
 use Rattle.lapi_link.specs.Receiver.{ReceivingEnd, ReceivesFor}
 use Rattle.lapi_parts.proofs.ArrivingPackets.{next-acks-told}
 use Rattle.lapi_task.specs.declared.task.Task.{Task}
+use Rattle.lapi_window.specs.RecvWindow.{base_of, is_taken}
+use Rattle.lapi_task.specs.Alone.{answer_by, answer_now}
 use Rattle.lapi_task.specs.Acknowledging.{ReceivesAt, HasTaken, answer}
 use Rattle.lapi_task.proofs.Following.AnswerSpelled.{ack-spelled}
 use Rattle.lapi_base.specs.Record.Valid.{ValidScript}
 use Rattle.lapi_base.proofs.ListLaws.{at-place}
 use Rattle.lapi_base.proofs.TestLaws.{eqb-refl}
 use Rattle.lapi_parts.proofs.FirstLayout.{first-window, told-at-once}
+
+-- what is told by the end of the link alone
+pub told-alone : (task : Task) (from : ℕ) (end : ReceivingEnd) → slice_get task.receivers.items from ≡ Some end → (base bits : ℕ) → base ≡ base_of end.window → bits ≡ bits_of end.window.window (λ i. is_taken end.window (base_of end.window + i)) → (old new : List WireEntry) (bytes : List ℕ) → bytes ≡ written.packet (Ack task.state.number from base bits) → new ≡ old ++ record { to = from; bytes = bytes } ∷ [] → new ≡ old ++ answer_now task from
+told-alone task from end here base bits is set old new bytes spells put =
+    put
+    ∙ ap (λ (bs : List ℕ). old ++ record { to = from; bytes = bs } ∷ []) (spells ∙ (λ i. written.packet (Ack task.state.number from (is i) (set i))))
+    ∙ ap (λ o. old ++ answer_by task.state.number from o) (sym here)
 
 module _ (script : Script) where
   receives-at : (ps : List Packet) (ends : List ReceivingEnd) (n : ℕ) (end : ReceivingEnd) → ReceivesAt script ps (slice_get ends n) → end ≡ get_or ends n end → ReceivesFor script end ps

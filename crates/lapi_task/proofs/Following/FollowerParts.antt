@@ -1,5 +1,7 @@
 -- The messages that follow landings: their lengths, and their copies.
 use Rattle.std.proofs.Common.{◌≡◌, ℕ, ◌+◌, Bool, true, false, [], ◌∷◌, List, Option, None, Some, refl, sym, ap, ◌∙◌, arith}
+use Rattle.std.specs.Prelude.{option_map}
+use Rattle.std.specs.Option.{option_or}
 use Rattle.std.specs.List.{flat_map}
 use Rattle.std.proofs.lemmas.List.Folds.{fold-map}
 use Rattle.std.proofs.lemmas.List.Sums.{sum_by-cons}
@@ -12,10 +14,10 @@ use Rattle.lapi_base.specs.declared.message.Leg.TheVariants.{Back}
 use Rattle.lapi_base.specs.declared.packet.DataPacket.{DataPacket}
 use Rattle.lapi_base.specs.declared.span.Span.{Span}
 use Rattle.lapi_base.specs.Laws.Receiving.{bytes_in}
-use Rattle.lapi_base.specs.Record.HeadSays.{follows}
+use Rattle.lapi_base.specs.Record.HeadSays.{follows, back_head, asked_pieces}
 use Rattle.lapi_memory.specs.TaskMemory.{bytes_at}
 use Rattle.lapi_vector.specs.Pieces.{total_of}
-use Rattle.lapi_task.specs.Landed.{Follower, follower_packet, back_of, follower, MayLeave}
+use Rattle.lapi_task.specs.Landed.{Follower, follower_packet, note_of, back_of, note_now, follower, MayLeave}
 
 pub total-is : (spans : List Span) → total_of spans ≡ bytes_in spans
 total-is spans = fold-map ◌+◌ (λ (p : Span). p.len) 0 spans
@@ -30,6 +32,11 @@ back-made t a m pieces memory head len packet bytes made size same = λ i. recor
 -- what follows this head may leave
 abbrev pub MayFollow : (unit t a : ℕ) → MsgName → (completion : Bool) → (memory : List ℕ) → Head → Type 0
 MayFollow unit t a m completion memory head = (x : Follower) → follower t a m head completion memory ≡ Some x → MayLeave unit x
+
+-- so may the answer that it asks for
+pub back-may-leave : (unit t a : ℕ) (m : MsgName) (completion : Bool) (memory : List ℕ) (h : Head) → MayFollow unit t a m completion memory h → (back : Head) → back_head h ≡ Some back → MayLeave unit (back_of t a m (asked_pieces h) memory back)
+back-may-leave unit t a m completion memory h may back e =
+    may (back_of t a m (asked_pieces h) memory back) (ap (λ o. option_or (option_map (back_of t a m (asked_pieces h) memory) o) (option_map (note_of t a m) (note_now h completion))) e)
 
 -- the copy of what follows
 abbrev pub copies : Option Follower → List Event

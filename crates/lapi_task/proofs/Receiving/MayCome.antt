@@ -1,8 +1,8 @@
 -- What comes of a packet that fits its task, by what the task has.
-use Rattle.std.proofs.Common.{◌≡◌, ℕ, ◌<◌, ◌≤◌, Bool, true, false, not, List, length, get_or, Option, Some, None, IfSome, refl, sym, ap, ◌∙◌, subst, arith}
+use Rattle.std.proofs.Common.{◌≡◌, ℕ, ◌<◌, ◌≤◌, ◌==◌, ◌||◌, ◌++◌, Bool, true, false, not, List, length, get_or, Option, Some, None, IfSome, refl, sym, ap, ◌∙◌, subst, arith}
 use Rattle.std.specs.Prelude.{slice_get, slice_set}
-use Rattle.std.proofs.lemmas.Bool.{and_from}
-use Rattle.std.proofs.lemmas.List.{length-set}
+use Rattle.std.proofs.lemmas.Bool.{and_from, eqb-true}
+use Rattle.std.proofs.lemmas.List.{length-set, append-nil}
 use Rattle.std.proofs.lemmas.Option.{get_or_from_slice_get}
 use Rattle.lapi_base.specs.declared.event.Event.{Event}
 use Rattle.lapi_base.specs.declared.handler.HeaderOut.{HeaderOut}
@@ -11,7 +11,7 @@ use Rattle.lapi_base.specs.declared.message.Leg.TheVariants.{Back}
 use Rattle.lapi_base.specs.declared.message.MsgName.{MsgName}
 use Rattle.lapi_base.specs.declared.packet.DataPacket.{DataPacket}
 use Rattle.lapi_base.proofs.ListLaws.{get-some, get-set, some-same}
-use Rattle.lapi_window.specs.RecvWindow.{is_taken}
+use Rattle.lapi_window.specs.RecvWindow.{Receiving, is_taken}
 use Rattle.lapi_reassembly.specs.declared.message.Message.{Message}
 use Rattle.lapi_reassembly.specs.Partial.{IsMessageOf, is_whole, message}
 use Rattle.lapi_link.specs.declared.arrival.Arrival.{Arrival}
@@ -22,7 +22,7 @@ use Rattle.lapi_task.specs.declared.task.Task.{Task}
 use Rattle.lapi_task.specs.Acknowledging.{MayAnswer}
 use Rattle.lapi_task.specs.Answered.{completes_in}
 use Rattle.lapi_task.specs.HasEffect.{IsAtSome}
-use Rattle.lapi_task.specs.Landed.{HeadMayLand, ArrivalMayLand, HasCome, landed}
+use Rattle.lapi_task.specs.Landed.{HeadMayLand, ArrivalMayLand, HasCome, landed, called, is_first, kept_now}
 use Rattle.lapi_task.specs.MayReceive.{DataFits, is_last}
 use Rattle.lapi_task.specs.StandsFor.{ReceiverAt, task_unit}
 use Rattle.lapi_task.specs.Unfinished.{IsOfStatement}
@@ -102,6 +102,36 @@ module _ (task : Task) (a : ℕ) (p : DataPacket) (end : ReceivingEnd) (fits : D
         | true ↦ λ taken. ap (λ (x : ReceivingEnd). x.window.window) (own.once.repeat taken).1
         | false ↦ λ fresh. (own.once.fresh fresh).1.sizes.0
       ] refl
+
+  -- The end has the packet's number too.
+  pub numbers-then : (n : ℕ) → is_taken own.end.window n ≡ (n == p.seq || is_taken end.window n)
+  numbers-then n =
+      ap (λ (w : Receiving). is_taken w n) own.keeps.numbers
+      ∙ elim (is_taken end.window p.seq) as (λ b. is_taken end.window p.seq ≡ b → is_taken own.mid.window n ≡ (n == p.seq || is_taken end.window n)) [
+        | true ↦ λ taken. ap (λ (x : ReceivingEnd). is_taken x.window n) (own.once.repeat taken).1 ∙ known-number taken
+        | false ↦ λ fresh. (own.once.fresh fresh).1.numbers n
+      ] refl
+    where
+      known-number : is_taken end.window p.seq ≡ true → is_taken end.window n ≡ (n == p.seq || is_taken end.window n)
+      known-number taken =
+          elim (n == p.seq) as (λ b. (n == p.seq) ≡ b → is_taken end.window n ≡ (b || is_taken end.window n)) [
+            | true ↦ λ e. subst (λ k. is_taken end.window k ≡ true) (sym (eqb-true n p.seq e)) taken
+            | false ↦ λ e. refl
+          ] refl
+
+  -- With a number that had come before nothing came of it.
+  module _ (taken : is_taken end.window p.seq ≡ true) where
+    repeats : own.arrival ≡ Repeat
+    repeats = (own.once.repeat taken).0
+
+    pub end-same : own.end ≡ end
+    end-same = own.keeps.none (ap (λ (x : Arrival). kept_now x now) repeats) ∙ (own.once.repeat taken).1
+
+    pub came-none : came-whole ≡ None
+    came-none = own.whole ∙ ap (landed now) repeats
+
+    pub called-none : during ≡ events
+    called-none = own.calls ∙ ap (λ (x : Arrival). events ++ called (is_first x) p.name p.head) repeats ∙ append-nil events
 
 module _ (task : Task) (at : IsAtSome task) (a : ℕ) (known : a < task.sizes.tasks) where
   tasks-are : task.sizes.tasks ≡ at.0.tasks

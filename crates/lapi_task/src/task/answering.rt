@@ -8,6 +8,7 @@ ghost use Rattle.lapi_base.specs.Record.Wires.{Run};
 ghost use Rattle.lapi_base.specs.Record.Acts.{deliver};
 ghost use Rattle.lapi_task.specs.declared.outcome.Outcome.{Outcome};
 ghost use Rattle.lapi_task.specs.Acknowledging.{MayAnswer, HasTaken, answer};
+ghost use Rattle.lapi_task.specs.Alone.{answer_now};
 ghost use Rattle.lapi_task.specs.HasEffect.{IsAt, IsAtSome, HasEffect};
 ghost use Rattle.lapi_task.specs.MayReceive.{MayReceive};
 
@@ -25,7 +26,8 @@ impl Task {
         entries: &mut Entries,
     ) -> Result<(), Memory>
         requires { MayAnswer self.now from }
-        ensures { OnOk result ((script : Script) (t : ℕ) (ps : List ThePacket) → HasTaken script t self.now from ps
+        ensures alone { OnOk result (entries.new ≡ entries.old ++ answer_now self.now from) }
+        ensures packets { OnOk result ((script : Script) (t : ℕ) (ps : List ThePacket) → HasTaken script t self.now from ps
             → entries.new ≡ entries.old ++ answer script ps from t ∷ []) }
     {
         let (base, bits) = self.receivers[from as usize].ack();

@@ -1,8 +1,9 @@
 //! What follows a landing: a notice that the message is complete, or an answer with what stood at its target.
-ghost use Rattle.std.specs.Prelude.{◌≡◌, ℕ, ◌<◌, ◌≤◌, ◌∷◌, [], ◌++◌, length, OnOk, Some, option_map};
-ghost use Rattle.lapi_base.specs.declared.head.Head.TheVariants.{GetvBack, Note};
+ghost use Rattle.std.specs.Prelude.{◌≡◌, ℕ, ◌<◌, ◌≤◌, ◌∷◌, [], ◌++◌, length, true, is_some, OnOk, Some, option_map};
+ghost use Rattle.lapi_base.specs.declared.head.Head.{Head as TheHead};
+ghost use Rattle.lapi_base.specs.declared.head.Head.TheVariants.{GetBack, RmwBack, GetvBack, Note};
 ghost use Rattle.lapi_base.specs.declared.layout.TheConstants.{PAYLOAD_ROOM};
-ghost use Rattle.lapi_base.specs.Record.HeadSays.{noted, answered, follows, asked_pieces};
+ghost use Rattle.lapi_base.specs.Record.HeadSays.{noted, answered, follows, back_head, asked_pieces};
 ghost use Rattle.lapi_memory.specs.TaskMemory.{IsWithin};
 ghost use Rattle.lapi_vector.specs.Pieces.{AreWithin};
 ghost use Rattle.lapi_task.specs.Landed.{Follower, IsDirect, MayLeave, note_of, back_of, follower, with_follower};
@@ -45,32 +46,9 @@ impl Task {
             Head::Am { cmpl, .. } if !completion => {
                 self.note(alloc, from, name, NoteOp::Am, *cmpl, events)
             }
-            Head::GetGo {
-                asked,
-                source,
-                dest,
-                org,
-                ..
-            } => {
-                let back = Head::GetBack {
-                    dest: *dest,
-                    org: *org,
-                };
-                self.answer(alloc, from, name, back, span_of(*source, *asked), events)
-            }
-            Head::RmwGo { at, prev, org, .. } => {
-                let back = Head::RmwBack {
-                    dest: *prev,
-                    org: *org,
-                };
-                self.answer(alloc, from, name, back, span_of(*at, 4), events)
-            }
-            Head::GetvGo {
-                org,
-                source,
-                dest,
-                ..
-            } => self.answer_vector(alloc, from, name, source, *org, dest, events),
+            Head::GetGo { .. } => self.answer_asked(alloc, from, name, head, events),
+            Head::RmwGo { .. } => self.answer_asked(alloc, from, name, head, events),
+            Head::GetvGo { .. } => self.answer_asked(alloc, from, name, head, events),
             Head::Am { .. }
             | Head::GetBack { .. }
             | Head::GetvBack { .. }
@@ -79,6 +57,60 @@ impl Task {
             | Head::Gfence { .. }
             | Head::Addr { .. } => Ok(()),
             Head::Echo { .. } => unreachable!(),
+        }
+    }
+
+    /// Answers task `from` with what it asked for.
+    fn answer_asked(
+        &mut self,
+        alloc: Global,
+        from: u32,
+        name: MsgName,
+        head: &Head,
+        events: &mut Events,
+    ) -> Result<(), Memory>
+        requires link { (from < length self.old.senders.items) × (task_unit self.old ≤ PAYLOAD_ROOM) }
+        requires head { (is_some (back_head head.now) ≡ true)
+            × AreWithin (asked_pieces head.now) (length self.old.state.memory) }
+        requires allowed { (back : TheHead) → back_head head.now ≡ Some back → MayLeave (task_unit self.old)
+            (back_of self.old.state.number from name (asked_pieces head.now) self.old.state.memory back) }
+        ensures senders { OnOk result (self.new.senders.items ≡ with_follower (task_unit self.old)
+            (option_map (back_of self.old.state.number from name (asked_pieces head.now) self.old.state.memory)
+            (back_head head.now)) self.old.senders.items) }
+        ensures events { OnOk result (events.new ≡ events.old ++ answered name) }
+        ensures rest { self.new ≡ record self.old { senders = self.new.senders } }
+    {
+        match head {
+            Head::GetGo {
+                asked,
+                source,
+                dest,
+                org,
+                ..
+            } => {
+                let back = get_back(*dest, *org);
+                self.answer(alloc, from, name, back, span_of(*source, *asked), events)
+            }
+            Head::RmwGo { at, prev, org, .. } => {
+                let back = rmw_back(*prev, *org);
+                self.answer(alloc, from, name, back, span_of(*at, 4), events)
+            }
+            Head::GetvGo {
+                org,
+                source,
+                dest,
+                ..
+            } => self.answer_vector(alloc, from, name, source, *org, dest, events),
+            Head::Put { .. }
+            | Head::Putv { .. }
+            | Head::Am { .. }
+            | Head::GetBack { .. }
+            | Head::GetvBack { .. }
+            | Head::RmwBack { .. }
+            | Head::Note { .. }
+            | Head::Gfence { .. }
+            | Head::Addr { .. }
+            | Head::Echo { .. } => unreachable!(),
         }
     }
 
@@ -186,6 +218,20 @@ impl Task {
             events,
         )
     }
+}
+
+/// The head of the answer to a get.
+fn get_back(dest: u32, org: Option<u32>) -> Head
+    ensures { result ≡ GetBack dest org }
+{
+    Head::GetBack { dest, org }
+}
+
+/// The head of the answer to a read-modify-write.
+fn rmw_back(dest: u32, org: Option<u32>) -> Head
+    ensures { result ≡ RmwBack dest org }
+{
+    Head::RmwBack { dest, org }
 }
 
 /// So many bytes from a place on.

@@ -10,6 +10,7 @@ ghost use Rattle.lapi_base.specs.Record.Acts.{deliver};
 ghost use Rattle.lapi_base.specs.Packet.Spelling.{Spells, decoded};
 ghost use Rattle.lapi_handlers.specs.Handlers.{rules_of};
 ghost use Rattle.lapi_link.specs.Receiver.{ReceivingEnd};
+ghost use Rattle.lapi_task.specs.Alone.{IsReceived, DataIsReceived};
 ghost use Rattle.lapi_task.specs.Answered.{answer_to};
 ghost use Rattle.lapi_task.specs.HasEffect.{IsAt, IsAtSome, HasEffect, received_as};
 ghost use Rattle.lapi_task.specs.Landed.{ArrivalMayLand, HasArrived, MayCome, MayCall, HasCome};
@@ -50,6 +51,8 @@ impl Task {
             → let rules = rules_of handlers.now in IsAt script rules t self.old r → from < script.tasks
             → Spells p bytes.now → slice_get (r.wire from t) k ≡ Some p
             → HasEffect script rules t r (deliver script rules r from t k) self.new out.old out.new) }
+        ensures alone { OnOk result ((p : ThePacket) → Spells p bytes.now
+            → IsReceived self.old self.new from p out.old out.new) }
     {
         match decode(bytes) {
             Err(bad) => Ok(Received::Refused(bad)),
@@ -75,10 +78,11 @@ impl Task {
     ) -> Result<(), Memory>
         requires stands { IsAtSome self.old }
         requires may { MayReceive self.old from (Data packet.now) }
-        ensures { OnOk result ((script : Script) (t k : ℕ) (r : Run)
+        ensures effect { OnOk result ((script : Script) (t k : ℕ) (r : Run)
             → let rules = rules_of handlers.now in IsAt script rules t self.old r → from < script.tasks
             → slice_get (r.wire from t) k ≡ Some (Data packet.now)
             → HasEffect script rules t r (deliver script rules r from t k) self.new out.old out.new) }
+        ensures alone { OnOk result (DataIsReceived self.old self.new from packet.now out.old out.new) }
     {
         let message = take(
             &mut self.receivers,

@@ -7,7 +7,7 @@ use Rattle.lapi_base.proofs.BitLaws.{bits_of-small}
 use Rattle.lapi_base.proofs.ListLaws.{found-at}
 use Rattle.lapi_base.proofs.Results.{on-ok}
 use Rattle.lapi_parts.proofs.SpelledPackets.{acknowledgement-spelled}
-use Rattle.lapi_task.proofs.Following.AnswerLaws.{answer-put}
+use Rattle.lapi_task.proofs.Following.AnswerLaws.{told-alone, answer-put}
 use Rattle.lapi_task.proofs.task.Task.acknowledge.Goals as goal
 
 pub overflow_cast-bits : goal.overflow_cast-bits
@@ -24,5 +24,12 @@ spelled-requires c =
     subst HasSpelling (sym c.acknowledgement-packet.ensures.packet)
     (written.packet (Ack number c.args.from base bits), acknowledgement-spelled number c.args.from base bits c.requires.own c.requires.other c.acknowledgement-packet.ensures.small.0 c.acknowledgement-packet.ensures.small.1 c.ack-base.ensures.fits.1)
 
-pub returns : goal.returns
-returns c = on-ok _ _ c.push.result (λ put script t ps taken. answer-put script t c.args.self.now c.args.from ps taken c.index.result.now c.index.ensures c.ack-base.result.0 c.ack-base.result.1 (c.ack-base.ensures.packets script ps) c.args.entries.now c.push.new.self c.in_ok-bytes.bytes (c.in_ok-bytes.ensures.bytes ∙ ap written.packet c.acknowledgement-packet.ensures.packet) put) c.push.ensures.ok
+pub returns-clause-alone : goal.returns-clause-alone
+returns-clause-alone c =
+    let task = c.args.self.now in
+    let end = c.index.result.now in
+    let here = found-at task.receivers.items c.args.from end c.requires.there c.index.ensures in
+    on-ok _ _ c.push.result (λ put. told-alone task c.args.from end here c.ack-base.result.0 c.ack-base.result.1 c.ack-base.ensures.base c.ack-base.ensures.bits c.args.entries.now c.push.new.self c.in_ok-bytes.bytes (c.in_ok-bytes.ensures.bytes ∙ ap written.packet c.acknowledgement-packet.ensures.packet) put) c.push.ensures.ok
+
+pub returns-clause-packets : goal.returns-clause-packets
+returns-clause-packets c = on-ok _ _ c.push.result (λ put script t ps taken. answer-put script t c.args.self.now c.args.from ps taken c.index.result.now c.index.ensures c.ack-base.result.0 c.ack-base.result.1 (c.ack-base.ensures.packets script ps) c.args.entries.now c.push.new.self c.in_ok-bytes.bytes (c.in_ok-bytes.ensures.bytes ∙ ap written.packet c.acknowledgement-packet.ensures.packet) put) c.push.ensures.ok

@@ -9,6 +9,7 @@ use Rattle.lapi_task.specs.Answered.{answer_to}
 use Rattle.lapi_task.specs.Landed.{MayCome}
 use Rattle.lapi_task.proofs.Receiving.ReceiveLaws.{KeepsRest, Takes, takes-over, has-taken, has-taken-still, arrived-does}
 use Rattle.lapi_task.proofs.Receiving.MayCome.{may-land-now, of-statement, as-wide, may-answer, receiver-there}
+use Rattle.lapi_task.proofs.Receiving.TakenAlone.{taken-alone}
 use Rattle.lapi_task.proofs.task.Task.arrive.Goals as goal
 
 pub take-requires-clause-come : goal.take-requires-clause-come
@@ -68,8 +69,8 @@ acknowledge-requires g c =
     may-answer task c.requires.stands a c.requires.may.known (record after { unfinished = c.arrived.new.self }) end.0 own.end end.1 (as-wide task a p end.0 (c.requires.may.fits end.0 end.1) now c.in_ok-message.message task.receivers.items mid.receivers.items c.args.out.now.events c.take.new.events (takes end.0 end.1))
     (ends ∙ own.ends) number
 
-pub returns : goal.returns
-returns g c =
+pub returns-clause-effect : goal.returns-clause-effect
+returns-clause-effect g c =
     let task = c.args.self.now in
     let a = c.args.from in
     let p = c.args.packet.now in
@@ -82,4 +83,17 @@ returns g c =
     (λ answers script t k r at known entry.
     let taken = has-taken-still script rules t r task at a k known p entry c.take_effect.new.self c.arrived.new.self (has-taken script rules t r task at a k known p entry mid keeps now c.in_ok-message.message c.args.out.now.events c.take.new.events takes (length rules.completions) c.take_effect.new.self c.take_effect.new.events c.in_ok-take_effect.ensures) in
     arrived-does script rules t r task at a k known p entry mid keeps now c.in_ok-message.message c.args.out.now.events c.take.new.events takes refl c.take_effect.new.self c.arrived.new.self c.args.out.now (record { events = c.take_effect.new.events; entries = c.acknowledge.new.entries }) c.arrived.ensures refl c.in_ok-take_effect.ensures (answers script t (Data p ∷ r.handed a t) taken))
-    c.acknowledge.ensures
+    c.acknowledge.ensures.packets
+
+pub returns-clause-alone : goal.returns-clause-alone
+returns-clause-alone g c =
+    let task = c.args.self.now in
+    let a = c.args.from in
+    let p = c.args.packet.now in
+    let now = answer_to (rules_of c.args.handlers.now) p.name p.head p.length in
+    let end = get-some task.receivers.items a (receiver-there task c.requires.stands a c.requires.may.known) in
+    let mid : Task = record task { receivers = with_items task.receivers c.take.new.receivers } in
+    let takes : Takes a p now c.in_ok-message.message c.args.out.now.events c.take.new.events task.receivers.items mid.receivers.items = takes-over task.receivers a p now c.in_ok-message.message c.args.out.now.events c.take.new.events c.deref_mut.result.now c.take.new.receivers c.deref_mut.ensures.value c.in_ok-message.ensures in
+    on-ok _ _ c.acknowledge.result
+    (λ added. taken-alone task mid a p end.0 end.1 (c.requires.may.fits end.0 end.1) now c.in_ok-message.message c.args.out.now.events c.take.new.events (takes end.0 end.1) refl (length (rules_of c.args.handlers.now).completions) c.take_effect.new.self c.take_effect.new.events c.in_ok-take_effect.ensures c.arrived.new.self c.arrived.ensures c.args.out.now (record { events = c.take_effect.new.events; entries = c.acknowledge.new.entries }) refl refl added)
+    c.acknowledge.ensures.alone
