@@ -1,19 +1,21 @@
 -- Reading an audit's text line after line, as a loop does.
-use Rattle.std.proofs.Common.{◌≡◌, ℕ, ◌+◌, List, [], ◌∷◌, Result, Ok, Err, refl, sym, ◌∙◌, subst}
+use Rattle.std.proofs.Common.{◌≡◌, ℕ, ◌+◌, List, [], ◌∷◌, true, Result, Ok, Err, refl, sym, ◌∙◌, subst}
 use Rattle.std.specs.Prelude.{IfOk, codes}
 use Rattle.lapi_base.specs.declared.audit_input.AuditInput.{AuditInput}
 use Rattle.lapi_base.specs.declared.input.ReadFault.{ReadFault}
 use Rattle.lapi_base.specs.declared.input.ReadFault.TheVariants as answers
 use Rattle.lapi_base.specs.declared.input.LineError.{LineError}
 use Rattle.lapi_base.specs.declared.input.LineError.TheVariants.{Syntax, Limit}
-use Rattle.lapi_base.specs.Input.Lines.{lines_of, words_of}
+use Rattle.lapi_base.specs.Input.Lines.{lines_of, words_of, is_clean, is_remark}
 use Rattle.lapi_base.specs.Input.Reading.{Fault}
 use Rattle.lapi_base.specs.Input.AuditRows.{IsAuditText, IsFirstAuditFault}
 use Rattle.lapi_base.specs.Input.AuditReading.{AuditState, audit_after, read_audit_from, read_audit}
 use Rattle.lapi_script.specs.declared.fault.LineFault.{LineFault}
 use Rattle.lapi_script.specs.declared.fault.LineFault.TheVariants as faults
 use Rattle.lapi_script.specs.Gives.{Fails}
+use Rattle.lapi_script.specs.Left.{IsBehindRemark}
 use Rattle.lapi_script.specs.ReaderAnswers.{GivesAudit, AuditFaultIsFirst, FailsAt}
+use Rattle.lapi_script.proofs.FirstWords.{remark_skipped}
 
 pub schedule_words : words_of (codes "schedule") ≡ codes "schedule" ∷ []
 schedule_words = refl
@@ -24,6 +26,16 @@ pub audit_goes_on : (n : ℕ) (state next : AuditState) (line : List ℕ) (lines
 audit_goes_on n state next line lines more all first ok so_far =
     let one : read_audit_from n state lines ≡ read_audit_from (n + 1) next more = rw (first, ok) refl in
     sym one ∙ so_far
+
+-- a remark adds nothing
+audit_remark_read : (state : AuditState) (line : List ℕ) → is_clean line ≡ true → is_remark line ≡ true → audit_after state line ≡ Ok state
+unfolding audit_after
+audit_remark_read state line clean is = rw (clean, remark_skipped line is) refl
+
+pub audit_behind_goes_on : (n : ℕ) (state : AuditState) (bytes behind : List ℕ) (all : Result AuditInput Fault) → IsBehindRemark bytes behind → read_audit_from n state (lines_of bytes) ≡ all
+    → read_audit_from (n + 1) state (lines_of behind) ≡ all
+audit_behind_goes_on n state bytes behind all (line, lines, clean, is) so_far =
+    audit_goes_on n state state line (lines_of bytes) (lines_of behind) all lines (audit_remark_read state line clean is) so_far
 
 -- at a fault nothing more is read
 pub audit_ends : (n : ℕ) (fault : LineFault) (answer : ReadFault) (state : AuditState) (line : List ℕ) (lines more : List (List ℕ)) (all : Result AuditInput Fault)

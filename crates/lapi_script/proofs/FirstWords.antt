@@ -1,8 +1,8 @@
 -- The first word of a line.
-use Rattle.std.proofs.Common.{◌≡◌, ℕ, ◌<◌, ◌==◌, true, false, List, [], ◌∷◌, length, filter, refl, sym, ap, ◌∙◌, subst, arith}
+use Rattle.std.proofs.Common.{◌≡◌, ℕ, ◌<◌, ◌==◌, true, false, List, [], ◌∷◌, ◌++◌, length, filter, refl, sym, ap, ◌∙◌, subst, arith}
 use Rattle.std.specs.Prelude.{Bool, nat_lt, cond}
-use Rattle.std.specs.List.{slice_split, onto_first}
-use Rattle.std.proofs.lemmas.Bool.{eqb-true, lt-ltb, ne_eqb}
+use Rattle.std.specs.List.{slice_split, onto_first, list_all}
+use Rattle.std.proofs.lemmas.Bool.{and_parts, eqb-true, lt-ltb, ne_eqb}
 use Rattle.lapi_base.specs.Input.Lines.{words_of, is_remark, is_skipped}
 use Rattle.lapi_script.specs.Left.{BeginsWord}
 use Rattle.lapi_script.proofs.Splits.{some_parts}
@@ -12,6 +12,16 @@ pub space_skipped : (bytes rest after : List ℕ) (b : ℕ) → rest ≡ b ∷ a
 space_skipped bytes rest after b is space so_far =
     let one : words_of (32 ∷ after) ≡ words_of after = refl in
     sym one ∙ ap (λ c. words_of (c ∷ after)) (sym space) ∙ ap words_of (sym is) ∙ so_far
+
+spaces_skipped : (block after : List ℕ) → list_all (λ b. b == 32) block ≡ true → words_of (block ++ after) ≡ words_of after
+spaces_skipped [] after blank = refl
+spaces_skipped (b ∷ block) after blank =
+    let parts = and_parts (b == 32) _ blank in
+    let one : words_of (32 ∷ (block ++ after)) ≡ words_of (block ++ after) = refl in
+    ap (λ c. words_of (c ∷ (block ++ after))) (eqb-true b 32 parts.0) ∙ one ∙ spaces_skipped block after parts.1
+
+pub blank_skipped : (bytes rest block after : List ℕ) → rest ≡ block ++ after → list_all (λ b. b == 32) block ≡ true → words_of rest ≡ words_of bytes → words_of after ≡ words_of bytes
+blank_skipped bytes rest block after is blank so_far = sym (ap words_of is ∙ spaces_skipped block after blank) ∙ so_far
 
 pub begins : (rest after : List ℕ) (b : ℕ) → rest ≡ b ∷ after → (b ≡ 32 → ⊥) → BeginsWord rest
 begins rest after b is other = subst BeginsWord (sym is) (ne_eqb b 32 other)

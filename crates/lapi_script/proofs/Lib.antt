@@ -7,3 +7,4 @@ pub mod AuditOnward
 pub mod RefusalWords
 pub mod Texts
 pub mod FirstWords
+pub mod SkippedRemarks

@@ -1,18 +1,20 @@
 -- Reading line after line, as a loop does.
-use Rattle.std.proofs.Common.{◌≡◌, ℕ, ◌+◌, List, ◌∷◌, Result, Ok, Err, refl, sym, ◌∙◌, subst}
+use Rattle.std.proofs.Common.{◌≡◌, ℕ, ◌+◌, List, ◌∷◌, true, Result, Ok, Err, refl, sym, ◌∙◌, subst}
 use Rattle.std.specs.Prelude.{IfOk}
 use Rattle.lapi_base.specs.declared.input.Input.{Input}
 use Rattle.lapi_base.specs.declared.input.ReadFault.{ReadFault}
 use Rattle.lapi_base.specs.declared.input.ReadFault.TheVariants as answers
 use Rattle.lapi_base.specs.declared.input.LineError.{LineError}
 use Rattle.lapi_base.specs.declared.input.LineError.TheVariants.{Syntax, Limit}
-use Rattle.lapi_base.specs.Input.Lines.{lines_of}
+use Rattle.lapi_base.specs.Input.Lines.{lines_of, is_clean, is_remark}
 use Rattle.lapi_base.specs.Input.Rows.{IsInputText, IsFirstFault}
 use Rattle.lapi_base.specs.Input.Reading.{State, Fault, after, read_from, read}
 use Rattle.lapi_script.specs.declared.fault.LineFault.{LineFault}
 use Rattle.lapi_script.specs.declared.fault.LineFault.TheVariants as faults
 use Rattle.lapi_script.specs.Gives.{Fails}
+use Rattle.lapi_script.specs.Left.{IsBehindRemark}
 use Rattle.lapi_script.specs.ReaderAnswers.{GivesInput, FaultIsFirst, FailsAt}
+use Rattle.lapi_script.proofs.FirstWords.{remark_skipped}
 
 -- after a line the next are read
 pub goes_on : (n : ℕ) (state next : State) (line : List ℕ) (lines more : List (List ℕ)) (all : Result Input Fault)
@@ -20,6 +22,16 @@ pub goes_on : (n : ℕ) (state next : State) (line : List ℕ) (lines more : Lis
 goes_on n state next line lines more all first ok so_far =
     let one : read_from n state lines ≡ read_from (n + 1) next more = rw (first, ok) refl in
     sym one ∙ so_far
+
+-- a remark adds nothing
+remark_read : (state : State) (line : List ℕ) → is_clean line ≡ true → is_remark line ≡ true → after state line ≡ Ok state
+unfolding after
+remark_read state line clean is = rw (clean, remark_skipped line is) refl
+
+pub behind_goes_on : (n : ℕ) (state : State) (bytes behind : List ℕ) (all : Result Input Fault) → IsBehindRemark bytes behind → read_from n state (lines_of bytes) ≡ all
+    → read_from (n + 1) state (lines_of behind) ≡ all
+behind_goes_on n state bytes behind all (line, lines, clean, is) so_far =
+    goes_on n state state line (lines_of bytes) (lines_of behind) all lines (remark_read state line clean is) so_far
 
 -- at a fault nothing more is read
 pub ends : (n : ℕ) (fault : LineFault) (answer : ReadFault) (state : State) (line : List ℕ) (lines more : List (List ℕ)) (all : Result Input Fault)

@@ -1,8 +1,8 @@
 -- What is left of a text that is read piece by piece.
-use Rattle.std.specs.Prelude.{◌≡◌, ℕ, ◌==◌, false, List, [], ◌∷◌, Option, Some, None}
+use Rattle.std.specs.Prelude.{◌≡◌, ℕ, ◌==◌, false, true, List, [], ◌∷◌, Option, Some, None}
 use Rattle.std.specs.Borrow.{Bor}
 use Rattle.std.specs.List.{slice_split}
-use Rattle.lapi_base.specs.Input.Lines.{words_of}
+use Rattle.lapi_base.specs.Input.Lines.{lines_of, words_of, is_clean, is_remark}
 
 -- the parts of what is left, if anything is
 abbrev pub parts_left : ℕ → Option (Bor (List ℕ)) → List (List ℕ)
@@ -18,3 +18,7 @@ words_left (Some word) line = word.now ∷ words_of line
 abbrev pub BeginsWord : List ℕ → Type 0
 BeginsWord [] = Unit {0}
 BeginsWord (b ∷ bytes) = (b == 32) ≡ false
+
+-- the first line is a clean remark, and this is what follows it
+abbrev pub IsBehindRemark : List ℕ → (behind : List ℕ) → Type 0
+IsBehindRemark bytes behind = (line : List ℕ) × (lines_of bytes ≡ line ∷ lines_of behind) × (is_clean line ≡ true) × (is_remark line ≡ true)

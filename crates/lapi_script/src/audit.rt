@@ -13,6 +13,7 @@ ghost use Rattle.lapi_script.specs.States.{audit_state_of};
 use crate::audit_state::{AuditState, audit_after};
 use crate::cuts::first_line;
 use crate::read::at_line;
+use crate::remarks::behind_remark;
 use crate::state::State;
 use lapi_base::{AuditInput, LONGEST_INPUT, ReadFault, Which};
 use lapi_text::audit_text_laws;
@@ -29,7 +30,7 @@ fn finished(state: AuditState, line: u32) -> Result<AuditInput, ReadFault>
 }
 
 /// What reading line after line gives.
-#[tactic(auto, using(crate::proofs::AuditOnward::audit_goes_on, crate::proofs::AuditOnward::audit_ends))]
+#[tactic(auto, using(crate::proofs::AuditOnward::audit_goes_on, crate::proofs::AuditOnward::audit_behind_goes_on, crate::proofs::AuditOnward::audit_ends))]
 fn read_lines(alloc: Global, bytes: &[u8]) -> Result<AuditInput, ReadFault>
     ensures { GivesAudit result (reading.read_audit bytes.now) }
 {
@@ -43,10 +44,14 @@ fn read_lines(alloc: Global, bytes: &[u8]) -> Result<AuditInput, ReadFault>
     let mut rest = bytes;
     let mut line: u32 = 1;
     while !rest.is_empty() {
-        let (text, following) = first_line(rest);
-        match audit_after(alloc, &mut state, text) {
-            Err(fault) => return Err(at_line(fault, line)),
-            Ok(()) => rest = following,
+        if let Some(behind) = behind_remark(rest) {
+            rest = behind;
+        } else {
+            let (text, following) = first_line(rest);
+            match audit_after(alloc, &mut state, text) {
+                Err(fault) => return Err(at_line(fault, line)),
+                Ok(()) => rest = following,
+            }
         }
         line += 1;
     }

@@ -15,6 +15,7 @@ mod names;
 mod pieces;
 mod read;
 pub mod reading;
+mod remarks;
 mod scan;
 mod state;
 mod statements;

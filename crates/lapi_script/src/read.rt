@@ -10,6 +10,7 @@ ghost use Rattle.lapi_script.specs.States.{state_of};
 
 use crate::cuts::first_line;
 use crate::fault::LineFault;
+use crate::remarks::behind_remark;
 use crate::state::{State, after};
 use lapi_base::{Input, LONGEST_INPUT, LineError, ReadFault, Which};
 use lapi_text::text_laws;
@@ -37,7 +38,7 @@ fn finished(state: State, line: u32) -> Result<Input, ReadFault>
 }
 
 /// What reading line after line gives.
-#[tactic(auto, using(crate::proofs::Onward::goes_on, crate::proofs::Onward::ends))]
+#[tactic(auto, using(crate::proofs::Onward::goes_on, crate::proofs::Onward::behind_goes_on, crate::proofs::Onward::ends))]
 fn read_lines(alloc: Global, bytes: &[u8]) -> Result<Input, ReadFault>
     ensures { GivesInput result (read bytes.now) }
 {
@@ -51,10 +52,14 @@ fn read_lines(alloc: Global, bytes: &[u8]) -> Result<Input, ReadFault>
     let mut rest = bytes;
     let mut line: u32 = 1;
     while !rest.is_empty() {
-        let (text, following) = first_line(rest);
-        match after(alloc, &mut state, text) {
-            Err(fault) => return Err(at_line(fault, line)),
-            Ok(()) => rest = following,
+        if let Some(behind) = behind_remark(rest) {
+            rest = behind;
+        } else {
+            let (text, following) = first_line(rest);
+            match after(alloc, &mut state, text) {
+                Err(fault) => return Err(at_line(fault, line)),
+                Ok(()) => rest = following,
+            }
         }
         line += 1;
     }

@@ -1,8 +1,8 @@
 //! Long texts, looked at block by block: within a block no byte decides what is done with the next.
 
 ghost use Rattle.std.specs.Prelude.{◌≡◌, ◌==◌, position};
-ghost use Rattle.std.specs.List.{list_any};
-ghost use Rattle.lapi_base.specs.Input.Lines.{is_clean};
+ghost use Rattle.std.specs.List.{list_all, list_any};
+ghost use Rattle.lapi_base.specs.Input.Lines.{is_clean, words_of};
 
 /// Where a byte is looked for one by one first, since most words and many lines are short.
 const NEAR: usize = 16;
@@ -61,6 +61,34 @@ pub(crate) fn place_of(bytes: &[u8], byte: u8) -> Option<usize>
             Some(place) => Some(NEAR + place),
         },
     }
+}
+
+/// Whether each byte of a block is a space.
+fn is_blank(block: &[u8]) -> bool
+    ensures { result ≡ list_all (λ b. b == 32) block.now }
+{
+    let mut blank = true;
+    for b in block {
+        blank = blank & (*b == b' ');
+    }
+    blank
+}
+
+/// What follows the whole blocks of spaces that stand first.
+#[tactic(auto, using(crate::proofs::FirstWords::blank_skipped))]
+#[inline(never)]
+pub(crate) fn behind_blank_blocks(bytes: &[u8]) -> &[u8]
+    ensures { words_of result.now ≡ words_of bytes.now }
+{
+    let mut rest = bytes;
+    while rest.len() >= BLOCK {
+        let (block, after) = rest.split_at(BLOCK);
+        if !is_blank(block) {
+            return rest;
+        }
+        rest = after;
+    }
+    rest
 }
 
 /// Whether each byte of a block may stand in a line.

@@ -7,7 +7,7 @@
 ghost use Rattle.std.specs.Prelude.{◌≡◌, false, Result, Ok};
 ghost use Rattle.lapi_base.specs.declared.input.LineError.{LineError};
 ghost use Rattle.lapi_base.specs.Input.Lines.{words_of};
-ghost use Rattle.lapi_base.specs.Input.Forms.{and_then};
+ghost use Rattle.lapi_base.specs.Input.Forms.{and_then, run, task_line_form};
 ghost use Rattle.lapi_base.specs.Input.Forms as forms;
 ghost use Rattle.lapi_base.specs.declared.script.Script.{Script};
 ghost use Rattle.lapi_base.specs.declared.statement.Statement.{Statement};
@@ -142,6 +142,27 @@ fn on_line(script: Script, mut schedule: Schedule, line: Line) -> Result<State, 
     Ok(State::Lines { script, schedule })
 }
 
+/// What the first line of the tasks adds. Its row is large, so it stands in a frame of its own.
+#[inline(never)]
+fn first_task_line(alloc: Global, script: Script, words: &mut Words) -> Result<State, LineFault>
+    ensures { Gives state_of result (and_then (run task_line_form words.old) (on_first_task script)) }
+{
+    on_first_task(alloc, script, task_line(alloc, words)?)
+}
+
+/// What a further line of the tasks adds.
+#[inline(never)]
+fn next_task_line(
+    alloc: Global,
+    script: Script,
+    current: Statements,
+    words: &mut Words,
+) -> Result<State, LineFault>
+    ensures { Gives state_of result (and_then (run task_line_form words.old) (on_task_line script current)) }
+{
+    on_task_line(alloc, script, current, task_line(alloc, words)?)
+}
+
 /// What a line of these words adds.
 #[tactic(auto, unfolding(lapi_base::specs::Input::Reading::step))]
 pub(crate) fn step(alloc: Global, state: State, words: &mut Words) -> Result<State, LineFault>
@@ -159,10 +180,8 @@ pub(crate) fn step(alloc: Global, state: State, words: &mut Words) -> Result<Sta
             let script = checked_sizes(sizes(alloc, layout, words)?)?;
             Ok(State::Start(script))
         }
-        State::Start(script) => on_first_task(alloc, script, task_line(alloc, words)?),
-        State::Tasks { script, current } => {
-            on_task_line(alloc, script, current, task_line(alloc, words)?)
-        }
+        State::Start(script) => first_task_line(alloc, script, words),
+        State::Tasks { script, current } => next_task_line(alloc, script, current, words),
         State::Lines { script, schedule } => {
             if words.are_only(b"done") {
                 return Ok(State::Finished(Input { script, schedule }));

@@ -7,6 +7,7 @@ ghost use Rattle.lapi_base.specs.Input.Reading.{is_word};
 ghost use Rattle.lapi_script.specs.Left.{BeginsWord};
 
 use crate::cuts::cut;
+use crate::scan::behind_blank_blocks;
 use std::marker::Model;
 
 /// Whether the two are the same text.
@@ -32,7 +33,7 @@ fn behind_spaces(bytes: &[u8]) -> &[u8]
     ensures words { words_of result.now ≡ words_of bytes.now }
     ensures first { BeginsWord result.now }
 {
-    let mut rest = bytes;
+    let mut rest = behind_blank_blocks(bytes);
     loop {
         match rest.split_first() {
             None => return rest,
