@@ -8,3 +8,6 @@ pub mod Listed
 pub mod Stretches
 pub mod MemoriesLeft
 pub mod WorkedPlans
+pub mod ScheduleLines
+pub mod ScheduleCounts
+pub mod ScheduleEnds

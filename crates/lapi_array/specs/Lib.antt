@@ -5,3 +5,5 @@ pub mod PlanAnswers
 pub mod Parts
 pub mod Owned
 pub mod ArrayText
+pub mod Counting
+pub mod PlanEnds

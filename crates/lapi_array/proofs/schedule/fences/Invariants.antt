@@ -1,0 +1,6 @@
+use Rattle.std.proofs.Common.{◌≡◌, ◌++◌}
+use Rattle.lapi_flush.specs.Counted.{steps_each}
+use Rattle.lapi_array.proofs.schedule.fences.Given as goal
+
+abbrev pub invariant-loop-task : goal.invariant-loop-task
+invariant-loop-task l = l.lines ≡ l.fn.lines ++ steps_each (λ a. 1) l.task
