@@ -5,4 +5,6 @@ pub mod Followers
 pub mod HeaderAnswers
 pub mod JobsLand
 pub mod JoinsLand
+pub mod KeptHeads
 pub mod Landings
+pub mod SpelledFollowers

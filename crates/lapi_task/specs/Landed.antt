@@ -116,16 +116,19 @@ pub record MayLeave (unit : ℕ) (x : Follower) : Type 0 where
   pub short : x.packet.length ≤ 64 * unit
   pub spelled : AreSpelled unit x.packet x.bytes
 
--- A message with so many bytes may land: its places, the places that it asks for and its counter are there, its origin may join the round
--- that it names, and what follows may leave.
-pub record HeadMayLand (unit t a : ℕ) (m : MsgName) (head : Head) (completion : Bool) (len : ℕ) (memory counters : List ℕ) (collective : Collective) : Type 0 where
+-- A message with so many bytes may land: its places, the places that it asks for and its counter are there, and its origin
+-- may join the round that it names.
+pub record HeadMayLand (a : ℕ) (head : Head) (completion : Bool) (len : ℕ) (memory counters : List ℕ) (collective : Collective) : Type 0 where
   pub direct : IsDirect head
   pub pieces : AreWithin (head_pieces head len) (length memory)
   pub total : is_active head ≡ false → total_of (head_pieces head len) ≡ len
   pub asked : AreWithin (asked_pieces head) (length memory)
   pub counter : (c : ℕ) → announces head completion ≡ Some c → c < length counters
   pub joins : MayJoin a head collective
-  pub leaves : (x : Follower) → follower t a m head completion memory ≡ Some x → MayLeave unit x
+
+-- what follows its landing, if a message does, may leave
+abbrev pub FollowerMayLeave : (unit t a : ℕ) → MsgName → Head → (completion : Bool) → (memory : List ℕ) → Type 0
+FollowerMayLeave unit t a m head completion memory = (x : Follower) → follower t a m head completion memory ≡ Some x → MayLeave unit x
 
 -- the first fragment of a message that has come
 abbrev pub is_first : Arrival → Bool
@@ -174,10 +177,14 @@ abbrev pub events_of : (count : ℕ) → Option Message → List Event
 events_of count (Some m) = Land m.name ∷ follows m.head (completes_in count m.out) m.name
 events_of count None = []
 
-abbrev pub ArrivalMayLand : (unit t a count : ℕ) → Option Message → (memory counters : List ℕ) → Collective → Type 0
-ArrivalMayLand unit t a count (Some m) memory counters collective =
-    HeadMayLand unit t a m.name m.head (completes_in count m.out) (length m.bytes) memory counters collective
-ArrivalMayLand unit t a count None memory counters collective = Unit {0}
+abbrev pub ArrivalMayLand : (a count : ℕ) → Option Message → (memory counters : List ℕ) → Collective → Type 0
+ArrivalMayLand a count (Some m) memory counters collective =
+    HeadMayLand a m.head (completes_in count m.out) (length m.bytes) memory counters collective
+ArrivalMayLand a count None memory counters collective = Unit {0}
+
+abbrev pub ArrivalMayAnswer : (unit t a count : ℕ) → Option Message → (memory : List ℕ) → Type 0
+ArrivalMayAnswer unit t a count (Some m) memory = FollowerMayLeave unit t a m.name m.head (completes_in count m.out) memory
+ArrivalMayAnswer unit t a count None memory = Unit {0}
 
 -- task a joined the round that the message names, if one has come and it names one
 abbrev pub ArrivalJoins : (a : ℕ) → Option Message → (before after : Collective) → Type 0

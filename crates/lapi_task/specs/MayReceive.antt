@@ -17,7 +17,6 @@ use Rattle.lapi_link.specs.Sender.{SendingEnd}
 use Rattle.lapi_task.specs.declared.task.Task.{Task}
 use Rattle.lapi_task.specs.HasEffect.{IsAt}
 use Rattle.lapi_task.specs.Landed.{MayCall, HeadMayLand}
-use Rattle.lapi_task.specs.StandsFor.{task_unit}
 
 -- an acknowledgement covers numbers alone that were sent
 abbrev pub CoversSent : SendingEnd → (base bits : ℕ) → Type 0
@@ -34,7 +33,7 @@ pub record DataFits (task : Task) (from : ℕ) (p : DataPacket) (end : Receiving
   pub take : MayTake end p
   pub call : MayCall p
   pub own : p.name.leg ≡ Back → p.name.statement < length task.statements
-  pub lands : is_last end p ≡ true → (completion : Bool) → HeadMayLand (task_unit task) task.state.number from p.name p.head completion p.length task.state.memory task.state.counters task.state.collective
+  pub lands : is_last end p ≡ true → (completion : Bool) → HeadMayLand from p.head completion p.length task.state.memory task.state.counters task.state.collective
 
 abbrev pub Fits : Task → (from : ℕ) → Packet → Type 0
 Fits task from (Data p) = (end : ReceivingEnd) → slice_get task.receivers.items from ≡ Some end → DataFits task from p end

@@ -17,7 +17,7 @@ use Rattle.lapi_base.specs.Laws.Receiving.{bytes_in}
 use Rattle.lapi_base.specs.Record.HeadSays.{follows, back_head, asked_pieces}
 use Rattle.lapi_memory.specs.TaskMemory.{bytes_at}
 use Rattle.lapi_vector.specs.Pieces.{total_of}
-use Rattle.lapi_task.specs.Landed.{Follower, follower_packet, note_of, back_of, note_now, follower, MayLeave}
+use Rattle.lapi_task.specs.Landed.{Follower, FollowerMayLeave, follower_packet, note_of, back_of, note_now, follower, MayLeave}
 
 pub total-is : (spans : List Span) → total_of spans ≡ bytes_in spans
 total-is spans = fold-map ◌+◌ (λ (p : Span). p.len) 0 spans
@@ -31,7 +31,7 @@ back-made t a m pieces memory head len packet bytes made size same = λ i. recor
 
 -- what follows this head may leave
 abbrev pub MayFollow : (unit t a : ℕ) → MsgName → (completion : Bool) → (memory : List ℕ) → Head → Type 0
-MayFollow unit t a m completion memory head = (x : Follower) → follower t a m head completion memory ≡ Some x → MayLeave unit x
+MayFollow unit t a m completion memory head = FollowerMayLeave unit t a m head completion memory
 
 -- so may the answer that it asks for
 pub back-may-leave : (unit t a : ℕ) (m : MsgName) (completion : Bool) (memory : List ℕ) (h : Head) → MayFollow unit t a m completion memory h → (back : Head) → back_head h ≡ Some back → MayLeave unit (back_of t a m (asked_pieces h) memory back)

@@ -41,7 +41,6 @@ use Rattle.lapi_parts.proofs.CarriedLengths.{carried-length}
 use Rattle.lapi_parts.proofs.Deliveries.{delivered}
 use Rattle.lapi_parts.proofs.FirstLayout.{first-unit, first-longest}
 use Rattle.lapi_parts.proofs.HeadAnswers.{backs-follow, backs-bring, notes-follow}
-use Rattle.lapi_parts.proofs.NotePackets.{note-spelled}
 use Rattle.lapi_parts.proofs.SpelledPackets.{message-spelled}
 use Rattle.lapi_task.specs.Answered.{completes_in}
 use Rattle.lapi_task.specs.Landed.{Follower, note_of, back_of, note_now, follower, MayLeave, called, events_of}
@@ -60,7 +59,7 @@ common o (Data p) = record p { seq = 0; fragment = 0; payload = [] }
 common o (Ack from to base bits) = o
 
 -- a notice that goes out with the landing is that of the head
-noted-now : (h : Head) (completion : Bool) (head : Head) → note_now h completion ≡ Some head → note_head h ≡ Some head
+pub noted-now : (h : Head) (completion : Bool) (head : Head) → note_now h completion ≡ Some head → note_head h ≡ Some head
 noted-now (heads.Am handler tgt cmpl header) true head e = absurd (cc)
 noted-now (heads.Am handler tgt cmpl header) false head e = e
 noted-now _ completion head e = e
@@ -169,33 +168,3 @@ module _ (script : Script) (rules : Rules) where
 
       pub follower-is : (x : Follower) → follower t a p.name p.head later memory ≡ Some x → Follows J t a x
       follower-is x e = follower-by (back_head p.head) (note_now p.head later) refl refl x e
-
-      -- What follows may leave, whatever was answered to the header.
-      module _ (valid : ValidScript script) (ok : ValidRules rules) (atomic : Atomic script rules (followed r.journal (events_now script rules t r a p))) where
-        note-leaves : (head : Head) → note_head p.head ≡ Some head → MayLeave (unit_of script) (note_of t a p.name head)
-        unfolding fragment_count
-        note-leaves head e =
-            let m = message p.name.origin p.name.statement Note in
-            let f = note-follows head e in
-            record {
-              size = refl;
-              short = omega arith;
-              spelled = λ n j few lj.
-                  let spells = note-spelled script rules valid ok r is a t k p head entry e n j few (subst (λ (o : DataPacket). j < fragments_in (unit_of script) o.length) (sym f.is) lj) in
-                  subst HasSpelling (packet-is script rules m n j [] ∙ (λ i. packet_of (f.is i) (unit_of script) n j [])) (_, spells);
-            }
-
-        back-leaves : (head : Head) → back_head p.head ≡ Some head → MayLeave (unit_of script) (back_of t a p.name (asked_pieces p.head) memory head)
-        unfolding followed
-        back-leaves head e =
-            let x = back_of t a p.name (asked_pieces p.head) memory head in
-            may-leave valid ok J t a x (back-follows head e)
-            (subst (Atomic script rules) (copied-then (Some x) (back-given later head e)) atomic)
-
-        leaves-by : (c : Bool) (ob on : Option Head) → back_head p.head ≡ ob → note_now p.head c ≡ on → (x : Follower) → option_or (option_map (back_of t a p.name (asked_pieces p.head) memory) ob) (option_map (note_of t a p.name) on) ≡ Some x → MayLeave (unit_of script) x
-        leaves-by c (Some head) on b n x e = subst (MayLeave (unit_of script)) (some-same _ _ e) (back-leaves head b)
-        leaves-by c None (Some head) b n x e = subst (MayLeave (unit_of script)) (some-same _ _ e) (note-leaves head (noted-now p.head c head n))
-        leaves-by c None None b n x e = absurd (cc)
-
-        pub follower-leaves : (c : Bool) (x : Follower) → follower t a p.name p.head c memory ≡ Some x → MayLeave (unit_of script) x
-        follower-leaves c x e = leaves-by c (back_head p.head) (note_now p.head c) refl refl x e

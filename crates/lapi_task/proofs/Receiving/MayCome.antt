@@ -1,5 +1,5 @@
 -- What comes of a packet that fits its task, by what the task has.
-use Rattle.std.proofs.Common.{◌≡◌, ℕ, ◌<◌, ◌≤◌, ◌==◌, ◌||◌, ◌++◌, Bool, true, false, not, List, length, get_or, Option, Some, None, IfSome, refl, sym, ap, ◌∙◌, subst, arith}
+use Rattle.std.proofs.Common.{◌≡◌, ℕ, ◌+◌, ◌<◌, ◌≤◌, ◌==◌, ◌||◌, ◌++◌, Bool, true, false, not, List, length, get_or, Option, Some, None, IfSome, refl, sym, ap, ◌∙◌, subst, arith}
 use Rattle.std.specs.Prelude.{slice_get, slice_set}
 use Rattle.std.proofs.lemmas.Bool.{and_from, eqb-true}
 use Rattle.std.proofs.lemmas.List.{length-set, append-nil}
@@ -10,6 +10,7 @@ use Rattle.lapi_base.specs.declared.head.Head.{Head}
 use Rattle.lapi_base.specs.declared.message.Leg.TheVariants.{Back}
 use Rattle.lapi_base.specs.declared.message.MsgName.{MsgName}
 use Rattle.lapi_base.specs.declared.packet.DataPacket.{DataPacket}
+use Rattle.lapi_base.specs.declared.packet.Packet.TheVariants.{Data}
 use Rattle.lapi_base.proofs.ListLaws.{get-some, get-set, some-same}
 use Rattle.lapi_window.specs.RecvWindow.{Receiving, is_taken}
 use Rattle.lapi_reassembly.specs.declared.message.Message.{Message}
@@ -22,10 +23,24 @@ use Rattle.lapi_task.specs.declared.task.Task.{Task}
 use Rattle.lapi_task.specs.Acknowledging.{MayAnswer}
 use Rattle.lapi_task.specs.Answered.{completes_in}
 use Rattle.lapi_task.specs.HasEffect.{IsAtSome}
-use Rattle.lapi_task.specs.Landed.{HeadMayLand, ArrivalMayLand, HasCome, landed, called, is_first, kept_now}
+use Rattle.lapi_task.specs.Landed.{HeadMayLand, MayLeave, FollowerMayLeave, ArrivalMayLand, ArrivalMayAnswer, HasCome, landed, called, is_first, kept_now}
 use Rattle.lapi_task.specs.MayReceive.{DataFits, is_last}
 use Rattle.lapi_task.specs.StandsFor.{ReceiverAt, task_unit}
 use Rattle.lapi_task.specs.Unfinished.{IsOfStatement}
+use Rattle.std.proofs.lemmas.List.Elements.{recursion_from_All}
+use Rattle.lapi_base.specs.declared.span.Span.{Span}
+use Rattle.lapi_base.specs.Packet.Spelling.{HasSpelling}
+use Rattle.lapi_base.specs.Record.HeadSays.{asked_pieces}
+use Rattle.lapi_base.specs.Record.Operations.{numbers_below}
+use Rattle.lapi_base.specs.Record.Valid.{IsByte}
+use Rattle.lapi_base.specs.Record.Values.{values, memory_bytes}
+use Rattle.lapi_base.proofs.ListLaws.{all-map, all-any}
+use Rattle.lapi_parts.proofs.FirstLayout.{first-unit}
+use Rattle.lapi_parts.proofs.SmallBytes.{AllBytes, values-small}
+use Rattle.lapi_vector.specs.Pieces.{AreWithin}
+use Rattle.lapi_task.proofs.Copying.CopyLaws.{unit-is}
+use Rattle.lapi_task.proofs.Following.KeptHeads.{says-follower}
+use Rattle.lapi_task.proofs.Following.SpelledFollowers.{go-of, leaves}
 
 -- what is read at a place that there is
 pub read-there : {X : Type 0} (xs : List X) (n : ℕ) (d : X) → n < length xs → slice_get xs n ≡ Some (get_or xs n d)
@@ -60,23 +75,42 @@ if-of o m P e h = subst (λ x. IfSome x P) e h
 module _ (task : Task) (a : ℕ) (p : DataPacket) (end : ReceivingEnd) (fits : DataFits task a p end) (now : Option HeaderOut) (came-whole : Option Message) (before after : List ReceivingEnd) (events during : List Event) (own : HasCome before after a p now came-whole events during end) where
   -- It may land,
   abbrev MayLandNow : (count : ℕ) → Message → Type 0
-  MayLandNow count m = HeadMayLand (task_unit task) task.state.number a m.name m.head (completes_in count m.out) (length m.bytes) task.state.memory task.state.counters task.state.collective
+  MayLandNow count m = HeadMayLand a m.head (completes_in count m.out) (length m.bytes) task.state.memory task.state.counters task.state.collective
 
   lands-now : (count : ℕ) (m : Message) (out : Option HeaderOut) → whole_message own.arrival ≡ Some m → MayLandNow count (record m { out = out })
   lands-now count m out e =
       let c = completes_in count out in
       let is : IsMessageOf p.name p.head p.length m = if-of (whole_message own.arrival) m (IsMessageOf p.name p.head p.length) e own.message in
       let given = fits.lands (last-came end own.mid p own.arrival own.once m e) c in
-      subst (λ (x : MsgName). HeadMayLand (task_unit task) task.state.number a x m.head c (length m.bytes) task.state.memory task.state.counters task.state.collective) (sym is.name)
-      (subst (λ (h : Head). HeadMayLand (task_unit task) task.state.number a p.name h c (length m.bytes) task.state.memory task.state.counters task.state.collective) (sym is.head)
-      (subst (λ n. HeadMayLand (task_unit task) task.state.number a p.name p.head c n task.state.memory task.state.counters task.state.collective) (sym is.bytes) given))
+      subst (λ (h : Head). HeadMayLand a h c (length m.bytes) task.state.memory task.state.counters task.state.collective) (sym is.head)
+      (subst (λ n. HeadMayLand a p.head c n task.state.memory task.state.counters task.state.collective) (sym is.bytes) given)
 
-  pub may-land-now : (count : ℕ) → ArrivalMayLand (task_unit task) task.state.number a count came-whole task.state.memory task.state.counters task.state.collective
+  pub may-land-now : (count : ℕ) → ArrivalMayLand a count came-whole task.state.memory task.state.counters task.state.collective
   may-land-now count = some came-whole (subst (λ o. IfSome o (MayLandNow count)) (sym own.whole) (by-arrival (MayLandNow count) now own.arrival (lands-now count)))
     where
-      some : (o : Option Message) → IfSome o (MayLandNow count) → ArrivalMayLand (task_unit task) task.state.number a count o task.state.memory task.state.counters task.state.collective
+      some : (o : Option Message) → IfSome o (MayLandNow count) → ArrivalMayLand a count o task.state.memory task.state.counters task.state.collective
       some None h = tt
       some (Some m) h = h
+
+  -- what follows may leave,
+  module _ (leave : (c : Bool) → AreWithin (asked_pieces p.head) (length task.state.memory) → FollowerMayLeave (task_unit task) task.state.number a p.name p.head c task.state.memory) where
+    abbrev FollowsNow : (count : ℕ) → Message → Type 0
+    FollowsNow count m = FollowerMayLeave (task_unit task) task.state.number a m.name m.head (completes_in count m.out) task.state.memory
+
+    follows-now : (count : ℕ) (m : Message) (out : Option HeaderOut) → whole_message own.arrival ≡ Some m → FollowsNow count (record m { out = out })
+    follows-now count m out e =
+        let c = completes_in count out in
+        let is : IsMessageOf p.name p.head p.length m = if-of (whole_message own.arrival) m (IsMessageOf p.name p.head p.length) e own.message in
+        let given = leave c (fits.lands (last-came end own.mid p own.arrival own.once m e) c).asked in
+        subst (λ (x : MsgName). FollowerMayLeave (task_unit task) task.state.number a x m.head c task.state.memory) (sym is.name)
+        (subst (λ (h : Head). FollowerMayLeave (task_unit task) task.state.number a p.name h c task.state.memory) (sym is.head) given)
+
+    pub may-answer-now : (count : ℕ) → ArrivalMayAnswer (task_unit task) task.state.number a count came-whole task.state.memory
+    may-answer-now count = some came-whole (subst (λ o. IfSome o (FollowsNow count)) (sym own.whole) (by-arrival (FollowsNow count) now own.arrival (follows-now count)))
+      where
+        some : (o : Option Message) → IfSome o (FollowsNow count) → ArrivalMayAnswer (task_unit task) task.state.number a count o task.state.memory
+        some None h = tt
+        some (Some m) h = h
 
   -- and is an answer to a statement that there is, if it is one;
   abbrev IsOwn : Message → Type 0
@@ -152,6 +186,21 @@ module _ (task : Task) (at : IsAtSome task) (a : ℕ) (known : a < task.sizes.ta
       let e = receives.0.window in
       let w = first-window at.0 at.4.stands.calls.valid in
       omega (arith, e, w)
+
+  -- What follows the landing of a packet that has a spelling may leave.
+  pub follows-spelled : (p : DataPacket) → HasSpelling (Data p) → p.from ≡ a → (c : Bool) → AreWithin (asked_pieces p.head) (length task.state.memory) → FollowerMayLeave (task_unit task) task.state.number a p.name p.head c task.state.memory
+  unfolding memory_bytes
+  follows-spelled p spelled from c within = λ x e.
+      let l = known-task in
+      let tasks : at.0.tasks ≤ 8 = at.4.stands.calls.valid.tasks.1 in
+      let own : task.state.number ≡ at.2 = at.4.stands.holds.number in
+      let place : at.2 < at.0.tasks = at.4.known in
+      let says = says-follower (Data p) spelled.0 spelled.1 in
+      let place-small = (values-small at.0 at.1 at.4.stands.calls.valid at.3.journal).memory in
+      let small : AllBytes task.state.memory = subst AllBytes (sym at.4.stands.holds.memory) (all-map (λ _. Unit {0}) IsByte (λ i. (values at.0 at.1 at.3.journal).memory at.2 i) (numbers_below at.0.memory) (all-any (numbers_below at.0.memory)) (λ i _. place-small at.2 i)) in
+      let unit : task_unit task ≡ 256 = unit-is at.0 at.1 at.2 task at.4.stands.calls ∙ first-unit at.0 at.4.stands.calls.valid in
+      subst (λ u. MayLeave u x) (sym unit)
+      (leaves task.state.number a (omega (arith, own, place, tasks)) (omega (arith, l, tasks)) p.name (says.1 (go-of p.name.leg p.head says.2 task.state.number a p.name c task.state.memory x e) ∙ from) says.0 task.state.memory small p.head c says.2 (recursion_from_All (λ (s : Span). s.at + s.len ≤ length task.state.memory) (asked_pieces p.head) within) x e)
 
   -- The task may answer once it took a packet.
   pub may-answer : (then : Task) (old new : ReceivingEnd) → slice_get task.receivers.items a ≡ Some old → new.window.window ≡ old.window.window → then.receivers.items ≡ slice_set task.receivers.items a new → then.state.number ≡ task.state.number → MayAnswer then a

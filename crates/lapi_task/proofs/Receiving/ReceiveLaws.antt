@@ -43,7 +43,7 @@ use Rattle.lapi_task.specs.declared.outcome.Outcome.{Outcome}
 use Rattle.lapi_task.specs.declared.task.Task.{Task}
 use Rattle.lapi_task.specs.Acknowledging.{ReceivesAt, HasTaken, answer}
 use Rattle.lapi_task.specs.HasEffect.{IsAt, HasEffect, bytes_to}
-use Rattle.lapi_task.specs.Landed.{IsDirect, Follower, follower, MayLeave, MayCall, HeadMayLand, called, is_first, kept_now, ends_after, events_of, HasArrived, HasCome, landed}
+use Rattle.lapi_task.specs.Landed.{IsDirect, Follower, follower, MayCall, HeadMayLand, called, is_first, kept_now, ends_after, events_of, HasArrived, HasCome, landed}
 use Rattle.lapi_task.specs.MayReceive.{DataFits}
 use Rattle.lapi_task.specs.Answered.{KeepsAnswers, completes_in}
 use Rattle.lapi_task.specs.declared.state.State.{State}
@@ -58,7 +58,7 @@ use Rattle.lapi_task.proofs.Following.HeaderAnswers.{is-told}
 use Rattle.lapi_task.proofs.Receiving.ReceiveEvents.{come, come-is, come-told, come-events, first-is, is_opening, came_bytes}
 use Rattle.lapi_task.proofs.Receiving.ReceiveHolds.{holds-arrived, answer_now, handlers_now, lands_now, events_now}
 use Rattle.lapi_task.proofs.Receiving.ReceiveKinds.{Comes, comes as what-comes, there-is, direct-is}
-use Rattle.lapi_task.proofs.Following.Followers.{Follows, follower-is, follower-leaves}
+use Rattle.lapi_task.proofs.Following.Followers.{Follows, follower-is}
 use Rattle.lapi_task.proofs.Receiving.ReceiveSuits.{suits-head}
 use Rattle.lapi_task.proofs.Receiving.ReceiveLinks.{told, Settled, ends-come, ends-length}
 use Rattle.lapi_task.proofs.Sending.SenderLaws.{bytes-here, bytes-there}
@@ -228,11 +228,6 @@ module _ (script : Script) (rules : Rules) where
     follows-then : completes script rules r a t p ≡ true → (x : Follower) → follower t a p.name p.head (completes_in (handlers_now script rules t) (answer_now script rules t p)) task.state.memory ≡ Some x → Follows script rules (Land p.name ∷ followed r.journal (called (is_opening (r.handed a t) p) p.name p.head)) t a x
     follows-then whole x e = follower-is script rules r a t k p at.recorded entry packet-comes whole x (ap (follower t a p.name p.head (completes_in (handlers_now script rules t) (answer_now script rules t p))) (sym memory-there) ∙ e)
 
-    leaves : (later : Bool) → completes script rules r a t p ≡ true → (x : Follower) → follower t a p.name p.head later task.state.memory ≡ Some x → MayLeave (unit_of script) x
-    leaves later whole x e =
-        follower-leaves script rules r a t k p at.recorded entry packet-comes whole at.stands.calls.valid at.stands.calls.rules_valid atomic later x
-        (ap (follower t a p.name p.head later) (sym memory-there) ∙ e)
-
     -- its origin may join the round that it names
     joins : completes script rules r a t p ≡ true → MayJoin a p.head task.state.collective
     joins whole =
@@ -249,13 +244,10 @@ module _ (script : Script) (rules : Rules) where
     own-answers = let f = packet-comes.facts in own-answer script rules t p.name r.journal f.atomic f.copied f.leg f.place
 
     -- where all of its message has come, that may land
-    may-land : completes script rules r a t p ≡ true → (later : Bool) → HeadMayLand (task_unit task) task.state.number a p.name p.head later p.length task.state.memory task.state.counters task.state.collective
+    may-land : completes script rules r a t p ≡ true → (later : Bool) → HeadMayLand a p.head later p.length task.state.memory task.state.counters task.state.collective
     may-land whole later =
         let h = at.stands.holds in
-        let there = there-is script rules p.head p.length packet-comes.kind packet-comes.fits.head in
-        subst (λ u. HeadMayLand u task.state.number a p.name p.head later p.length task.state.memory task.state.counters task.state.collective) (sym (unit-is script rules t task at.stands.calls))
-        (subst (λ n. HeadMayLand (unit_of script) n a p.name p.head later p.length task.state.memory task.state.counters task.state.collective) (sym h.number)
-        (suits-head script rules (unit_of script) t a p.name p.head later p.length task.state.memory task.state.counters task.state.collective direct there (ap length h.memory ∙ memory-length script rules r.journal t) h.counter_count (joins whole) (leaves later whole)))
+        suits-head script rules a p.head later p.length task.state.memory task.state.counters task.state.collective direct (there-is script rules p.head p.length packet-comes.kind packet-comes.fits.head) (ap length h.memory ∙ memory-length script rules r.journal t) h.counter_count (joins whole)
 
     -- the packet fits what the task has
     module _ (may-take : WhatArrivesMayBeTaken) (whole-is : WholeIsComplete) where

@@ -7,13 +7,13 @@ ghost use Rattle.lapi_base.specs.declared.packet.Packet.TheVariants.{Data};
 ghost use Rattle.lapi_base.specs.declared.reply.Bad.{Bad};
 ghost use Rattle.lapi_base.specs.Record.Wires.{Run};
 ghost use Rattle.lapi_base.specs.Record.Acts.{deliver};
-ghost use Rattle.lapi_base.specs.Packet.Spelling.{Spells, decoded};
+ghost use Rattle.lapi_base.specs.Packet.Spelling.{Spells, HasSpelling, decoded};
 ghost use Rattle.lapi_handlers.specs.Handlers.{rules_of};
 ghost use Rattle.lapi_link.specs.Receiver.{ReceivingEnd};
 ghost use Rattle.lapi_task.specs.Alone.{IsReceived, DataIsReceived};
 ghost use Rattle.lapi_task.specs.Answered.{answer_to};
 ghost use Rattle.lapi_task.specs.HasEffect.{IsAt, IsAtSome, HasEffect, received_as};
-ghost use Rattle.lapi_task.specs.Landed.{ArrivalMayLand, HasArrived, MayCome, MayCall, HasCome};
+ghost use Rattle.lapi_task.specs.Landed.{ArrivalMayLand, ArrivalMayAnswer, HasArrived, MayCome, MayCall, HasCome};
 ghost use Rattle.lapi_task.specs.MayReceive.{MayReceive};
 ghost use Rattle.lapi_task.specs.StandsFor.{task_unit};
 ghost use Rattle.lapi_base.specs.declared.layout.TheConstants.{PAYLOAD_ROOM};
@@ -77,6 +77,7 @@ impl Task {
         out: &mut Outcome,
     ) -> Result<(), Memory>
         requires stands { IsAtSome self.old }
+        requires spelled { HasSpelling (Data packet.now) }
         requires may { MayReceive self.old from (Data packet.now) }
         ensures effect { OnOk result ((script : Script) (t k : ℕ) (r : Run)
             → let rules = rules_of handlers.now in IsAt script rules t self.old r → from < script.tasks
@@ -107,9 +108,10 @@ impl Task {
         events: &mut Events,
     ) -> Result<(), Memory>
         requires link { (from < length self.old.senders.items) × (task_unit self.old ≤ PAYLOAD_ROOM) }
-        requires allowed { ArrivalMayLand (task_unit self.old) self.old.state.number from
-            (length (rules_of handlers.now).completions) message.now self.old.state.memory self.old.state.counters
-            self.old.state.collective }
+        requires allowed { ArrivalMayLand from (length (rules_of handlers.now).completions) message.now
+            self.old.state.memory self.old.state.counters self.old.state.collective }
+        requires follows { ArrivalMayAnswer (task_unit self.old) self.old.state.number from
+            (length (rules_of handlers.now).completions) message.now self.old.state.memory }
         ensures { OnOk result (HasArrived from (length (rules_of handlers.now).completions) message.now self.old
             self.new events.old events.new) }
     {
@@ -129,9 +131,10 @@ impl Task {
         events: &mut Events,
     ) -> Result<(), Memory>
         requires link { (from < length self.old.senders.items) × (task_unit self.old ≤ PAYLOAD_ROOM) }
-        requires allowed { ArrivalMayLand (task_unit self.old) self.old.state.number from
-            (length (rules_of handlers.now).completions) (Some message.now)
+        requires allowed { ArrivalMayLand from (length (rules_of handlers.now).completions) (Some message.now)
             self.old.state.memory self.old.state.counters self.old.state.collective }
+        requires follows { ArrivalMayAnswer (task_unit self.old) self.old.state.number from
+            (length (rules_of handlers.now).completions) (Some message.now) self.old.state.memory }
         ensures { OnOk result (HasArrived from (length (rules_of handlers.now).completions) (Some message.now) self.old
             self.new events.old events.new) }
     {

@@ -8,7 +8,7 @@ use Rattle.lapi_task.specs.declared.task.Task.{Task}
 use Rattle.lapi_task.specs.Answered.{answer_to}
 use Rattle.lapi_task.specs.Landed.{MayCome}
 use Rattle.lapi_task.proofs.Receiving.ReceiveLaws.{KeepsRest, Takes, takes-over, has-taken, has-taken-still, arrived-does}
-use Rattle.lapi_task.proofs.Receiving.MayCome.{may-land-now, of-statement, as-wide, may-answer, receiver-there}
+use Rattle.lapi_task.proofs.Receiving.MayCome.{may-answer-now, follows-spelled, may-land-now, of-statement, as-wide, may-answer, receiver-there}
 use Rattle.lapi_task.proofs.Receiving.TakenAlone.{taken-alone}
 use Rattle.lapi_task.proofs.task.Task.arrive.Goals as goal
 
@@ -37,6 +37,18 @@ take_effect-requires-clause-allowed g c =
     let mid : Task = record task { receivers = with_items task.receivers c.take.new.receivers } in
     let takes : Takes a p now c.in_ok-message.message c.args.out.now.events c.take.new.events task.receivers.items mid.receivers.items = takes-over task.receivers a p now c.in_ok-message.message c.args.out.now.events c.take.new.events c.deref_mut.result.now c.take.new.receivers c.deref_mut.ensures.value c.in_ok-message.ensures in
     may-land-now task a p end.0 (c.requires.may.fits end.0 end.1) now c.in_ok-message.message task.receivers.items mid.receivers.items c.args.out.now.events c.take.new.events (takes end.0 end.1) (length (rules_of c.args.handlers.now).completions)
+
+pub take_effect-requires-clause-follows : goal.take_effect-requires-clause-follows
+take_effect-requires-clause-follows g c =
+    let task = c.args.self.now in
+    let a = c.args.from in
+    let p = c.args.packet.now in
+    let now = answer_to (rules_of c.args.handlers.now) p.name p.head p.length in
+    let end = get-some task.receivers.items a (receiver-there task c.requires.stands a c.requires.may.known) in
+    let mid : Task = record task { receivers = with_items task.receivers c.take.new.receivers } in
+    let takes : Takes a p now c.in_ok-message.message c.args.out.now.events c.take.new.events task.receivers.items mid.receivers.items = takes-over task.receivers a p now c.in_ok-message.message c.args.out.now.events c.take.new.events c.deref_mut.result.now c.take.new.receivers c.deref_mut.ensures.value c.in_ok-message.ensures in
+    let spelled = follows-spelled task c.requires.stands a c.requires.may.known p c.requires.spelled c.requires.may.goes.0 in
+    may-answer-now task a p end.0 (c.requires.may.fits end.0 end.1) now c.in_ok-message.message task.receivers.items mid.receivers.items c.args.out.now.events c.take.new.events (takes end.0 end.1) spelled (length (rules_of c.args.handlers.now).completions)
 
 pub arrived-requires : goal.arrived-requires
 arrived-requires g c =

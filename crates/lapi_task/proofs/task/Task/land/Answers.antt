@@ -9,4 +9,4 @@ follow-requires-clause-allowed g c =
     let m = c.args.message.now in
     let later : c.is_some.result ≡ is_some c.completion-completion.result = c.is_some.ensures in
     subst (λ (b : Bool). MayFollow (task_unit task) task.state.number c.args.from m.name b task.state.memory m.head)
-    (sym (later ∙ ap (λ (o : Option _). is_some o) c.completion-completion.ensures)) c.requires.allowed.leaves
+    (sym (later ∙ ap (λ (o : Option _). is_some o) c.completion-completion.ensures)) c.requires.follows

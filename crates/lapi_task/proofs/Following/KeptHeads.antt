@@ -1,0 +1,196 @@
+-- What a packet that has a spelling says of the message that follows its own.
+use Rattle.std.proofs.Common.{◌≡◌, ℕ, zero, suc, ◌+◌, ◌-◌, ◌%◌, ◌≤◌, ◌==◌, not, true, false, cond, ◌&&◌, ◌||◌, List, [], ◌∷◌, length, Some, None, refl, sym, ap, subst, ⊎_elim, arith}
+use Rattle.std.specs.Prelude.{nat_lt, nat_le}
+use Rattle.std.specs.List.{AllByRecursion}
+use Rattle.std.proofs.lemmas.Bool.{cond_both, or_cases, and_parts, both_ways, leb-true, ltb-true, eqb-true}
+use Rattle.std.proofs.lemmas.List.Sums.{sum_by-cons}
+use Rattle.lapi_base.specs.declared.head.Head.{Head}
+use Rattle.lapi_base.specs.declared.head.Head.TheVariants as heads
+use Rattle.lapi_base.specs.declared.message.Leg.{Leg}
+use Rattle.lapi_base.specs.declared.message.Leg.TheVariants.{Go, Back, Note, Echo, Join}
+use Rattle.lapi_base.specs.declared.message.MsgName.{MsgName}
+use Rattle.lapi_base.specs.declared.packet.Packet.{Packet}
+use Rattle.lapi_base.specs.declared.packet.Packet.TheVariants.{Data, Ack}
+use Rattle.lapi_base.specs.declared.span.Span.{Span}
+use Rattle.lapi_base.specs.Laws.Receiving.{bytes_in}
+use Rattle.lapi_base.specs.Packet.Fields.{fits, counter_form, range_form, word_form, count_form, span_form, within_form, covering_form, matching_form}
+use Rattle.lapi_base.specs.Packet.Format.{bytes_form, repeated}
+use Rattle.lapi_base.specs.Packet.Heads.{put_form, get_go_form, get_back_form, putv_form, getv_go_form, getv_back_form, rmw_go_form, rmw_back_form, update_form, header_count_form, round_form, operation_form, am_form, note_form, echo_form, gfence_form, addr_form, head_form}
+use Rattle.lapi_base.specs.Packet.Layout.{First, layout_of, unit}
+use Rattle.lapi_base.specs.Packet.Spelling.{task_form, kind_form, front_form, is_leg, leg_of, leg_form, name_form, length_form, fragment_form, data_form, acknowledgement_form, packet_form, Spells}
+use Rattle.lapi_base.specs.Record.Fragments.{fragment_length}
+use Rattle.lapi_base.proofs.FormLaws.{Always, always_spelled, always_bind}
+use Rattle.lapi_parts.proofs.SpelledParts.{IsNumbered, IsWithin, SameLengths}
+
+-- ---- parts
+
+counter-kept : (n : ℕ) → (nat_lt n 64 || n == 255) ≡ true → IsNumbered (cond (n == 255) None (Some n))
+counter-kept n k =
+    cond_both (n == 255) None (Some n) IsNumbered (λ _. tt) (λ e.
+    ⊎_elim (λ (x : nat_lt n 64 ≡ true). ltb-true n 64 x) (λ (y : (n == 255) ≡ true). absurd (both_ways _ e y)) (or_cases (nat_lt n 64) (n == 255) k))
+
+abbrev SpanKept : (least most : ℕ) → Span → Type 0
+SpanKept least most s = (s.at + s.len ≤ 65536) × (least ≤ s.len) × (s.len ≤ most)
+
+span-kept : (least most : ℕ) → Always (SpanKept least most) (span_form least most)
+unfolding span_form
+span-kept least most = λ at la ka len ll kl.
+    let x = and_parts (fits at len && nat_le least len) (nat_le len most) kl in
+    let y = and_parts (fits at len) (nat_le least len) x.0 in
+    (leb-true (at + len) 65536 y.0, leb-true least len y.1, leb-true len most x.1)
+
+abbrev WithinKept : (most count : ℕ) → List Span → Type 0
+WithinKept most count xs = (length xs ≡ count) × (bytes_in xs ≤ most)
+
+within-kept : (most count : ℕ) → Always (WithinKept most count) (within_form most count)
+unfolding repeated
+within-kept most zero = (refl, omega arith)
+within-kept most (suc count) =
+    always_bind (WithinKept most (suc count)) (span_form 0 most) _ (λ first fb f.
+    always_bind (WithinKept most (suc count)) (within_form (most - first.len) count) _ (λ others ob o.
+    let rest = always_spelled (WithinKept (most - first.len) count) (within_form (most - first.len) count) others ob (within-kept (most - first.len) count) o in
+    let own = always_spelled (SpanKept 0 most) (span_form 0 most) first fb (span-kept 0 most) f in
+    let sum : bytes_in (first ∷ others) ≡ first.len + bytes_in others = sum_by-cons (λ (s : Span). s.len) first others in
+    (ap suc rest.0, (let l = rest.1 in let k = own.2 in omega (arith, sum, l, k)))))
+
+abbrev MatchKept : List Span → List Span → Type 0
+MatchKept others xs = SameLengths others xs × AllByRecursion IsWithin xs
+
+matching-kept : (others : List Span) → Always (MatchKept others) (matching_form others)
+unfolding repeated
+matching-kept [] = (tt, tt)
+matching-kept (o ∷ os) =
+    always_bind (MatchKept (o ∷ os)) (span_form o.len o.len) _ (λ first fb f.
+    always_bind (MatchKept (o ∷ os)) (matching_form os) _ (λ rest rb r.
+    let own = always_spelled (SpanKept o.len o.len) (span_form o.len o.len) first fb (span-kept o.len o.len) f in
+    let more = always_spelled (MatchKept os) (matching_form os) rest rb (matching-kept os) r in
+    (((let l = own.1 in let k = own.2 in omega (arith, l, k)), more.0), (own.0, more.1))))
+
+same-count : (xs ys : List Span) → SameLengths xs ys → length xs ≡ length ys
+same-count [] [] h = refl
+same-count (x ∷ xs) (y ∷ ys) h = ap suc (same-count xs ys h.1)
+same-count [] (y ∷ ys) h = absurd h
+same-count (x ∷ xs) [] h = absurd h
+
+-- ---- heads
+
+-- what the head of a message says of the one that follows it: a Go alone has one
+abbrev pub Bears : Leg → Head → Type 0
+Bears leg (heads.Put at tgt cmpl) = (leg ≡ Go) × IsNumbered cmpl
+Bears leg (heads.Putv tgt cmpl pieces) = (leg ≡ Go) × IsNumbered cmpl
+Bears leg (heads.Am handler tgt cmpl header) = (leg ≡ Go) × IsNumbered cmpl
+Bears leg (heads.GetGo asked source dest tgt org) = (leg ≡ Go) × (asked ≤ 16384) × (dest + asked ≤ 65536) × IsNumbered org
+Bears leg (heads.GetvGo tgt org source dest) = (leg ≡ Go) × (1 ≤ length dest) × (length dest ≤ 16) × AllByRecursion IsWithin dest × SameLengths source dest × (bytes_in source ≤ 16384) × IsNumbered org
+Bears leg (heads.RmwGo op at in1 in2 prev org) = (leg ≡ Go) × (prev + 4 ≤ 65536) × (prev % 4 ≡ 0) × IsNumbered org
+Bears leg _ = Unit {0}
+
+put-kept : (len : ℕ) → Always (Bears Go) (put_form len)
+unfolding put_form range_form counter_form
+put-kept len = λ at la ka tgt lt kt cmpl lc kc. (refl, counter-kept cmpl kc)
+
+get_go-kept : Always (Bears Go) (get_go_form First)
+unfolding get_go_form range_form counter_form
+get_go-kept = λ asked l k source ls ks dest ld kd tgt lt kt org lo ko. (refl, leb-true asked 16384 k, leb-true (dest + asked) 65536 kd, counter-kept org ko)
+
+putv-kept : (len : ℕ) → Always (Bears Go) (putv_form len)
+unfolding putv_form counter_form count_form
+putv-kept len = λ tgt lt kt cmpl lc kc count ln kn. always_bind (Bears Go) (covering_form len count) _ (λ pieces bytes s. (refl, counter-kept cmpl kc))
+
+getv_go-kept : Always (Bears Go) (getv_go_form First)
+unfolding getv_go_form counter_form count_form
+getv_go-kept = λ tgt lt kt org lo ko count ln kn.
+    always_bind (Bears Go) (within_form 16384 count) _ (λ source sb s.
+    always_bind (Bears Go) (matching_form source) _ (λ dest db d.
+    let w = always_spelled (WithinKept 16384 count) (within_form 16384 count) source sb (within-kept 16384 count) s in
+    let m = always_spelled (MatchKept source) (matching_form source) dest db (matching-kept source) d in
+    let few = and_parts (nat_le 1 count) (nat_le count 16) kn in
+    let low = leb-true 1 count few.0 in
+    let high = leb-true count 16 few.1 in
+    let same = same-count source dest m.0 in
+    let size = w.0 in
+    (refl, omega (arith, low, same, size), omega (arith, high, same, size), m.1, m.0, w.1, counter-kept org ko)))
+
+rmw_go-kept : Always (Bears Go) rmw_go_form
+unfolding rmw_go_form update_form word_form counter_form
+rmw_go-kept = λ op lo ko at la ka in1 l1 k1 in2 l2 k2 prev lp kp org lorg korg.
+    let both = and_parts (prev % 4 == 0) (nat_le prev 65532) kp in
+    (refl, (let l = leb-true prev 65532 both.1 in omega (arith, l)), eqb-true (prev % 4) 0 both.0, counter-kept org korg)
+
+am-kept : Always (Bears Go) am_form
+unfolding am_form counter_form header_count_form
+am-kept = λ handler lh kh tgt lt kt cmpl lc kc count ln kn. always_bind (Bears Go) (bytes_form count) _ (λ header bytes s. (refl, counter-kept cmpl kc))
+
+get_back-kept : (len : ℕ) → Always (Bears Back) (get_back_form len)
+unfolding get_back_form range_form counter_form
+get_back-kept len = λ dest _ _ org _ _. tt
+
+getv_back-kept : (len : ℕ) → Always (Bears Back) (getv_back_form len)
+unfolding getv_back_form counter_form count_form
+getv_back-kept len = λ org _ _ count _ _. always_bind (Bears Back) (covering_form len count) _ (λ dest bytes s. tt)
+
+rmw_back-kept : Always (Bears Back) rmw_back_form
+unfolding rmw_back_form word_form counter_form
+rmw_back-kept = λ dest _ _ org _ _. tt
+
+head-kept : (leg : Leg) (op len : ℕ) → Always (Bears leg) (head_form First leg op len)
+unfolding head_form note_form echo_form word_form counter_form gfence_form addr_form round_form
+head-kept Go op len =
+    cond_both (op == 1) (put_form len) _ (Always (Bears Go)) (λ _. put-kept len) (λ _.
+    cond_both (op == 2) (get_go_form First) _ (Always (Bears Go)) (λ _. get_go-kept) (λ _.
+    cond_both (op == 3) (putv_form len) _ (Always (Bears Go)) (λ _. putv-kept len) (λ _.
+    cond_both (op == 4) (getv_go_form First) _ (Always (Bears Go)) (λ _. getv_go-kept) (λ _.
+    cond_both (op == 5) rmw_go_form am_form (Always (Bears Go)) (λ _. rmw_go-kept) (λ _. am-kept)))))
+head-kept Back op len =
+    cond_both (op == 2) (get_back_form len) _ (Always (Bears Back)) (λ _. get_back-kept len) (λ _.
+    cond_both (op == 4) (getv_back_form len) rmw_back_form (Always (Bears Back)) (λ _. getv_back-kept len) (λ _. rmw_back-kept))
+head-kept Note op len = λ cmpl _ _. tt
+head-kept Echo op len = λ dest _ _ cmpl _ _. tt
+head-kept (Join d) op len = cond_both (op == 7) gfence_form addr_form (Always (Bears (Join d))) (λ _. (λ round _ _. tt)) (λ _. (λ round _ _ at _ _. tt))
+
+-- ---- packets
+
+abbrev NameKept : (from : ℕ) → MsgName → Type 0
+NameKept from m = (m.statement ≤ 511) × (m.leg ≡ Go → m.origin ≡ from)
+
+not-go : (to n : ℕ) → cond (n == 2) Back (cond (n == 3) Note (cond (n == 5) Echo (Join to))) ≡ Go → ⊥
+not-go to n =
+    cond_both (n == 2) Back _ (λ l. l ≡ Go → ⊥) (λ _ e. (let x : Back ≡ Go = e in cc)) (λ _.
+    cond_both (n == 3) Note _ (λ l. l ≡ Go → ⊥) (λ _ e. (let x : Note ≡ Go = e in cc)) (λ _.
+    cond_both (n == 5) Echo (Join to) (λ l. l ≡ Go → ⊥) (λ _ e. (let x : Echo ≡ Go = e in cc)) (λ _ e. (let x : Join to ≡ Go = e in cc))))
+
+goes-from : (from to origin n : ℕ) → is_leg from to origin n ≡ true → leg_of to n ≡ Go → origin ≡ from
+goes-from from to origin n =
+    elim (n == 1) as (λ b. (n == 1) ≡ b → cond b (origin == from) (cond (n == 2) (origin == to) (cond (n == 3) (origin == to) (n == 4 && origin == from && not (from == to)))) ≡ true → cond b Go (cond (n == 2) Back (cond (n == 3) Note (cond (n == 5) Echo (Join to)))) ≡ Go → origin ≡ from) [
+      | true ↦ λ e k g. eqb-true origin from k
+      | false ↦ λ e k g. absurd (not-go to n g)
+    ] refl
+
+name-kept : (from to : ℕ) → Always (NameKept from) (name_form from to)
+unfolding name_form leg_form
+name-kept from to = λ origin lo ko statement ls ks n ln kn. (leb-true statement 511 ks, goes-from from to origin n kn)
+
+-- what a packet says of the message that follows its own
+abbrev pub SaysFollower : Packet → Type 0
+SaysFollower (Data p) = (p.name.statement ≤ 511) × (p.name.leg ≡ Go → p.name.origin ≡ p.from) × Bears p.name.leg p.head
+SaysFollower (Ack from to base bits) = Unit {0}
+
+data-kept : (from to : ℕ) → Always SaysFollower (data_form First from to)
+unfolding data_form operation_form length_form fragment_form
+data-kept from to = λ seq ls ks.
+    always_bind SaysFollower (name_form from to) _ (λ name nb sn. λ op lo ko size lz kz fragment lf kf.
+    always_bind SaysFollower (head_form First name.leg op size) _ (λ head hb sh.
+    always_bind SaysFollower (bytes_form (fragment_length (unit First) size fragment)) _ (λ payload pb sp.
+    let n = always_spelled (NameKept from) (name_form from to) name nb (name-kept from to) sn in
+    (n.0, n.1, always_spelled (Bears name.leg) (head_form First name.leg op size) head hb (head-kept name.leg op size) sh))))
+
+packet-kept : Always SaysFollower packet_form
+unfolding packet_form front_form kind_form task_form acknowledgement_form
+packet-kept = λ magic lm km version lv kv kind lk kk from lf kf to lt kt.
+    let first : layout_of version ≡ First = ap layout_of (eqb-true version 1 kv) in
+    cond_both (kind == 1) (data_form (layout_of version) from to) _ (Always SaysFollower)
+    (λ _. subst (λ l. Always SaysFollower (data_form l from to)) (sym first) (data-kept from to))
+    (λ _. subst (λ l. Always SaysFollower (acknowledgement_form l from to)) (sym first) (λ base _ _ bits _ _. tt))
+
+-- Every packet that has a spelling says so much.
+pub says-follower : (p : Packet) (bytes : List ℕ) → Spells p bytes → SaysFollower p
+says-follower p bytes s = always_spelled SaysFollower packet_form p bytes packet-kept s
