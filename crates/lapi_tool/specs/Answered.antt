@@ -1,5 +1,5 @@
 -- What a command did to its source and its sink. This is the project's own.
-use Rattle.std.specs.Prelude.{◌≡◌, ℕ, ◌+◌, ◌≤◌, ◌⊎◌, List, [], length, reverse, Option, Some, None, Result, Ok, Err}
+use Rattle.std.specs.Prelude.{◌≡◌, ◌↔◌, IsTrue, ℕ, ◌+◌, ◌≤◌, ◌⊎◌, List, [], length, reverse, Option, Some, None, Result, Ok, Err}
 use Rattle.std.specs.Io.KnownBytes.{Appends, Consumes, IsAtEnd}
 use Rattle.lapi_base.specs.declared.command.Command.{Command}
 use Rattle.lapi_base.specs.declared.command.Command.TheVariants.{Read, Check, Audit, Landings, Show, Gen, Sum}
@@ -11,6 +11,7 @@ use Rattle.lapi_base.specs.declared.status.Status.{Status}
 use Rattle.lapi_base.specs.declared.status.Status.TheVariants as status
 use Rattle.lapi_base.specs.Output.CommandAnswers.{Answer, atomic_answer, broken_answer, usage_answer, fault_answer, shown_answer, generated_answer, summary_answer, input_answer, counts_text, view_text, recorded}
 use Rattle.lapi_base.specs.Record.Atomic.{AtomicInTime}
+use Rattle.lapi_base.specs.Record.Final.{Quiet, is_quiet}
 use Rattle.lapi_base.specs.Input.Reading.{Fault, most_input, read}
 use Rattle.lapi_base.specs.declared.audit_input.AuditInput.{AuditInput}
 use Rattle.lapi_base.specs.Input.AuditReading.{read_audit}
@@ -23,6 +24,7 @@ use Rattle.lapi_base.specs.declared.rule.Rules.{Rules}
 use Rattle.lapi_gen.specs.Inputs.{generated_input}
 use Rattle.lapi_tool.specs.Landings.{IsLanded}
 use Rattle.lapi_tool.specs.Outcomes.{CommandGives, IsSilent}
+use Rattle.lapi_world.specs.Settled.{IsSettled}
 
 -- all that was left was read; or, of a source with more bytes than an input may have, one byte more than those
 abbrev pub WasRead : (left rest : Option (List ℕ)) → List ℕ → Type 0
@@ -63,8 +65,9 @@ IsAnswered rules (Some Audit) left rest held now result = IsAudited rules left r
 IsAnswered rules (Some Landings) left rest held now result = IsLanded left rest held now result
 IsAnswered rules (Some (Read view)) left rest held now result = IsToldOf (view_text view rules) left rest held now result
 
--- The whole source is the text of an input; the report of the record of all its lines was appended; and the journal of
--- that record is one of the atomic message machine, which has no packets.
+-- The whole source is the text of an input; the report of the record of all its lines was appended; the journal of that
+-- record is one of the atomic message machine, which has no packets; and where the report ends in `quiet yes`, nothing is
+-- under way, whatever was begun has all its events, and no lines without a Step add one.
 pub record IsReported (rules : Rules) (left rest held now : Option (List ℕ)) : Type 0 where
   pub bytes : List ℕ
   pub x : Input
@@ -72,3 +75,5 @@ pub record IsReported (rules : Rules) (left rest held now : Option (List ℕ)) :
   pub reads : IsInputText x bytes
   pub written : Appends held now (report_text x.script rules (recorded rules x) (length x.schedule))
   pub atomic : AtomicInTime x.script rules (reverse (recorded rules x).journal)
+  pub quiet : IsTrue (is_quiet x.script rules (recorded rules x)) ↔ Quiet x.script rules (recorded rules x)
+  pub settled : IsTrue (is_quiet x.script rules (recorded rules x)) → IsSettled x.script rules (recorded rules x)

@@ -21,7 +21,7 @@ use crate::words::command_of;
 use lapi_base::{Command, LONGEST_INPUT, ReadFault, Status, View, Which, WriteFault};
 use lapi_handlers::Handlers;
 use lapi_io::{ReadAll, Sink, Source, read_all};
-use lapi_laws::journal_is_atomic;
+use lapi_laws::{delivered_is_final, journal_is_atomic, quiet_is_tested};
 use lapi_report::write_packet;
 use lapi_script::read_input;
 use lapi_text::text_laws;
@@ -52,7 +52,7 @@ pub fn run<S: Source, K: Sink>(
     ensures answer { IsAnswered (rules_of handlers.now)
         (commands_of.command_of (map (λ word. word.bytes.items) words.now.items))
         (S.left source.old) (S.left source.new) (K.held sink.old) (K.held sink.new) result }
-    // The report is that of the atomic message machine.
+    // The report is that of the atomic message machine, and all is final where it ends in `quiet yes`.
     ensures headline { commands_of.command_of (map (λ word. word.bytes.items) words.now.items)
         ≡ Some (commands.Read Report)
         → result ≡ Status.Ok
@@ -66,6 +66,8 @@ pub fn run<S: Source, K: Sink>(
 {
     text_laws();
     journal_is_atomic();
+    quiet_is_tested();
+    delivered_is_final();
     match command_of(alloc, words) {
         Err(_) => Status::Memory,
         Ok(None) => end(Status::Usage, write_text(USAGE, sink)),
