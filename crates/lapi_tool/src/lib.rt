@@ -1,6 +1,7 @@
 //! The commands: what a user's words and input come to, from the bytes in to the bytes out.
 #![tactic(auto)]
 
+mod audited;
 mod command;
 mod counts;
 mod fault;
@@ -12,4 +13,5 @@ mod verdict;
 mod views;
 mod words;
 
+pub use audited::journals_are_told_atomic;
 pub use command::run;
