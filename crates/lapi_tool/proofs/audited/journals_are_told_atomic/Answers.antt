@@ -1,4 +1,4 @@
-use Rattle.std.proofs.Common.{◌≡◌, length, map, reverse, ap, subst}
+use Rattle.std.proofs.Common.{length, map, subst}
 use Rattle.std.proofs.lemmas.List.{length-reverse}
 use Rattle.lapi_base.proofs.ListLaws.{all-map}
 use Rattle.lapi_base.specs.declared.event.Event.{Event}
