@@ -7,11 +7,11 @@
 ghost use Rattle.std.specs.Prelude.{◌≡◌, false, Result, Ok};
 ghost use Rattle.lapi_base.specs.declared.input.LineError.{LineError};
 ghost use Rattle.lapi_base.specs.Input.Lines.{words_of};
-ghost use Rattle.lapi_base.specs.Input.Forms.{and_then, run, task_line_form};
+ghost use Rattle.lapi_base.specs.Input.Forms.{and_then, run, line_form, task_line_form};
 ghost use Rattle.lapi_base.specs.Input.Forms as forms;
 ghost use Rattle.lapi_base.specs.declared.script.Script.{Script};
 ghost use Rattle.lapi_base.specs.declared.statement.Statement.{Statement};
-ghost use Rattle.lapi_base.specs.Input.Reading.{step, after, keeps_pieces, on_first_task, on_task_line, on_statement, on_line};
+ghost use Rattle.lapi_base.specs.Input.Reading.{Lines, step, after, keeps_pieces, on_first_task, on_task_line, on_statement, on_line};
 ghost use Rattle.lapi_script.specs.Gives.{Fails, Gives};
 ghost use Rattle.lapi_script.specs.TaskLines.{HoldsTaskLine};
 ghost use Rattle.lapi_script.specs.States.{state_of};
@@ -123,10 +123,10 @@ fn on_task_line(
     }
 }
 
-fn on_line(script: Script, mut schedule: Schedule, line: Line) -> Result<State, LineFault>
-    ensures { Gives state_of result (on_line script schedule line) }
+fn on_line(script: &Script, schedule: &mut Schedule, line: Line) -> Result<(), LineFault>
+    ensures { Gives (λ _. Lines script.now schedule.new) result (on_line script.now schedule.old line) }
 {
-    if !names_known(&script, &line.act) {
+    if !names_known(script, &line.act) {
         return Err(syntax());
     }
     if schedule.as_slice().len() >= script.most_lines() {
@@ -135,11 +135,24 @@ fn on_line(script: Script, mut schedule: Schedule, line: Line) -> Result<State, 
     if line.lane > 15 {
         return Err(limit(Which::Lane));
     }
-    if !keeps_injected(&script, &line.act) {
+    if !keeps_injected(script, &line.act) {
         return Err(limit(Which::Bytes));
     }
     schedule.push(line)?;
-    Ok(State::Lines { script, schedule })
+    Ok(())
+}
+
+/// What a line of the schedule adds, in its place.
+fn schedule_line(
+    alloc: Global,
+    script: &Script,
+    schedule: &mut Schedule,
+    words: &mut Words,
+) -> Result<(), LineFault>
+    ensures { Gives (λ _. Lines script.now schedule.new) result
+        (and_then (run line_form words.old) (on_line script.now schedule.old)) }
+{
+    on_line(script, schedule, line(alloc, words)?)
 }
 
 /// What the first line of the tasks adds. Its row is large, so it stands in a frame of its own.
@@ -182,18 +195,22 @@ pub(crate) fn step(alloc: Global, state: State, words: &mut Words) -> Result<Sta
         }
         State::Start(script) => first_task_line(alloc, script, words),
         State::Tasks { script, current } => next_task_line(alloc, script, current, words),
-        State::Lines { script, schedule } => {
+        State::Lines {
+            script,
+            mut schedule,
+        } => {
             if words.are_only(b"done") {
                 return Ok(State::Finished(Input { script, schedule }));
             }
-            on_line(script, schedule, line(alloc, words)?)
+            schedule_line(alloc, &script, &mut schedule, words)?;
+            Ok(State::Lines { script, schedule })
         }
         State::Finished(_) => Err(syntax()),
     }
 }
 
 /// What a line adds.
-#[tactic(auto, unfolding(lapi_base::specs::Input::Reading::after), using(crate::proofs::FirstWords::remark_skipped))]
+#[tactic(auto, unfolding(lapi_base::specs::Input::Reading::after, lapi_base::specs::Input::Reading::step), using(crate::proofs::FirstWords::remark_skipped))]
 pub(crate) fn after(alloc: Global, state: &mut State, line: &[u8]) -> Result<(), LineFault>
     ensures { Gives (λ _. state_of state.new) result (after (state_of state.old) line.now) }
 {
@@ -206,6 +223,11 @@ pub(crate) fn after(alloc: Global, state: &mut State, line: &[u8]) -> Result<(),
     let mut words = Words::new(line);
     if words.are_skipped() {
         return Ok(());
+    }
+    if let State::Lines { script, schedule } = state {
+        if !words.are_only(b"done") {
+            return schedule_line(alloc, script, schedule, &mut words);
+        }
     }
     *state = step(alloc, mem::replace(state, State::First), &mut words)?;
     Ok(())
