@@ -11,3 +11,4 @@ pub mod WorkedPlans
 pub mod ScheduleLines
 pub mod ScheduleCounts
 pub mod ScheduleEnds
+pub mod LeftRuns

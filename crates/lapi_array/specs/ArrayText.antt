@@ -9,11 +9,13 @@ use Rattle.lapi_base.specs.declared.rule.Rules.{Rules}
 use Rattle.lapi_base.specs.Record.Operations.{numbers_below}
 use Rattle.lapi_base.specs.Record.Values.{memory_bytes}
 use Rattle.lapi_base.specs.Record.Atomic.{Atomic}
+use Rattle.lapi_base.specs.Record.Wires.{Run}
+use Rattle.lapi_base.specs.Record.WorldView.{IsRecord}
 use Rattle.lapi_blocks.specs.declared.plan.Op.{Op}
 use Rattle.lapi_blocks.specs.declared.plan.Op.TheVariants.{Get}
 use Rattle.lapi_blocks.specs.declared.plan.Plan.{Plan}
 use Rattle.lapi_blocks.specs.declared.patch.Patch.{Patch}
-use Rattle.lapi_blocks.specs.Plans.{Table, patch_of, tasks_of, plain, compiled}
+use Rattle.lapi_blocks.specs.Plans.{Table, patch_of, tasks_of, ValidPlan, plain, compiled}
 use Rattle.lapi_blocks.specs.Arrays.{patch_bytes, IsPast}
 
 abbrev pub got_from : (k row col : ℕ) → List ℕ
@@ -72,3 +74,14 @@ HasBytes memories t n = (memory : List ℕ) × (slice_get memories t ≡ Some me
 -- the bytes of a row of the array in one column of the grid
 abbrev pub part_bytes : Table → (width col row : ℕ) → List ℕ
 part_bytes table width j r = map (λ z. table r (j * width + z / 4) (z % 4)) (numbers_below (4 * width))
+
+-- what the memories of a plan's tasks hold after a run of its script
+abbrev pub memories_in : Plan → Rules → Run → List (List ℕ)
+memories_in plan rules r = map (memory_bytes (compiled plan) rules r.journal) (numbers_below (tasks_of plan))
+
+-- After every run of valid lines by which each task is past its last statement, whatever the lines and the handlers, the
+-- memories are such.
+abbrev pub RunsAreLeft : Type 0
+RunsAreLeft =
+    (plan : Plan) → ValidPlan plan → (rules : Rules) (r : Run) → IsRecord (compiled plan) rules r
+    → IsPast (compiled plan) r.journal → AreLeft plan (memories_in plan rules r)

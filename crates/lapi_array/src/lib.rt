@@ -8,6 +8,7 @@ mod grid;
 mod lines;
 mod numbers;
 mod op_line;
+mod output;
 mod part;
 mod plan_state;
 mod plan_text;
@@ -17,5 +18,6 @@ mod writing;
 
 pub use compiled::compile;
 pub use compiling::array_script;
+pub use output::{runs_are_left, write_array};
 pub use plan_text::read_plan;
 pub use writing::array_text;
