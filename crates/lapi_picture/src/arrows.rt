@@ -130,7 +130,7 @@ fn add_lost(
     j: usize,
     from: u32,
     to: u32,
-    place: u32,
+    place: usize,
 ) -> Result<(), Memory>
     requires { j < length rows.now }
     ensures { OnOk result (out.new.bytes.items ≡ out.old.bytes.items

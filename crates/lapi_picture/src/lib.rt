@@ -13,6 +13,7 @@ mod row;
 mod rows;
 mod shapes;
 mod sheet;
+mod shown;
 mod wanted;
 mod words;
 
@@ -22,3 +23,4 @@ pub use deed::Deed;
 pub use page::Page;
 pub use row::Row;
 pub use rows::Rows;
+pub use shown::page_of;

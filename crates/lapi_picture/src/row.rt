@@ -27,7 +27,7 @@ pub enum Row {
     Sent {
         from: u32,
         to: u32,
-        place: u32,
+        place: usize,
         cargo: Cargo,
     },
 }

@@ -11,7 +11,9 @@ pub enum Wanted {
     /// The row that put this entry on its wire.
     Sent { from: u32, to: u32, place: u32 },
     /// The row that handed it over whole.
-    Delivered { from: u32, to: u32, place: u32 },
+    Delivered { from: u32, to: u32, place: usize },
+    /// A line of the schedule with this number or a later one.
+    Line { line: u32 },
     /// The end of this job.
     Ended { name: MsgName },
 }
@@ -24,6 +26,7 @@ impl Wanted {
         match self {
             Wanted::Sent { from, to, place } => is_sent(from, to, place, row),
             Wanted::Delivered { from, to, place } => is_delivered(from, to, place, row),
+            Wanted::Line { line } => is_from(line, row),
             Wanted::Ended { name } => is_ended(name, row),
         }
     }
@@ -38,12 +41,12 @@ fn is_sent(a: u32, b: u32, k: u32, row: &Row) -> bool
             to,
             place,
             ..
-        } => *from == a && *to == b && *place == k,
+        } => *from == a && *to == b && *place == k as usize,
         Row::Line { .. } | Row::Happened { .. } | Row::Counted { .. } => false,
     }
 }
 
-fn is_delivered(a: u32, b: u32, k: u32, row: &Row) -> bool
+fn is_delivered(a: u32, b: u32, k: usize, row: &Row) -> bool
     ensures { result ≡ is_wanted (Wanted.Delivered a b k) row.now }
 {
     match row {
@@ -52,7 +55,7 @@ fn is_delivered(a: u32, b: u32, k: u32, row: &Row) -> bool
             deed: Deed::Deliver { from, place },
             reply: Reply::Did,
             ..
-        } => *from == a && *task == b && *place == k,
+        } => *from == a && *task == b && *place as usize == k,
         Row::Line { .. } | Row::Happened { .. } | Row::Counted { .. } | Row::Sent { .. } => false,
     }
 }
@@ -66,5 +69,14 @@ fn is_ended(wanted: MsgName, row: &Row) -> bool
             ..
         } => name.is_same(wanted),
         Row::Line { .. } | Row::Happened { .. } | Row::Counted { .. } | Row::Sent { .. } => false,
+    }
+}
+
+fn is_from(first: u32, row: &Row) -> bool
+    ensures { result ≡ is_wanted (Wanted.Line first) row.now }
+{
+    match row {
+        Row::Line { line, .. } => first <= *line,
+        Row::Happened { .. } | Row::Counted { .. } | Row::Sent { .. } => false,
     }
 }
