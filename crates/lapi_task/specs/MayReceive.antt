@@ -16,7 +16,7 @@ use Rattle.lapi_link.specs.Receiver.{ReceivingEnd, MayTake, gathered_with}
 use Rattle.lapi_link.specs.Sender.{SendingEnd}
 use Rattle.lapi_task.specs.declared.task.Task.{Task}
 use Rattle.lapi_task.specs.HasEffect.{IsAt}
-use Rattle.lapi_task.specs.Landed.{MayCall, HeadMayLand}
+use Rattle.lapi_task.specs.Landed.{HeadMayLand}
 
 -- an acknowledgement covers numbers alone that were sent
 abbrev pub CoversSent : SendingEnd → (base bits : ℕ) → Type 0
@@ -26,12 +26,10 @@ CoversSent end base bits = (n : ℕ) → is_covered base bits n ≡ true → n <
 abbrev pub is_last : ReceivingEnd → DataPacket → Bool
 is_last end p = not (is_taken end.window p.seq) && is_whole (gathered_with end.partials p)
 
--- A packet with data fits the task and the end of its link: the end may take it, its header may be handed to a handler, an
--- answer is to a statement of the task, and a message that has come whole with it may land, be a completion handler named or
--- not.
+-- A packet with data fits the task and the end of its link: the end may take it, an answer is to a statement of the task, and
+-- a message that has come whole with it may land, whether a completion handler is named or not.
 pub record DataFits (task : Task) (from : ℕ) (p : DataPacket) (end : ReceivingEnd) : Type 0 where
   pub take : MayTake end p
-  pub call : MayCall p
   pub own : p.name.leg ≡ Back → p.name.statement < length task.statements
   pub lands : is_last end p ≡ true → (completion : Bool) → HeadMayLand from p.head completion p.length task.state.memory task.state.counters task.state.collective
 

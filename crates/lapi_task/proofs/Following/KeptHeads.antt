@@ -1,4 +1,4 @@
--- What a packet that has a spelling says of the message that follows its own.
+-- What a packet that has a spelling says of its message, and of the one that follows it.
 use Rattle.std.proofs.Common.{◌≡◌, ℕ, zero, suc, ◌+◌, ◌-◌, ◌%◌, ◌≤◌, ◌==◌, not, true, false, cond, ◌&&◌, ◌||◌, List, [], ◌∷◌, length, Some, None, refl, sym, ap, subst, ⊎_elim, arith}
 use Rattle.std.specs.Prelude.{nat_lt, nat_le}
 use Rattle.std.specs.List.{AllByRecursion}
@@ -17,7 +17,7 @@ use Rattle.lapi_base.specs.Packet.Fields.{fits, counter_form, range_form, word_f
 use Rattle.lapi_base.specs.Packet.Format.{bytes_form, repeated}
 use Rattle.lapi_base.specs.Packet.Heads.{put_form, get_go_form, get_back_form, putv_form, getv_go_form, getv_back_form, rmw_go_form, rmw_back_form, update_form, header_count_form, round_form, operation_form, am_form, note_form, echo_form, gfence_form, addr_form, head_form}
 use Rattle.lapi_base.specs.Packet.Layout.{First, layout_of, unit}
-use Rattle.lapi_base.specs.Packet.Spelling.{task_form, kind_form, front_form, is_leg, leg_of, leg_form, name_form, length_form, fragment_form, data_form, acknowledgement_form, packet_form, Spells}
+use Rattle.lapi_base.specs.Packet.Spelling.{task_form, kind_form, front_form, is_leg, leg_of, leg_form, name_form, is_length, length_form, fragment_form, data_form, acknowledgement_form, packet_form, Spells}
 use Rattle.lapi_base.specs.Record.Fragments.{fragment_length}
 use Rattle.lapi_base.proofs.FormLaws.{Always, always_spelled, always_bind}
 use Rattle.lapi_parts.proofs.SpelledParts.{IsNumbered, IsWithin, SameLengths}
@@ -150,7 +150,18 @@ head-kept (Join d) op len = cond_both (op == 7) gfence_form addr_form (Always (B
 -- ---- packets
 
 abbrev NameKept : (from : ℕ) → MsgName → Type 0
-NameKept from m = (m.statement ≤ 511) × (m.leg ≡ Go → m.origin ≡ from)
+NameKept from m = (m.statement ≤ 511) × (m.leg ≡ Go → m.origin ≡ from) × (m.origin ≤ 7)
+
+-- a message is short
+length-small : (leg : Leg) (op n : ℕ) → is_length First leg op n ≡ true → n ≤ 16384
+length-small Go op n = cond_both (op == 2 || op == 4 || op == 5) (n == 0) (nat_le n 16384) (λ b. b ≡ true → n ≤ 16384) (λ _ k. (let e = eqb-true n 0 k in omega (arith, e))) (λ _ k. leb-true n 16384 k)
+length-small Back op n = cond_both (op == 5) (n == 4) (nat_le n 16384) (λ b. b ≡ true → n ≤ 16384) (λ _ k. (let e = eqb-true n 4 k in omega (arith, e))) (λ _ k. leb-true n 16384 k)
+length-small Note op n = λ k. (let e = eqb-true n 0 k in omega (arith, e))
+length-small Echo op n = λ k. (let e = eqb-true n 4 k in omega (arith, e))
+length-small (Join d) op n = λ k. (let e = eqb-true n 0 k in omega (arith, e))
+
+one-of-two : (from to origin : ℕ) → from ≤ 7 → to ≤ 7 → (origin == from || origin == to) ≡ true → origin ≤ 7
+one-of-two from to origin f t k = ⊎_elim (λ (x : (origin == from) ≡ true). let e = eqb-true origin from x in omega (arith, e, f)) (λ (y : (origin == to) ≡ true). let e = eqb-true origin to y in omega (arith, e, t)) (or_cases (origin == from) (origin == to) k)
 
 not-go : (to n : ℕ) → cond (n == 2) Back (cond (n == 3) Note (cond (n == 5) Echo (Join to))) ≡ Go → ⊥
 not-go to n =
@@ -165,32 +176,32 @@ goes-from from to origin n =
       | false ↦ λ e k g. absurd (not-go to n g)
     ] refl
 
-name-kept : (from to : ℕ) → Always (NameKept from) (name_form from to)
+name-kept : (from to : ℕ) → from ≤ 7 → to ≤ 7 → Always (NameKept from) (name_form from to)
 unfolding name_form leg_form
-name-kept from to = λ origin lo ko statement ls ks n ln kn. (leb-true statement 511 ks, goes-from from to origin n kn)
+name-kept from to f t = λ origin lo ko statement ls ks n ln kn. (leb-true statement 511 ks, goes-from from to origin n kn, one-of-two from to origin f t ko)
 
--- what a packet says of the message that follows its own
-abbrev pub SaysFollower : Packet → Type 0
-SaysFollower (Data p) = (p.name.statement ≤ 511) × (p.name.leg ≡ Go → p.name.origin ≡ p.from) × Bears p.name.leg p.head
-SaysFollower (Ack from to base bits) = Unit {0}
+-- what a packet says of its message, and of the one that follows it
+abbrev pub SaysOfMessages : Packet → Type 0
+SaysOfMessages (Data p) = (p.name.statement ≤ 511) × (p.name.leg ≡ Go → p.name.origin ≡ p.from) × (p.name.origin ≤ 7) × (p.length ≤ 16384) × Bears p.name.leg p.head
+SaysOfMessages (Ack from to base bits) = Unit {0}
 
-data-kept : (from to : ℕ) → Always SaysFollower (data_form First from to)
+data-kept : (from to : ℕ) → from ≤ 7 → to ≤ 7 → Always SaysOfMessages (data_form First from to)
 unfolding data_form operation_form length_form fragment_form
-data-kept from to = λ seq ls ks.
-    always_bind SaysFollower (name_form from to) _ (λ name nb sn. λ op lo ko size lz kz fragment lf kf.
-    always_bind SaysFollower (head_form First name.leg op size) _ (λ head hb sh.
-    always_bind SaysFollower (bytes_form (fragment_length (unit First) size fragment)) _ (λ payload pb sp.
-    let n = always_spelled (NameKept from) (name_form from to) name nb (name-kept from to) sn in
-    (n.0, n.1, always_spelled (Bears name.leg) (head_form First name.leg op size) head hb (head-kept name.leg op size) sh))))
+data-kept from to f t = λ seq ls ks.
+    always_bind SaysOfMessages (name_form from to) _ (λ name nb sn. λ op lo ko size lz kz fragment lf kf.
+    always_bind SaysOfMessages (head_form First name.leg op size) _ (λ head hb sh.
+    always_bind SaysOfMessages (bytes_form (fragment_length (unit First) size fragment)) _ (λ payload pb sp.
+    let n = always_spelled (NameKept from) (name_form from to) name nb (name-kept from to f t) sn in
+    (n.0, n.1, n.2, length-small name.leg op size kz, always_spelled (Bears name.leg) (head_form First name.leg op size) head hb (head-kept name.leg op size) sh))))
 
-packet-kept : Always SaysFollower packet_form
+packet-kept : Always SaysOfMessages packet_form
 unfolding packet_form front_form kind_form task_form acknowledgement_form
 packet-kept = λ magic lm km version lv kv kind lk kk from lf kf to lt kt.
     let first : layout_of version ≡ First = ap layout_of (eqb-true version 1 kv) in
-    cond_both (kind == 1) (data_form (layout_of version) from to) _ (Always SaysFollower)
-    (λ _. subst (λ l. Always SaysFollower (data_form l from to)) (sym first) (data-kept from to))
-    (λ _. subst (λ l. Always SaysFollower (acknowledgement_form l from to)) (sym first) (λ base _ _ bits _ _. tt))
+    cond_both (kind == 1) (data_form (layout_of version) from to) _ (Always SaysOfMessages)
+    (λ _. subst (λ l. Always SaysOfMessages (data_form l from to)) (sym first) (data-kept from to (leb-true from 7 kf) (leb-true to 7 kt)))
+    (λ _. subst (λ l. Always SaysOfMessages (acknowledgement_form l from to)) (sym first) (λ base _ _ bits _ _. tt))
 
 -- Every packet that has a spelling says so much.
-pub says-follower : (p : Packet) (bytes : List ℕ) → Spells p bytes → SaysFollower p
-says-follower p bytes s = always_spelled SaysFollower packet_form p bytes packet-kept s
+pub says-of-messages : (p : Packet) (bytes : List ℕ) → Spells p bytes → SaysOfMessages p
+says-of-messages p bytes s = always_spelled SaysOfMessages packet_form p bytes packet-kept s

@@ -23,7 +23,7 @@ use Rattle.lapi_task.specs.declared.task.Task.{Task}
 use Rattle.lapi_task.specs.Acknowledging.{MayAnswer}
 use Rattle.lapi_task.specs.Answered.{completes_in}
 use Rattle.lapi_task.specs.HasEffect.{IsAtSome}
-use Rattle.lapi_task.specs.Landed.{HeadMayLand, MayLeave, FollowerMayLeave, ArrivalMayLand, ArrivalMayAnswer, HasCome, landed, called, is_first, kept_now}
+use Rattle.lapi_task.specs.Landed.{MayCall, HeadMayLand, MayLeave, FollowerMayLeave, ArrivalMayLand, ArrivalMayAnswer, HasCome, landed, called, is_first, kept_now}
 use Rattle.lapi_task.specs.MayReceive.{DataFits, is_last}
 use Rattle.lapi_task.specs.StandsFor.{ReceiverAt, task_unit}
 use Rattle.lapi_task.specs.Unfinished.{IsOfStatement}
@@ -39,7 +39,7 @@ use Rattle.lapi_parts.proofs.FirstLayout.{first-unit}
 use Rattle.lapi_parts.proofs.SmallBytes.{AllBytes, values-small}
 use Rattle.lapi_vector.specs.Pieces.{AreWithin}
 use Rattle.lapi_task.proofs.Copying.CopyLaws.{unit-is}
-use Rattle.lapi_task.proofs.Following.KeptHeads.{says-follower}
+use Rattle.lapi_task.proofs.Following.KeptHeads.{says-of-messages}
 use Rattle.lapi_task.proofs.Following.SpelledFollowers.{go-of, leaves}
 
 -- what is read at a place that there is
@@ -167,6 +167,13 @@ module _ (task : Task) (a : ℕ) (p : DataPacket) (end : ReceivingEnd) (fits : D
     pub called-none : during ≡ events
     called-none = own.calls ∙ ap (λ (x : Arrival). events ++ called (is_first x) p.name p.head) repeats ∙ append-nil events
 
+-- The header of a packet that has a spelling may be handed to a handler.
+pub may-call : (p : DataPacket) → HasSpelling (Data p) → MayCall p
+may-call p spelled =
+    let says = says-of-messages (Data p) spelled.0 spelled.1 in
+    let origin = says.2 in
+    record { origin = omega (arith, origin); length = λ _. says.3 }
+
 module _ (task : Task) (at : IsAtSome task) (a : ℕ) (known : a < task.sizes.tasks) where
   tasks-are : task.sizes.tasks ≡ at.0.tasks
   tasks-are = ap (λ (z : _). z.tasks) at.4.stands.calls.sizes
@@ -195,12 +202,12 @@ module _ (task : Task) (at : IsAtSome task) (a : ℕ) (known : a < task.sizes.ta
       let tasks : at.0.tasks ≤ 8 = at.4.stands.calls.valid.tasks.1 in
       let own : task.state.number ≡ at.2 = at.4.stands.holds.number in
       let place : at.2 < at.0.tasks = at.4.known in
-      let says = says-follower (Data p) spelled.0 spelled.1 in
+      let says = says-of-messages (Data p) spelled.0 spelled.1 in
       let place-small = (values-small at.0 at.1 at.4.stands.calls.valid at.3.journal).memory in
       let small : AllBytes task.state.memory = subst AllBytes (sym at.4.stands.holds.memory) (all-map (λ _. Unit {0}) IsByte (λ i. (values at.0 at.1 at.3.journal).memory at.2 i) (numbers_below at.0.memory) (all-any (numbers_below at.0.memory)) (λ i _. place-small at.2 i)) in
       let unit : task_unit task ≡ 256 = unit-is at.0 at.1 at.2 task at.4.stands.calls ∙ first-unit at.0 at.4.stands.calls.valid in
       subst (λ u. MayLeave u x) (sym unit)
-      (leaves task.state.number a (omega (arith, own, place, tasks)) (omega (arith, l, tasks)) p.name (says.1 (go-of p.name.leg p.head says.2 task.state.number a p.name c task.state.memory x e) ∙ from) says.0 task.state.memory small p.head c says.2 (recursion_from_All (λ (s : Span). s.at + s.len ≤ length task.state.memory) (asked_pieces p.head) within) x e)
+      (leaves task.state.number a (omega (arith, own, place, tasks)) (omega (arith, l, tasks)) p.name (says.1 (go-of p.name.leg p.head says.4 task.state.number a p.name c task.state.memory x e) ∙ from) says.0 task.state.memory small p.head c says.4 (recursion_from_All (λ (s : Span). s.at + s.len ≤ length task.state.memory) (asked_pieces p.head) within) x e)
 
   -- The task may answer once it took a packet.
   pub may-answer : (then : Task) (old new : ReceivingEnd) → slice_get task.receivers.items a ≡ Some old → new.window.window ≡ old.window.window → then.receivers.items ≡ slice_set task.receivers.items a new → then.state.number ≡ task.state.number → MayAnswer then a

@@ -1,5 +1,5 @@
 -- What the delivery of a data packet makes of its task.
-use Rattle.std.proofs.Common.{◌≡◌, ◌≤◌, ℕ, ◌<◌, ◌==◌, Bool, true, false, cond, ◌&&◌, ◌||◌, not, List, [], ◌∷◌, ◌++◌, map, length, slice_set, Option, Some, None, refl, sym, ap, ◌∙◌, subst, ⊎_elim, arith, append_assoc}
+use Rattle.std.proofs.Common.{◌≡◌, ℕ, ◌<◌, ◌==◌, Bool, true, false, cond, ◌&&◌, ◌||◌, not, List, [], ◌∷◌, ◌++◌, map, length, slice_set, Option, Some, None, refl, sym, ap, ◌∙◌, subst, ⊎_elim, append_assoc}
 use Rattle.std.specs.Prelude.{slice_get}
 use Rattle.std.specs.List.{list_any}
 use Rattle.std.specs.Option.{option_or}
@@ -43,7 +43,7 @@ use Rattle.lapi_task.specs.declared.outcome.Outcome.{Outcome}
 use Rattle.lapi_task.specs.declared.task.Task.{Task}
 use Rattle.lapi_task.specs.Acknowledging.{ReceivesAt, HasTaken, answer}
 use Rattle.lapi_task.specs.HasEffect.{IsAt, HasEffect, bytes_to}
-use Rattle.lapi_task.specs.Landed.{IsDirect, Follower, follower, MayCall, HeadMayLand, called, is_first, kept_now, ends_after, events_of, HasArrived, HasCome, landed}
+use Rattle.lapi_task.specs.Landed.{IsDirect, Follower, follower, HeadMayLand, called, is_first, kept_now, ends_after, events_of, HasArrived, HasCome, landed}
 use Rattle.lapi_task.specs.MayReceive.{DataFits}
 use Rattle.lapi_task.specs.Answered.{KeepsAnswers, completes_in}
 use Rattle.lapi_task.specs.declared.state.State.{State}
@@ -51,7 +51,7 @@ use Rattle.lapi_task.specs.HasRounds.{MayJoin}
 use Rattle.lapi_task.specs.StandsFor.{task_unit}
 use Rattle.lapi_task.proofs.Copying.CopyLaws.{unit-is}
 use Rattle.lapi_task.proofs.Receiving.ReceiveHolds.{Lands}
-use Rattle.lapi_base.specs.Packet.Layout.{layout_of, unit, unit_of, longest_of, longest_active_of, longest_active as most_active}
+use Rattle.lapi_base.specs.Packet.Layout.{layout_of, unit, unit_of, longest_active_of, longest_active as most_active}
 use Rattle.lapi_task.specs.StandsFor.{SenderAt, ReceiverAt}
 use Rattle.lapi_task.proofs.Receiving.ArrivingFits.{arriving-fits}
 use Rattle.lapi_task.proofs.Following.HeaderAnswers.{is-told}
@@ -185,16 +185,6 @@ module _ (script : Script) (rules : Rules) where
     end-there : (end : ReceivingEnd) × (slice_get task.receivers.items a ≡ Some end) × (ReceivesFor script end (r.handed a t) × KeepsAnswers rules end)
     end-there = receiver-there script rules (r.handed a t) (slice_get task.receivers.items a) (at.stands.receivers a known_task)
 
-    pub may-call : MayCall p
-    may-call =
-        let valid = at.stands.calls.valid in
-        let tasks : script.tasks ≤ 8 = valid.tasks.1 in
-        let own = packet-comes.fits.origin in
-        record {
-          origin = omega (arith, tasks, own);
-          length = λ on. subst (λ n. p.length ≤ n) (ap (λ b. cond b (longest_active_of script) (longest_of script)) on ∙ first-active valid) packet-comes.fits.short;
-        }
-
     abbrev next_run : Run
     next_run = told script rules (handed_on r a t p (ack_of script (Data p ∷ r.handed a t) a t)) then
 
@@ -257,7 +247,6 @@ module _ (script : Script) (rules : Rules) where
           let receives = subst (λ x. ReceivesFor script x (r.handed a t)) same end-there.2.0 in
           record {
             take = may-take script end (r.handed a t) p receives fits;
-            call = may-call;
             own = λ back. subst (λ n. p.name.statement < n) (sym (ap length at.stands.calls.statements)) (own-answers back).1;
             lands = λ last.
                 let both = and_parts (not (is_taken end.window p.seq)) (is_whole (gathered_with end.partials p)) last in

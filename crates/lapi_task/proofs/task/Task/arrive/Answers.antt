@@ -8,7 +8,7 @@ use Rattle.lapi_task.specs.declared.task.Task.{Task}
 use Rattle.lapi_task.specs.Answered.{answer_to}
 use Rattle.lapi_task.specs.Landed.{MayCome}
 use Rattle.lapi_task.proofs.Receiving.ReceiveLaws.{KeepsRest, Takes, takes-over, has-taken, has-taken-still, arrived-does}
-use Rattle.lapi_task.proofs.Receiving.MayCome.{may-answer-now, follows-spelled, may-land-now, of-statement, as-wide, may-answer, receiver-there}
+use Rattle.lapi_task.proofs.Receiving.MayCome.{may-call, may-answer-now, follows-spelled, may-land-now, of-statement, as-wide, may-answer, receiver-there}
 use Rattle.lapi_task.proofs.Receiving.TakenAlone.{taken-alone}
 use Rattle.lapi_task.proofs.task.Task.arrive.Goals as goal
 
@@ -21,11 +21,7 @@ take-requires-clause-come g c =
     (record { there = receiver-there task c.requires.stands a c.requires.may.known; takes = λ end here. (fits end here).take })
 
 pub take-requires-clause-call : goal.take-requires-clause-call
-take-requires-clause-call g c =
-    let task = c.args.self.now in
-    let a = c.args.from in
-    let end = get-some task.receivers.items a (receiver-there task c.requires.stands a c.requires.may.known) in
-    (c.requires.may.fits end.0 end.1).call
+take-requires-clause-call g c = may-call c.args.packet.now c.requires.spelled
 
 pub take_effect-requires-clause-allowed : goal.take_effect-requires-clause-allowed
 take_effect-requires-clause-allowed g c =
