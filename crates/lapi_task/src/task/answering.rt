@@ -27,8 +27,8 @@ impl Task {
     ) -> Result<(), Memory>
         requires { MayAnswer self.now from }
         ensures alone { OnOk result (entries.new ≡ entries.old ++ answer_now self.now from) }
-        ensures packets { OnOk result ((script : Script) (t : ℕ) (ps : List ThePacket) → HasTaken script t self.now from ps
-            → entries.new ≡ entries.old ++ answer script ps from t ∷ []) }
+        ensures packets { OnOk result ((script : Script) (t : ℕ) (ps : List ThePacket)
+            → HasTaken script t self.now from ps → entries.new ≡ entries.old ++ answer script ps from t ∷ []) }
     {
         let (base, bits) = self.receivers[from as usize].ack();
         let bits = bits as u32;
