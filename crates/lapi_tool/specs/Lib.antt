@@ -3,3 +3,4 @@ pub mod AuditedJournals
 pub mod Landings
 pub mod Outcomes
 pub mod Shown
+pub mod Surely

@@ -8,6 +8,7 @@ mod fault;
 mod generated;
 mod landings;
 mod performed;
+mod surely;
 mod text;
 mod verdict;
 mod views;
@@ -15,3 +16,4 @@ mod words;
 
 pub use audited::journals_are_told_atomic;
 pub use command::run;
+pub use surely::{run_counted, run_in_memory};
