@@ -7,19 +7,23 @@ use lapi_handlers::{
     per_origin, reversed, same, sum, word, word_and_choice,
 };
 use lapi_io::{StdSink, StdSource};
-use lapi_tool::run;
+use lapi_live::OpenGate;
+use lapi_tool::{run, run_live};
 use std::io::{BufWriter, Write};
 use std::process::ExitCode;
+use std::sync::Wait;
+use std::thread::Threads;
 use std::{env, io};
 
 /// Ends with the status' number; nothing goes to standard error.
 fn main(rt: HostRuntime) -> ExitCode {
-    let status = answer(&rt).unwrap_or(Status::Memory);
+    let status = answer(&rt, &rt).unwrap_or(Status::Memory);
     ExitCode::from(status as u8)
 }
 
 /// Makes the handlers and runs the command with them. Where there is no memory for one, nothing is read or written.
-fn answer(rt: &HostRuntime) -> io::Result<Status> {
+/// `threads` is the runtime once more, as what can make threads and wait for them.
+fn answer<R: Threads + Wait + Sync>(rt: &HostRuntime, threads: &R) -> io::Result<Status> {
     let alloc = rt.alloc();
     let words = words(rt)?;
     let mut headers = Vec::new(alloc);
@@ -51,20 +55,42 @@ fn answer(rt: &HostRuntime) -> io::Result<Status> {
         Box::new(alloc, |user: u32, buffer: &[u8]| reversed(user, buffer))?,
     ))?;
     let handlers = Handlers::new(headers, completions);
-    command(rt, &words, &handlers)
+    command(rt, threads, &words, &handlers)
 }
 
 /// Runs the command with standard output behind a buffer. What is left in it when the command ends is written then, and
 /// where that fails the status is that of a text that couldn't be written.
-fn command(rt: &HostRuntime, words: &Vec<String>, handlers: &Handlers) -> io::Result<Status> {
+fn command<R: Threads + Wait + Sync>(
+    rt: &HostRuntime,
+    threads: &R,
+    words: &Vec<String>,
+    handlers: &Handlers,
+) -> io::Result<Status> {
     let mut out = BufWriter::new(rt.alloc(), rt.stdout())?;
     let mut source = StdSource::new(rt.stdin());
     let mut sink = StdSink::new(&mut out);
-    let status = run(rt.alloc(), words, &mut source, &mut sink, handlers);
+    let status = if is_live(words) {
+        run_live(
+            threads,
+            rt.alloc(),
+            words,
+            &mut source,
+            &mut sink,
+            handlers,
+            &OpenGate,
+        )
+    } else {
+        run(rt.alloc(), words, &mut source, &mut sink, handlers)
+    };
     match out.flush() {
         Ok(()) => Ok(status),
         Err(_) => Ok(Status::SinkFault),
     }
+}
+
+/// Whether the first word is that of lanes on threads.
+fn is_live(words: &Vec<String>) -> bool {
+    words.first().is_some_and(|word| word.as_str() == "live")
 }
 
 /// The arguments after the program's name.

@@ -20,7 +20,9 @@ use lapi_handlers::{
 use ran::Ran;
 use row::Row;
 use std::alloc::Global;
-use std::io::{self, BufRead, BufReader};
+use std::io::{self, BufRead, BufReader, Input, Print};
+use std::sync::Wait;
+use std::thread::Threads;
 use table::Table;
 
 fn main(rt: HostRuntime) -> anyhow::Result<()> {
@@ -58,7 +60,11 @@ fn main(rt: HostRuntime) -> anyhow::Result<()> {
 }
 
 /// Runs the rows of the table on standard input with these handlers.
-fn run_table(rt: &HostRuntime, alloc: Global, handlers: &Handlers) -> anyhow::Result<()> {
+fn run_table<R: Input + Print + Threads + Wait + Sync>(
+    rt: &R,
+    alloc: Global,
+    handlers: &Handlers,
+) -> anyhow::Result<()> {
     let mut table = Table::new(alloc);
     let mut differ = 0u64;
     for (i, line) in BufReader::new(alloc, rt.reader())?.lines(alloc).enumerate() {
@@ -75,14 +81,14 @@ fn run_table(rt: &HostRuntime, alloc: Global, handlers: &Handlers) -> anyhow::Re
 }
 
 /// Runs the last row and prints what came of it.
-fn has_passed(
-    rt: &impl Print,
+fn has_passed<R: Print + Threads + Wait + Sync>(
+    rt: &R,
     alloc: Global,
     handlers: &Handlers,
     table: &Table,
 ) -> anyhow::Result<bool> {
     let row = table.rows().last().context("no row")?;
-    let ran = row.run(alloc, handlers)?;
+    let ran = row.run(rt, alloc, handlers)?;
     let passed = row.accepts(&ran);
     if passed {
         println!(rt; "row {} ok", row.name())?;

@@ -9,9 +9,12 @@ use anyhow::{Context, Result, bail, ensure};
 use lapi_base::LONGEST_INPUT;
 use lapi_handlers::Handlers;
 use lapi_io::{MemSink, MemSource};
-use lapi_tool::run;
+use lapi_live::OpenGate;
+use lapi_tool::{run, run_live};
 use std::alloc::Global;
 use std::str;
+use std::sync::Wait;
+use std::thread::Threads;
 
 /// The words and the input of a command, how its reads and writes go, and what is to come of it.
 #[derive(Drop)]
@@ -157,7 +160,12 @@ impl Row {
     }
 
     /// Runs the command over its input.
-    pub fn run(&self, alloc: Global, handlers: &Handlers) -> Result<Ran> {
+    pub fn run<R: Threads + Wait + Sync>(
+        &self,
+        rt: &R,
+        alloc: Global,
+        handlers: &Handlers,
+    ) -> Result<Ran> {
         let input = self.input.bytes(alloc)?;
         let failing_reads = self.failing_reads.clone()?;
         let failing_writes = self.failing_writes.clone()?;
@@ -165,8 +173,28 @@ impl Row {
         let mut sink = MemSink::new(alloc, self.room, self.write_step, failing_writes)
             .ok()
             .context("no memory for a sink")?;
-        let status = run(alloc, &self.words, &mut source, &mut sink, handlers);
+        let words = &self.words;
+        let status = if self.is_live() {
+            run_live(
+                rt,
+                alloc,
+                words,
+                &mut source,
+                &mut sink,
+                handlers,
+                &OpenGate,
+            )
+        } else {
+            run(alloc, words, &mut source, &mut sink, handlers)
+        };
         Ok(Ran::new(status, Vec::from_slice(alloc, sink.held())?))
+    }
+
+    /// Whether the first word is that of lanes on threads.
+    fn is_live(&self) -> bool {
+        self.words
+            .first()
+            .is_some_and(|word| word.as_str() == "live")
     }
 
     /// Whether this is what was wanted.

@@ -6,3 +6,5 @@ pub mod WorldTexts
 pub mod Feeding
 pub mod Unwritten
 pub mod OutOfMemory
+pub mod LiveTexts
+pub mod RanLanes

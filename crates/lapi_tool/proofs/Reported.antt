@@ -33,7 +33,7 @@ err_ok : {A B : Type 0} (e : B) (x : A) → Err e ≡ Ok x → ⊥
 err_ok e x h = subst (λ r. MatchResult r (λ _. ⊥) (λ _. Unit {0})) h tt
 
 -- what was read as an input isn't too long
-kept : (bytes : List ℕ) (x : Input) → read bytes ≡ Ok x → length bytes ≤ most_input
+pub kept : (bytes : List ℕ) (x : Input) → read bytes ≡ Ok x → length bytes ≤ most_input
 kept bytes x e =
     ltb-false most_input (length bytes) (false_from_ne_true _ (λ long. err_ok _ x (sym (ap (λ b. if b then Err (why.Limit which.Input, 0) else read_from 1 First (lines_of bytes)) long) ∙ e)))
 
@@ -45,7 +45,7 @@ acts_valid script [] h = tt
 acts_valid script (line ∷ lines) h = (h.0.1, acts_valid script lines h.1)
 
 -- not the status Ok
-abbrev IsOther : Status → Type 0
+abbrev pub IsOther : Status → Type 0
 IsOther status.Ok = ⊥
 IsOther _ = Unit {0}
 

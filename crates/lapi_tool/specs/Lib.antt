@@ -1,6 +1,7 @@
 pub mod Answered
 pub mod AuditedJournals
 pub mod Landings
+pub mod Live
 pub mod Outcomes
 pub mod Shown
 pub mod Surely

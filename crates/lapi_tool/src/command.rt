@@ -33,7 +33,7 @@ pub(crate) const TOO_LONG: ReadFault = ReadFault::Limit {
     line: 0,
 };
 
-const USAGE: &str =
+pub(crate) const USAGE: &str =
     "usage: lapi run|journal|wire|trace|check|live|audit|capture|landings|array, lapi show HEX, lapi gen N, lapi sum N\n";
 
 /// Does what the words say, which are the arguments after the program's name: reads an input, performs every

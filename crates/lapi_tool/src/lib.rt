@@ -7,6 +7,8 @@ mod counts;
 mod fault;
 mod generated;
 mod landings;
+mod live;
+mod live_text;
 mod performed;
 mod surely;
 mod text;
@@ -16,4 +18,5 @@ mod words;
 
 pub use audited::journals_are_told_atomic;
 pub use command::run;
+pub use live::run_live;
 pub use surely::{run_counted, run_in_memory};
