@@ -7,4 +7,6 @@ mod counting;
 #[cfg(test)]
 mod ends;
 #[cfg(test)]
+mod faults;
+#[cfg(test)]
 mod written;
