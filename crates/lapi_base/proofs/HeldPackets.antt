@@ -41,7 +41,7 @@ packet-found (Data p ∷ ps) m q h =
       | true ↦ λ e g. let same : p ≡ q = cc in (0, ap (λ x. Some (Data x)) same, sym (name_eq-true m p.name e ∙ ap (λ x. x.name) same))
       | false ↦ λ e g. let r = packet-found ps m q g in (suc r.0, r.1, r.2)
     ] refl h
-packet-found (Ack from to base bits ∷ ps) m q h = let r = packet-found ps m q h in (suc r.0, r.1, r.2)
+packet-found (Ack layout from to base bits ∷ ps) m q h = let r = packet-found ps m q h in (suc r.0, r.1, r.2)
 
 pub none-found : (ps : List Packet) (m : MsgName) → some_packet ps m ≡ None → has_some ps m ≡ false
 unfolding some_packet has_some
@@ -51,7 +51,7 @@ none-found (Data p ∷ ps) m h =
       | true ↦ λ g. absurd (cc)
       | false ↦ λ g. none-found ps m g
     ] h
-none-found (Ack from to base bits ∷ ps) m h = none-found ps m h
+none-found (Ack layout from to base bits ∷ ps) m h = none-found ps m h
 
 -- Its fragments.
 pub no-fragment : (ps : List Packet) (m : MsgName) (j : ℕ) → has_some ps m ≡ false → has_fragment ps m j ≡ false
@@ -62,7 +62,7 @@ no-fragment (Data p ∷ ps) m j h =
       | true ↦ λ g. absurd (false≢true (sym g))
       | false ↦ λ g. no-fragment ps m j g
     ] h
-no-fragment (Ack from to base bits ∷ ps) m j h = no-fragment ps m j h
+no-fragment (Ack layout from to base bits ∷ ps) m j h = no-fragment ps m j h
 
 pub fragment-there : (ps : List Packet) (k : ℕ) (p : DataPacket) → slice_get ps k ≡ Some (Data p) → has_fragment ps p.name p.fragment ≡ true
 unfolding has_fragment
@@ -99,7 +99,7 @@ payload-held (Data p ∷ ps) m j h =
         payload = ap (λ b. cond b p.payload (payload_of ps m j)) e ∙ r.payload;
       }
     ] refl h
-payload-held (Ack from to base bits ∷ ps) m j h =
+payload-held (Ack layout from to base bits ∷ ps) m j h =
     let r = payload-held ps m j h in record {
       place = suc r.place;
       packet = r.packet;
@@ -117,4 +117,4 @@ no-payload (Data p ∷ ps) m j h =
       | true ↦ λ g. absurd (false≢true (sym g))
       | false ↦ λ g. no-payload ps m j g
     ] h
-no-payload (Ack from to base bits ∷ ps) m j h = no-payload ps m j h
+no-payload (Ack layout from to base bits ∷ ps) m j h = no-payload ps m j h

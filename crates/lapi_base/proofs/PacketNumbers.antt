@@ -28,7 +28,7 @@ bound-above (Data p ∷ ps) n h =
     (λ (x : (p.seq == n) ≡ true). bound-own n p.seq (number_bound ps) x)
     (λ (x : list_any (is_number n) ps ≡ true). let l : n < number_bound ps = bound-above ps n x in omega arith)
     (or_cases (p.seq == n) (list_any (is_number n) ps) h)
-bound-above (Ack from to base bits ∷ ps) n h = bound-above ps n h
+bound-above (Ack layout from to base bits ∷ ps) n h = bound-above ps n h
 
 -- the least number that isn't there isn't there
 pub least-absent : (ps : List Packet) → has_number ps (least_number ps) ≡ false

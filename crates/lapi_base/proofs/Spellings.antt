@@ -11,7 +11,7 @@ use Rattle.lapi_base.specs.declared.message.Leg.{Leg}
 use Rattle.lapi_base.specs.declared.message.Leg.TheVariants.{Go, Back, Note, Echo, Join}
 use Rattle.lapi_base.specs.Packet.Format.{Format, Done, ◌>>=◌, bytes_form}
 use Rattle.lapi_base.specs.Record.Fragments.{fragment_length}
-use Rattle.lapi_base.specs.Packet.Layout.{Layout, First, longest, unit}
+use Rattle.lapi_base.specs.Packet.Layout.{Layout, layout_of, longest, unit}
 use Rattle.lapi_base.specs.Packet.Fields.{counter_form, range_form, word_form, count_form, span_form, within_span, covering_span, matching_span, left_behind, behind, within_form, covering_form, matching_form}
 use Rattle.lapi_base.specs.Packet.Heads.{put_form, get_go_form, get_back_form, putv_form, getv_go_form, getv_back_form, update_of, update_form, rmw_go_form, rmw_back_form, header_count_form, am_form, note_op_of, note_form, echo_form, round_form, gfence_form, addr_form, is_operation, operation_form, head_form}
 use Rattle.lapi_base.specs.Packet.Spelling.{task_form, kind_form, front_form, acknowledgement_form, is_leg, leg_of, leg_form, name_form, length_form, fragment_form, data_form, packet_form, Spells}
@@ -281,57 +281,60 @@ head_is layout (Join _) op size e =
 
 -- ---- packets
 
-leg_is : (from to origin n : ℕ) → is_leg from to origin n ≡ true → leg_number (leg_of to n) ≡ n
-leg_is from to origin n e =
+leg_is : (layout : Layout) (from to origin n : ℕ) → is_leg layout from to origin n ≡ true → leg_number (leg_of to n) ≡ n
+leg_is layout from to origin n e =
     elim (cases_Bool (n == 1)) [
       | inl a ↦ rw a (sym (eqb-true n 1 a))
       | inr a ↦ elim (cases_Bool (n == 2)) [
         | inl b ↦ rw (a, b) (sym (eqb-true n 2 b))
         | inr b ↦ elim (cases_Bool (n == 3)) [
           | inl d ↦ rw (a, b, d) (sym (eqb-true n 3 d))
-          | inr d ↦
-              let last : (n == 4 && origin == from && not (from == to)) ≡ true = rw (a, b, d) at e in
-              let p = and_parts (n == 4 && origin == from) (not (from == to)) last in
-              let q = and_parts (n == 4) (origin == from) p.0 in
-              rw (eqb-true n 4 q.0) refl
+          | inr d ↦ elim (cases_Bool (n == 5)) [
+            | inl f ↦ rw (a, b, d, f) (sym (eqb-true n 5 f))
+            | inr f ↦
+                let last : (n == 4 && origin == from && not (from == to)) ≡ true = rw (a, b, d, f) at e in
+                let p = and_parts (n == 4 && origin == from) (not (from == to)) last in
+                let q = and_parts (n == 4) (origin == from) p.0 in
+                rw (eqb-true n 4 q.0) refl
+          ]
         ]
       ]
     ]
 
-written_name : (from to : ℕ) → Written (name_form from to) [] written.name
+written_name : (layout : Layout) (from to : ℕ) → Written (name_form layout from to) [] written.name
 unfolding name_form leg_form
-written_name from to = λ origin _ _ statement _ _ leg _ known. rw (leg_is from to origin leg known) refl
+written_name layout from to = λ origin _ _ statement _ _ leg _ known. rw (leg_is layout from to origin leg known) refl
 
-written_data : (from to : ℕ) (front : List ℕ) → written.front 1 from to ≡ front → Written (data_form First from to) front written.packet
+written_data : (layout from to : ℕ) (front : List ℕ) → written.front layout 1 from to ≡ front → Written (data_form layout from to) front written.packet
 unfolding data_form operation_form length_form fragment_form
-written_data from to front e = λ seq _ _.
-    written_bind (name_form from to) (λ name. _) _ written.name written.packet (written_name from to)
+written_data layout from to front e = λ seq _ _.
+    let l = layout_of layout in
+    written_bind (name_form l from to) (λ name. _) _ written.name written.packet (written_name l from to)
     (λ name bytes s. λ op _ known size _ _ fragment _ _.
-    let count = fragment_length (unit First) size fragment in
-    written_bind (head_form First name.leg op size) (λ head. bytes_form count >>= λ payload. Done _) _ written.head written.packet (written_head First name.leg op size)
+    let count = fragment_length (unit l) size fragment in
+    written_bind (head_form l name.leg op size) (λ head. bytes_form count >>= λ payload. Done _) _ written.head written.packet (written_head l name.leg op size)
     (λ head bytes' s'. written_bind (bytes_form count) (λ payload. Done _) _ as_is written.packet (written_bytes count)
     (λ payload bytes'' s''.
-    let same : head_number head ≡ op = always_spelled (IsOf op) (head_form First name.leg op size) head bytes' (head_is First name.leg op size known) s' in
+    let same : head_number head ≡ op = always_spelled (IsOf op) (head_form l name.leg op size) head bytes' (head_is l name.leg op size known) s' in
     rw (same, ← e) refl)))
 
-written_acknowledgement : (from to : ℕ) (front : List ℕ) → written.front 2 from to ≡ front → Written (acknowledgement_form First from to) front written.packet
+written_acknowledgement : (layout from to : ℕ) (front : List ℕ) → written.front layout 2 from to ≡ front → Written (acknowledgement_form layout from to) front written.packet
 unfolding acknowledgement_form
-written_acknowledgement from to front e = λ base _ _ bits _ _. rw (← e) refl
+written_acknowledgement layout from to front e = λ base _ _ bits _ _. rw (← e) refl
 
-fronted : (magic version kind from to n : ℕ) → (magic == 76) ≡ true → (version == 1) ≡ true → kind ≡ n
-    → written.front n from to ≡ magic % 256 ∷ version % 256 ∷ kind % 256 ∷ from % 256 ∷ to % 256 ∷ []
-fronted magic version kind from to n m v k = rw (eqb-true magic 76 m, eqb-true version 1 v, k) refl
+fronted : (magic version kind from to n : ℕ) → (magic == 76) ≡ true → kind ≡ n
+    → written.front version n from to ≡ magic % 256 ∷ version % 256 ∷ kind % 256 ∷ from % 256 ∷ to % 256 ∷ []
+fronted magic version kind from to n m k = rw (eqb-true magic 76 m, k) refl
 
 pub written_packet : Written packet_form [] written.packet
 unfolding packet_form front_form kind_form task_form
-written_packet = λ magic _ m version _ v kind _ known from _ _ to _ _.
-    rw (eqb-true version 1 v)
-    (written_if (kind == 1) (data_form First from to) (acknowledgement_form First from to) _ written.packet
-    (λ a. written_data from to _ (fronted magic 1 kind from to 1 m refl (eqb-true kind 1 a)))
+written_packet = λ magic _ m version _ _ kind _ known from _ _ to _ _.
+    written_if (kind == 1) (data_form version from to) (acknowledgement_form version from to) _ written.packet
+    (λ a. written_data version from to _ (fronted magic version kind from to 1 m (eqb-true kind 1 a)))
     (λ a. elim (or_cases (kind == 1) (kind == 2) known) [
       | inl b ↦ absurd (other kind 1 a (eqb-true kind 1 b))
-      | inr b ↦ written_acknowledgement from to _ (fronted magic 1 kind from to 2 m refl (eqb-true kind 2 b))
-    ]))
+      | inr b ↦ written_acknowledgement version from to _ (fronted magic version kind from to 2 m (eqb-true kind 2 b))
+    ])
 
 -- what is written for a packet that has a spelling
 pub spelling_is : (packet : Packet) (bytes : List ℕ) → Spells packet bytes → written.packet packet ≡ bytes

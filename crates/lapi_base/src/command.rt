@@ -26,6 +26,8 @@ pub enum Command {
     Audit,
     /// To read a capture, and to write the landings in it.
     Landings,
+    /// To read a plan of operations on a block array, and to write what its tasks hold once it has run.
+    Array,
     /// To show the packet that these bytes spell.
     Show(Bytes),
     /// To write the input that this number generates.

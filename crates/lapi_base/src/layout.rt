@@ -1,7 +1,7 @@
 //! What a script's layout of packets sets, and the constants of packets and inputs.
 
 ghost use Rattle.std.specs.Prelude.{◌≡◌, ◌⊎◌, ◌≤◌};
-ghost use Rattle.lapi_base.specs.Packet.Layout.{layout_of, unit, longest, most_lines, most_injected, unit_of, window_of, longest_of, longest_active_of, may_answer};
+ghost use Rattle.lapi_base.specs.Packet.Layout.{is_version, layout_of, unit, longest, waits_for_poll, has_echo, most_lines, unit_of, window_of, longest_of, longest_active_of, may_answer};
 
 use crate::script::Script;
 use crate::sizes::Sizes;
@@ -11,8 +11,7 @@ pub const FIRST_UNIT: u32 = 256;
 
 const SECOND_UNIT: u32 = 1_024;
 
-/// The bytes of the longest message that isn't an active message, in the first layout.
-pub const FIRST_LONGEST: u32 = 16_384;
+const FIRST_LONGEST: u32 = 16_384;
 
 const SECOND_LONGEST: u32 = 65_536;
 
@@ -27,41 +26,78 @@ const SECOND_WINDOW: u32 = 64;
 pub const WIDEST_WINDOW: usize = 64;
 
 /// The most bytes that a payload has room for.
-pub const PAYLOAD_ROOM: usize = 256;
+pub const PAYLOAD_ROOM: usize = 1_024;
 
 /// The most bytes that a frame has room for.
-pub const FRAME_ROOM: usize = 640;
+pub const FRAME_ROOM: usize = 1_280;
 
 /// The most bytes that are shown.
-pub const MOST_SHOWN: usize = 640;
+pub const MOST_SHOWN: usize = 1_280;
+
+/// The most bytes that a line injects, in each layout.
+pub const MOST_INJECTED: usize = 1_280;
 
 /// The most bytes of an input text.
 pub const LONGEST_INPUT: usize = 4_194_304;
 
+/// Whether there is a layout of this number.
+pub fn is_version(layout: u32) -> bool
+    ensures { result ≡ is_version layout }
+{
+    layout == 1 || layout == 2
+}
+
+/// The bytes of each fragment but the last, in a layout.
+#[tactic(auto, using(crate::proofs::LayoutLaws::unit_by))]
+pub fn unit_in(layout: u32) -> u32
+    ensures unit { result ≡ unit (layout_of layout) }
+    ensures one { (result ≡ 256) ⊎ (result ≡ 1024) }
+{
+    if layout == 2 { SECOND_UNIT } else { FIRST_UNIT }
+}
+
+/// The bytes of the longest message that isn't an active message, in a layout.
+#[tactic(auto, using(crate::proofs::LayoutLaws::longest_by))]
+pub fn longest_in(layout: u32) -> u32
+    ensures { result ≡ longest (layout_of layout) }
+{
+    if layout == 2 {
+        SECOND_LONGEST
+    } else {
+        FIRST_LONGEST
+    }
+}
+
+/// Whether acknowledgements wait for the receiver's next poll, in a layout.
+#[tactic(auto, using(crate::proofs::LayoutLaws::waits_for_poll_by))]
+pub fn waits_for_poll(layout: u32) -> bool
+    ensures { result ≡ waits_for_poll (layout_of layout) }
+{
+    layout == 2
+}
+
+/// Whether a completion handler may answer the origin, in a layout.
+#[tactic(auto, using(crate::proofs::LayoutLaws::has_echo_by))]
+pub fn has_echo(layout: u32) -> bool
+    ensures { result ≡ has_echo (layout_of layout) }
+{
+    layout == 2
+}
+
 impl Sizes {
     /// The bytes of each fragment but the last.
-    #[tactic(auto, using(crate::proofs::LayoutLaws::unit_by))]
     pub fn unit(self) -> u32
         ensures unit { result ≡ unit (layout_of self.layout) }
         ensures one { (result ≡ 256) ⊎ (result ≡ 1024) }
     {
-        if self.layout == 2 {
-            SECOND_UNIT
-        } else {
-            FIRST_UNIT
-        }
+        unit_in(self.layout)
     }
 
     /// The bytes of the longest message that isn't an active message.
-    #[tactic(auto, using(crate::proofs::LayoutLaws::longest_by))]
     pub fn longest(self) -> u32
         ensures { result ≡ longest (layout_of self.layout) }
     {
-        if self.layout == 2 {
-            SECOND_LONGEST
-        } else {
-            FIRST_LONGEST
-        }
+        longest_in(self.layout)
     }
 }
 
@@ -105,11 +141,11 @@ impl Script {
     }
 
     /// Whether a completion handler may answer the origin.
-    #[tactic(auto, unfolding(crate::specs::Packet::Layout::may_answer), using(crate::proofs::LayoutLaws::has_echo_by))]
+    #[tactic(auto, unfolding(crate::specs::Packet::Layout::may_answer))]
     pub fn may_answer(&self) -> bool
         ensures { result ≡ may_answer self.now }
     {
-        self.layout == 2
+        has_echo(self.layout)
     }
 
     /// The most lines of a schedule.
@@ -118,13 +154,5 @@ impl Script {
         ensures { result ≡ most_lines (layout_of self.now.layout) }
     {
         if self.layout == 2 { 5_000 } else { 20_000 }
-    }
-
-    /// The most bytes that a line injects.
-    #[tactic(auto, using(crate::proofs::LayoutLaws::most_injected_by))]
-    pub fn most_injected(&self) -> usize
-        ensures { result ≡ most_injected (layout_of self.now.layout) }
-    {
-        if self.layout == 2 { 1_280 } else { 640 }
     }
 }

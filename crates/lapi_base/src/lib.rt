@@ -45,8 +45,8 @@ pub use handler::{Effect, HeaderIn, HeaderOut};
 pub use head::{Head, NoteOp};
 pub use input::{Input, LineError, ReadFault, Which};
 pub use layout::{
-    FIRST_LONGEST, FIRST_UNIT, FRAME_ROOM, LONGEST_ACTIVE, LONGEST_INPUT, MOST_SHOWN, PAYLOAD_ROOM,
-    WIDEST_WINDOW,
+    FIRST_UNIT, FRAME_ROOM, LONGEST_ACTIVE, LONGEST_INPUT, MOST_INJECTED, MOST_SHOWN, PAYLOAD_ROOM,
+    WIDEST_WINDOW, has_echo, is_version, longest_in, unit_in, waits_for_poll,
 };
 pub use memory::Memory;
 pub use message::{Leg, MsgName};

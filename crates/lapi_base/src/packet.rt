@@ -5,6 +5,8 @@ use crate::payload::Payload;
 /// One fragment of a message, from task `from` to task `to`.
 #[derive(Clone, Debug, Drop, Eq, PartialEq)]
 pub struct DataPacket {
+    /// The layout that it is spelled in, 1 or 2.
+    pub layout: u32,
     pub from: u32,
     pub to: u32,
     /// Its number among the packets of (`from`, `to`), from 0.
@@ -24,9 +26,10 @@ pub enum Packet {
     Data(DataPacket),
     /// `from` has every number of (`to`, `from`) below `base`, and `base + i` for each bit `i` that is set.
     Ack {
+        layout: u32,
         from: u32,
         to: u32,
         base: u32,
-        bits: u32,
+        bits: u64,
     },
 }

@@ -58,13 +58,13 @@ pub count-append : (xs ys : List Packet) → data_count (xs ++ ys) ≡ data_coun
 unfolding data_count
 count-append [] ys = let q : data_count ys ≡ 0 + data_count ys = omega arith in q
 count-append (Data p ∷ ps) ys = let h = count-append ps ys in let q : suc (data_count (ps ++ ys)) ≡ suc (data_count ps) + data_count ys = omega arith in q
-count-append (Ack from to base bits ∷ ps) ys = count-append ps ys
+count-append (Ack layout from to base bits ∷ ps) ys = count-append ps ys
 
 count-acks : (acks : List Packet) → AllByRecursion IsAck acks → data_count acks ≡ 0
 unfolding data_count
 count-acks [] h = refl
 count-acks (Data p ∷ ps) h = absurd h.0
-count-acks (Ack from to base bits ∷ ps) h = count-acks ps h.1
+count-acks (Ack layout from to base bits ∷ ps) h = count-acks ps h.1
 
 pub count-adds : (old new : List Packet) → AddsAcks old new → data_count new ≡ data_count old
 count-adds old new x = let e = ap data_count x.1 ∙ count-append old x.0 in let z = count-acks x.0 x.2 in let q : data_count new ≡ data_count old = omega arith in q
@@ -124,17 +124,17 @@ below-few (suc n) top p h =
 
 data-of : (p : Packet) → IsData p → (d : DataPacket) × (p ≡ Data d)
 data-of (Data d) h = (d, refl)
-data-of (Ack from to base bits) h = absurd h
+data-of (Ack layout from to base bits) h = absurd h
 
 number-data : (p : Packet) (n : ℕ) → is_number n p ≡ true → (d : DataPacket) × (p ≡ Data d) × (d.seq ≡ n)
 number-data (Data d) n h = (d, refl, eqb-true d.seq n h)
-number-data (Ack from to base bits) n h = absurd (false≢true h)
+number-data (Ack layout from to base bits) n h = absurd (false≢true h)
 
 pub count-data : (ps : List Packet) → AllByRecursion IsData ps → data_count ps ≡ length ps
 unfolding data_count
 count-data [] h = refl
 count-data (Data p ∷ ps) h = let q : suc (data_count ps) ≡ suc (length ps) = omega (arith, count-data ps h.1) in q
-count-data (Ack from to base bits ∷ ps) h = absurd h.0
+count-data (Ack layout from to base bits ∷ ps) h = absurd h.0
 
 module _ (script : Script) (rules : Rules) where
   packet-few : (J : List Event) (n : ℕ) (o : Option (MsgName × ℕ)) → length (packet_of script rules J n o) ≤ 1

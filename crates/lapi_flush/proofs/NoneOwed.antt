@@ -26,7 +26,7 @@ module _ (script : Script) (rules : Rules) where
 
   hand_over-paid : (r : Run) (a b : ℕ) (p : Packet) → IsPaid r → IsPaid (hand_over script rules r a b p)
   unfolding hand_over
-  hand_over-paid r a b (Ack from to least bits) h = h
+  hand_over-paid r a b (Ack layout from to least bits) h = h
   hand_over-paid r a b (Data p) h = (h.0, λ x y. ap (λ u. (u && (x == a && y == b)) || r.owed x y) h.0 ∙ h.1 x y)
 
   perform-paid : (r : Run) (act : Act) → IsPaid r → IsPaid (perform script rules packet_size refusal r act)

@@ -76,7 +76,7 @@ module _ (script : Script) (rules : Rules) (a i : ℕ) where
 
   hand-none : (r : Run) (x y : ℕ) (p : Packet) → happened go (hand_over script rules r x y p).journal ≡ true → happened go r.journal ≡ true
   unfolding hand_over
-  hand-none r x y (Ack from to least bits) d = d
+  hand-none r x y (Ack layout from to least bits) d = d
   hand-none r x y (Data p) d =
       after-none (cond (is_delivered r x y p.seq) [] (first_delivery script rules r x y p.name p.seq)) r.journal
       (cond_both (is_delivered r x y p.seq) [] (first_delivery script rules r x y p.name p.seq) (AllByRecursion IsNone) (λ _. tt) (λ _. arrival-none r x y p.name p.seq))

@@ -57,7 +57,7 @@ pub acks-no_number : (acks : List Packet) (n : ℕ) → AllByRecursion IsAck ack
 unfolding has_number
 acks-no_number [] n h = refl
 acks-no_number (Data p ∷ ps) n h = absurd h.0
-acks-no_number (Ack from to base bits ∷ ps) n h = acks-no_number ps n h.1
+acks-no_number (Ack layout from to base bits ∷ ps) n h = acks-no_number ps n h.1
 
 zero-if : (c : Bool) (n : ℕ) → n ≡ n + cond c 0 0
 zero-if true n = omega arith
@@ -130,7 +130,7 @@ module _ (script : Script) (rules : Rules) where
   abbrev Tells : (ℕ → Bool) → Packet → Type 0
   Tells set q = (top : ℕ) → ((m : ℕ) → m < top → set m ≡ true) → (m : ℕ) → m < top → covers m q ≡ true
 
-  ack-tells : (t : Run) (a b : ℕ) → ((m : ℕ) → is_delivered t a b m ≡ true → m < length (numbered script t.journal a b)) → (least : ℕ) × (bits : ℕ) × (ack script rules t a b ≡ Ack b a least bits) × Tells (is_delivered t a b) (Ack b a least bits)
+  ack-tells : (t : Run) (a b : ℕ) → ((m : ℕ) → is_delivered t a b m ≡ true → m < length (numbered script t.journal a b)) → (least : ℕ) × (bits : ℕ) × (ack script rules t a b ≡ Ack script.layout b a least bits) × Tells (is_delivered t a b) (Ack script.layout b a least bits)
   unfolding ack
   ack-tells t a b below =
       let len = length (numbered script t.journal a b) in
@@ -156,7 +156,7 @@ module _ (script : Script) (rules : Rules) where
       new : (j : ℕ) → j < i → (p : DataPacket) → IsEntry r a b (first + j) (Data p) → is_delivered s a b p.seq ≡ true
       size : length (s.wire b a) ≡ length (r.wire b a) + i
       sizes : (x y : ℕ) → length (s.wire x y) ≡ length (r.wire x y) + cond (x == b && y == a) i 0
-      told : (j : ℕ) → i ≡ suc j → (least : ℕ) × (bits : ℕ) × (slice_get (s.wire b a) (length (r.wire b a) + j) ≡ Some (Ack b a least bits)) × Tells (is_delivered s a b) (Ack b a least bits)
+      told : (j : ℕ) → i ≡ suc j → (least : ℕ) × (bits : ℕ) × (slice_get (s.wire b a) (length (r.wire b a) + j) ≡ Some (Ack script.layout b a least bits)) × Tells (is_delivered s a b) (Ack script.layout b a least bits)
 
     begins : SoundRun script rules r → Mid r 0
     begins sound = record {
@@ -264,13 +264,13 @@ module _ (script : Script) (rules : Rules) where
               (cases_lt j i);
           sizes = λ x y.
               ap length (on-wire s p x y) ∙ longer-if (x == b && y == a) (s.wire x y) (ack script rules q a b) (length (r.wire x y)) i (mid.sizes x y);
-          size = ap length back ∙ length_push (s.wire b a) (Ack b a told.0 told.1) ∙ longer (length (s.wire b a)) (length (r.wire b a)) i mid.size;
+          size = ap length back ∙ length_push (s.wire b a) (Ack script.layout b a told.0 told.1) ∙ longer (length (s.wire b a)) (length (r.wire b a)) i mid.size;
           told = λ j ej.
               let ji : i ≡ j = omega arith in (
                 told.0,
                 told.1,
-                subst (λ xs. slice_get xs (length (r.wire b a) + j) ≡ Some (Ack b a told.0 told.1)) (sym back)
-                    (subst (λ n. slice_get (s.wire b a ++ Ack b a told.0 told.1 ∷ []) n ≡ Some (Ack b a told.0 told.1)) (mid.size ∙ ap (λ n. length (r.wire b a) + n) ji) (get-back (s.wire b a) [] (Ack b a told.0 told.1))),
+                subst (λ xs. slice_get xs (length (r.wire b a) + j) ≡ Some (Ack script.layout b a told.0 told.1)) (sym back)
+                    (subst (λ n. slice_get (s.wire b a ++ Ack script.layout b a told.0 told.1 ∷ []) n ≡ Some (Ack script.layout b a told.0 told.1)) (mid.size ∙ ap (λ n. length (r.wire b a) + n) ji) (get-back (s.wire b a) [] (Ack script.layout b a told.0 told.1))),
                 λ up all m lm. told.3 up (λ n ln. same-delivered s p n ∙ all n ln) m lm,
               );
         })
@@ -300,14 +300,14 @@ module _ (script : Script) (rules : Rules) where
     served-named la lb sound =
         let s = after script rules packet_size refusal r (delivers a b first (suc last)) in
         let told = (all-mid sound (suc last) (omega arith)).told last refl in
-        named-append (delivers a b first (suc last)) (Deliver b a (length (r.wire b a) + last) ∷ []) r (delivers-named la lb sound (suc last) (omega arith)) ((lb, la, place-below (s.wire b a) (length (r.wire b a) + last) (Ack b a told.0 told.1) told.2), tt)
+        named-append (delivers a b first (suc last)) (Deliver b a (length (r.wire b a) + last) ∷ []) r (delivers-named la lb sound (suc last) (omega arith)) ((lb, la, place-below (s.wire b a) (length (r.wire b a) + last) (Ack script.layout b a told.0 told.1) told.2), tt)
 
     -- ---- and the acknowledgement
 
     acked-run : Run → (least bits : ℕ) → Run
-    acked-run s least bits = reply_with script rules (hand_over script rules s b a (Ack b a least bits)) Did
+    acked-run s least bits = reply_with script rules (hand_over script rules s b a (Ack script.layout b a least bits)) Did
 
-    ack-is : (s : Run) (k least bits : ℕ) → slice_get (s.wire b a) k ≡ Some (Ack b a least bits) → deliver script rules s b a k ≡ acked-run s least bits
+    ack-is : (s : Run) (k least bits : ℕ) → slice_get (s.wire b a) k ≡ Some (Ack script.layout b a least bits) → deliver script rules s b a k ≡ acked-run s least bits
     unfolding deliver acked-run
     ack-is s k least bits e = ap (deliver_entry script rules s b a) e
 
@@ -319,19 +319,19 @@ module _ (script : Script) (rules : Rules) where
     unfolding acked-run hand_over
     ack-journal s least bits = refl
 
-    ack-handed : (s : Run) (least bits x y : ℕ) → (acked-run s least bits).handed x y ≡ cond (x == b && y == a) (Ack b a least bits ∷ s.handed x y) (s.handed x y)
+    ack-handed : (s : Run) (least bits x y : ℕ) → (acked-run s least bits).handed x y ≡ cond (x == b && y == a) (Ack script.layout b a least bits ∷ s.handed x y) (s.handed x y)
     unfolding acked-run hand_over
     ack-handed s least bits x y = refl
 
     -- what was handed over still was
     ack-delivered : (s : Run) (least bits x y m : ℕ) → is_delivered s x y m ≡ true → is_delivered (acked-run s least bits) x y m ≡ true
-    ack-delivered s least bits x y m h = ap (λ ps. has_number ps m) (ack-handed s least bits x y) ∙ cond_both (x == b && y == a) (Ack b a least bits ∷ s.handed x y) (s.handed x y) (λ ps. has_number ps m ≡ true) (λ _. number-cons (Ack b a least bits) (s.handed x y) m ∙ h) (λ _. h)
+    ack-delivered s least bits x y m h = ap (λ ps. has_number ps m) (ack-handed s least bits x y) ∙ cond_both (x == b && y == a) (Ack script.layout b a least bits ∷ s.handed x y) (s.handed x y) (λ ps. has_number ps m ≡ true) (λ _. number-cons (Ack script.layout b a least bits) (s.handed x y) m ∙ h) (λ _. h)
 
     ack-acked : (s : Run) (least bits x y m : ℕ) → is_acked s x y m ≡ true → is_acked (acked-run s least bits) x y m ≡ true
-    ack-acked s least bits x y m h = ap (λ ps. has_ack ps m) (ack-handed s least bits y x) ∙ cond_both (y == b && x == a) (Ack b a least bits ∷ s.handed y x) (s.handed y x) (λ ps. has_ack ps m ≡ true) (λ _. ack-cons (Ack b a least bits) (s.handed y x) m ∙ or_right _ _ h) (λ _. h)
+    ack-acked s least bits x y m h = ap (λ ps. has_ack ps m) (ack-handed s least bits y x) ∙ cond_both (y == b && x == a) (Ack script.layout b a least bits ∷ s.handed y x) (s.handed y x) (λ ps. has_ack ps m ≡ true) (λ _. ack-cons (Ack script.layout b a least bits) (s.handed y x) m ∙ or_right _ _ h) (λ _. h)
 
-    ack-now : (s : Run) (least bits m : ℕ) → covers m (Ack b a least bits) ≡ true → is_acked (acked-run s least bits) a b m ≡ true
-    ack-now s least bits m h = ap (λ ps. has_ack ps m) (ack-handed s least bits b a ∙ cond-true (b == b && a == a) _ (s.handed b a) (and_from _ _ (eqb-refl b) (eqb-refl a))) ∙ ack-cons (Ack b a least bits) (s.handed b a) m ∙ or_left _ _ h
+    ack-now : (s : Run) (least bits m : ℕ) → covers m (Ack script.layout b a least bits) ≡ true → is_acked (acked-run s least bits) a b m ≡ true
+    ack-now s least bits m h = ap (λ ps. has_ack ps m) (ack-handed s least bits b a ∙ cond-true (b == b && a == a) _ (s.handed b a) (and_from _ _ (eqb-refl b) (eqb-refl a))) ∙ ack-cons (Ack script.layout b a least bits) (s.handed b a) m ∙ or_left _ _ h
 
     -- all numbers below top were handed over by then
     all-delivered : (s : Run) → Mid s (suc last) → (m : ℕ) → m < top → is_delivered s a b m ≡ true

@@ -55,7 +55,7 @@ module _ (script : Script) (rules : Rules) where
 
   handed-extends : (r : Run) (x y : ℕ) (p : Packet) (a b : ℕ) → Extends (r.wire a b) ((hand_over script rules r x y p).wire a b)
   unfolding hand_over
-  handed-extends r x y (Ack from to least bits) a b = same-wire (r.wire a b)
+  handed-extends r x y (Ack layout from to least bits) a b = same-wire (r.wire a b)
   handed-extends r x y (Data p) a b =
       let q = ack script rules (with_handed script rules r x y (Data p)) x y in
       cond_both (a == y && b == x) (r.wire a b ++ at_once script rules q) (r.wire a b) (Extends (r.wire a b)) (λ _. ([], at_once script rules q, refl, tt, at_once-short q)) (λ _. same-wire (r.wire a b))

@@ -23,7 +23,7 @@ use Rattle.lapi_flush.specs.Served.{AddsEvents, served}
 unfoldable pub data_count : List Packet → ℕ
 data_count [] = 0
 data_count (Data p ∷ ps) = suc (data_count ps)
-data_count (Ack from to base bits ∷ ps) = data_count ps
+data_count (Ack layout from to base bits ∷ ps) = data_count ps
 
 -- the numbers sent on a link are those below top, each once, and all of them are acknowledged
 pub record IsCalm (r : Run) (a b top : ℕ) : Type 0 where

@@ -33,7 +33,7 @@ served r a b first last = delivers a b first (suc last) ++ Deliver b a (length (
 -- a packet that acknowledges
 abbrev pub IsAck : Packet → Type 0
 IsAck (Data p) = ⊥
-IsAck (Ack from to base bits) = Unit {0}
+IsAck (Ack layout from to base bits) = Unit {0}
 
 -- a wire has acknowledgements more
 abbrev pub AddsAcks : List Packet → List Packet → Type 0

@@ -29,7 +29,7 @@ contains-any t xs x c h = any-at t xs c.0 x c.1 (ap t c.2 ∙ h)
 module _ (script : Script) (rules : Rules) where
   covered : (r : Run) → SoundRun script rules r → WindowRun script rules r → (a b n : ℕ) → is_sent r a b n ≡ true → (p : Packet) → Tells script rules (has_number (r.handed a b)) p → has_number (r.handed a b) n ≡ true → covers n p ≡ true
   covered r s w a b n sent (Data p) t d = absurd t
-  covered r s w a b n sent (Ack from to least bits) t d =
+  covered r s w a b n sent (Ack layout from to least bits) t d =
       let unacked : has_ack (r.handed b a) least ≡ false = false_from_ne_true _ (λ h. both_ways _ t.0 (acked-delivered script rules r.journal r.wire r.handed s a b least h)) in
       let low = least_missing-least (length (numbered script r.journal a b)) (has_ack (r.handed b a)) least unacked in
       t.1 n d (omega (arith, low, w a b n sent))

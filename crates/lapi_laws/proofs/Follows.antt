@@ -150,7 +150,7 @@ module _ (script : Script) (rules : Rules) where
 
   owes-handed : (r : Run) (a b : ℕ) (p : Packet) → Owes r.journal → Owes (hand_over script rules r a b p).journal
   unfolding hand_over followed
-  owes-handed r a b (Ack from to least bits) o = o
+  owes-handed r a b (Ack layout from to least bits) o = o
   owes-handed r a b (Data p) o = cond_both (has_number (r.handed a b) p.seq) [] (first_delivery script rules r a b p.name p.seq) (λ es. Owes (followed r.journal es)) (λ _. o) (λ _. owes-arrival r a b p.name p.seq o)
 
   -- a step adds an event that is neither Land nor End

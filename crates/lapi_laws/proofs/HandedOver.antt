@@ -237,13 +237,13 @@ module _ (script : Script) (rules : Rules) where
 
   hand-adds : (r : Run) (x y k : ℕ) (p : Packet) → IsEntry r x y k p → Adds script r (Deliver x y k) (reply_with script rules (hand_over script rules r x y p) Did)
   unfolding hand_over
-  hand-adds r x y k (Ack from to least bits) e = record {
+  hand-adds r x y k (Ack layout from to least bits) e = record {
     reply = Did;
     replies = refl;
     wire = λ a b. ([], sym (append-nil (r.wire a b)));
-    handed = found-handed r x y k (Ack from to least bits) e;
-    owed = λ a b before h. h ∙ ap (λ o. holds_back script && (o || before)) (sym (found-any r x y k (Ack from to least bits) e a b ∙ and-none (a == x && b == y)));
-    fixed = found-fixed r x y k (Ack from to least bits) e;
+    handed = found-handed r x y k (Ack layout from to least bits) e;
+    owed = λ a b before h. h ∙ ap (λ o. holds_back script && (o || before)) (sym (found-any r x y k (Ack layout from to least bits) e a b ∙ and-none (a == x && b == y)));
+    fixed = found-fixed r x y k (Ack layout from to least bits) e;
   }
   hand-adds r x y k (Data p) e =
       let told = at_once script rules (ack script rules (with_handed script rules r x y (Data p)) x y) in record {

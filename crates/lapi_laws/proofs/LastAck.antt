@@ -35,12 +35,12 @@ use Rattle.lapi_laws.proofs.Runs.{perform-sound}
 
 abbrev pub IsData : Packet → Type 0
 IsData (Data p) = Unit {0}
-IsData (Ack from to base bits) = ⊥
+IsData (Ack layout from to base bits) = ⊥
 
 last-data : (p : Packet) → IsData p → (o : Option Packet) → or_first p o ≡ o
 last-data (Data p) h None = refl
 last-data (Data p) h (Some q) = refl
-last-data (Ack from to base bits) h o = absurd h
+last-data (Ack layout from to base bits) h o = absurd h
 
 none-last : (ys : List Packet) → AllByRecursion IsData ys → last_ack ys ≡ None
 unfolding last_ack
@@ -52,16 +52,16 @@ unfolding last_ack
 last_ack-data [] ys h = none-last ys h
 last_ack-data (p ∷ xs) ys h = ap (or_first p) (last_ack-data xs ys h)
 
-last_ack-push : (xs : List Packet) (from to base bits : ℕ) → last_ack (xs ++ Ack from to base bits ∷ []) ≡ Some (Ack from to base bits)
+last_ack-push : (xs : List Packet) (layout from to base bits : ℕ) → last_ack (xs ++ Ack layout from to base bits ∷ []) ≡ Some (Ack layout from to base bits)
 unfolding last_ack
-last_ack-push [] from to base bits = refl
-last_ack-push (p ∷ xs) from to base bits = ap (or_first p) (last_ack-push xs from to base bits)
+last_ack-push [] layout from to base bits = refl
+last_ack-push (p ∷ xs) layout from to base bits = ap (or_first p) (last_ack-push xs layout from to base bits)
 
 module _ (script : Script) (rules : Rules) where
   -- an acknowledgement that tells of this set, as far as it reaches
   abbrev pub Tells : (ℕ → Bool) → Packet → Type 0
   Tells set (Data p) = ⊥
-  Tells set (Ack from to least bits) = (set least ≡ false) × ((n : ℕ) → set n ≡ true → n < least + window_of script → covers n (Ack from to least bits) ≡ true)
+  Tells set (Ack layout from to least bits) = (set least ≡ false) × ((n : ℕ) → set n ≡ true → n < least + window_of script → covers n (Ack layout from to least bits) ≡ true)
 
   abbrev pub LastTells : List Packet → (ℕ → Bool) → Type 0
   LastTells wire set = (n : ℕ) → set n ≡ true → (p : Packet) × ((last_ack wire ≡ Some p) × Tells set p)
@@ -77,10 +77,10 @@ module _ (script : Script) (rules : Rules) where
       (λ n _. elim (slice_get (numbered script J a b) n) as (λ o. AllByRecursion IsData (packet_of script rules J n o)) [ None ↦ tt | Some pair ↦ (tt, tt) ])
 
   -- an acknowledgement that is handed over
-  ack-told : (r : Run) (a b from to least bits : ℕ) → ToldRun r → ToldRun (hand_over script rules r a b (Ack from to least bits))
+  ack-told : (r : Run) (a b layout from to least bits : ℕ) → ToldRun r → ToldRun (hand_over script rules r a b (Ack layout from to least bits))
   unfolding hand_over has_number
-  ack-told r a b from to least bits h x y e =
-      cond_both (x == a && y == b) (Ack from to least bits ∷ r.handed x y) (r.handed x y) (λ ps. LastTells (r.wire y x) (λ n. list_any (is_number n) ps))
+  ack-told r a b layout from to least bits h x y e =
+      cond_both (x == a && y == b) (Ack layout from to least bits ∷ r.handed x y) (r.handed x y) (λ ps. LastTells (r.wire y x) (λ n. list_any (is_number n) ps))
       (λ _. h x y e)
       (λ _. h x y e)
 
@@ -103,7 +103,7 @@ module _ (script : Script) (rules : Rules) where
 
   ack-last : (r : Run) (a b : ℕ) (xs : List Packet) → last_ack (xs ++ ack script rules r a b ∷ []) ≡ Some (ack script rules r a b)
   unfolding ack
-  ack-last r a b xs = last_ack-push xs b a _ _
+  ack-last r a b xs = last_ack-push xs script.layout b a _ _
 
   -- so it does at the end of a wire
   last-tells : (r : Run) (a b : ℕ) (xs : List Packet) → ((n : ℕ) → has_number (r.handed a b) n ≡ true → n < length (numbered script r.journal a b)) → LastTells (xs ++ ack script rules r a b ∷ []) (has_number (r.handed a b))
@@ -192,7 +192,7 @@ module _ (script : Script) (rules : Rules) where
         or-second false v e = e
 
   hand_over-told : (r : Run) (a b : ℕ) (p : Packet) → SoundRun script rules r → Fits script rules r.journal r.handed a b p → ToldRun r → ToldRun (hand_over script rules r a b p)
-  hand_over-told r a b (Ack from to least bits) s fit h = ack-told r a b from to least bits h
+  hand_over-told r a b (Ack layout from to least bits) s fit h = ack-told r a b layout from to least bits h
   hand_over-told r a b (Data p) s fit h = data-told r a b p s fit h
 
   event-told : (r : Run) (o : Option Event) → ToldRun r → ToldRun (add_event script rules r o)

@@ -230,15 +230,15 @@ module _ (script : Script) (rules : Rules) where
       s
 
   -- an acknowledgement that is handed over
-  hand_ack : (r : Run) (a b from to least bits : ℕ) → Fits script rules r.journal r.handed a b (Ack from to least bits) → SoundRun r → SoundRun (hand_over script rules r a b (Ack from to least bits))
+  hand_ack : (r : Run) (a b layout from to least bits : ℕ) → Fits script rules r.journal r.handed a b (Ack layout from to least bits) → SoundRun r → SoundRun (hand_over script rules r a b (Ack layout from to least bits))
   unfolding hand_over has_number
-  hand_ack r a b from to least bits fit s =
-      add_known script rules r.journal r.wire r.handed (λ x y. cond (x == a && y == b) (Ack from to least bits ∷ r.handed x y) (r.handed x y))
-      (λ x y n. cond_both (x == a && y == b) (Ack from to least bits ∷ r.handed x y) (r.handed x y) (λ ps. list_any (is_number n) ps ≡ list_any (is_number n) (r.handed x y)) (λ _. refl) (λ _. refl))
-      (λ x y. cond_both (x == a && y == b) (Ack from to least bits ∷ r.handed x y) (r.handed x y) (AllByRecursion (Fits script rules r.journal r.handed x y))
+  hand_ack r a b layout from to least bits fit s =
+      add_known script rules r.journal r.wire r.handed (λ x y. cond (x == a && y == b) (Ack layout from to least bits ∷ r.handed x y) (r.handed x y))
+      (λ x y n. cond_both (x == a && y == b) (Ack layout from to least bits ∷ r.handed x y) (r.handed x y) (λ ps. list_any (is_number n) ps ≡ list_any (is_number n) (r.handed x y)) (λ _. refl) (λ _. refl))
+      (λ x y. cond_both (x == a && y == b) (Ack layout from to least bits ∷ r.handed x y) (r.handed x y) (AllByRecursion (Fits script rules r.journal r.handed x y))
       (λ e.
       let ends = and_parts _ _ e in
-      (subst (λ v. Fits script rules r.journal r.handed x v (Ack from to least bits)) (sym (eqb-true y b ends.1)) (subst (λ u. Fits script rules r.journal r.handed u b (Ack from to least bits)) (sym (eqb-true x a ends.0)) fit), s.hands x y))
+      (subst (λ v. Fits script rules r.journal r.handed x v (Ack layout from to least bits)) (sym (eqb-true y b ends.1)) (subst (λ u. Fits script rules r.journal r.handed u b (Ack layout from to least bits)) (sym (eqb-true x a ends.0)) fit), s.hands x y))
       (λ _. s.hands x y))
       s
 
@@ -293,7 +293,7 @@ module _ (script : Script) (rules : Rules) where
 
   -- the ends of a packet's message are those of its wire
   hand_over-sound : (r : Run) (a b : ℕ) (p : Packet) → SoundRun r → Fits script rules r.journal r.handed a b p → SoundRun (hand_over script rules r a b p)
-  hand_over-sound r a b (Ack from to least bits) s fit = hand_ack r a b from to least bits fit s
+  hand_over-sound r a b (Ack layout from to least bits) s fit = hand_ack r a b layout from to least bits fit s
   hand_over-sound r a b (Data p) s fit =
       let ends = numbered-copied script r.journal a b p.seq (p.name, p.fragment) fit in
       subst (λ y. SoundRun (hand_over script rules r a y (Data p))) ends.2

@@ -26,7 +26,7 @@ module _ (script : Script) (rules : Rules) where
   -- a packet that is handed over between tasks that there are
   hand_over-owed : (r : Run) (a b : ℕ) (p : Packet) → a < script.tasks → b < script.tasks → OwedAreHeldBack script rules r → OwedAreHeldBack script rules (hand_over script rules r a b p)
   unfolding hand_over
-  hand_over-owed r a b (Ack from to least bits) la lb h x y e = h x y e
+  hand_over-owed r a b (Ack layout from to least bits) la lb h x y e = h x y e
   hand_over-owed r a b (Data p) la lb h x y e =
       ⊎_elim
       (λ (new : (holds_back script && (x == a && y == b)) ≡ true).

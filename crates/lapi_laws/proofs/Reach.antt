@@ -70,7 +70,7 @@ module _ (script : Script) (rules : Rules) where
   -- and the acknowledgement of it
   hand_over-sent : (r : Run) (a b k : ℕ) (p : Packet) → IsEntry r a b k p → SentRun r → SentRun (hand_over script rules r a b p)
   unfolding hand_over
-  hand_over-sent r a b k (Ack from to base bits) e h x y n d = handed-sent r a b k (Ack from to base bits) e h x y n d
+  hand_over-sent r a b k (Ack layout from to base bits) e h x y n d = handed-sent r a b k (Ack layout from to base bits) e h x y n d
   hand_over-sent r a b k (Data p) e h x y n d =
       ack-entry script rules r.wire (with_handed script rules r a b (Data p)) a b x y n ∙ handed-sent r a b k (Data p) e h x y n d
 

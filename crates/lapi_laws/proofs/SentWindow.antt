@@ -157,7 +157,7 @@ module _ (script : Script) (rules : Rules) where
 
   hand_over-window : (r : Run) (a b : ℕ) (p : Packet) → WindowRun r → WindowRun (hand_over script rules r a b p)
   unfolding hand_over
-  hand_over-window r a b (Ack from to least bits) w = window-grows r.journal r.journal r.wire r.handed (with_handed script rules r a b (Ack from to least bits)).handed (λ x y. omega arith) (handed-acks r a b (Ack from to least bits)) w
+  hand_over-window r a b (Ack layout from to least bits) w = window-grows r.journal r.journal r.wire r.handed (with_handed script rules r a b (Ack layout from to least bits)).handed (λ x y. omega arith) (handed-acks r a b (Ack layout from to least bits)) w
   hand_over-window r a b (Data p) w =
       let events = cond (has_number (r.handed a b) p.seq) [] (first_delivery script rules r a b p.name p.seq) in
       let w' = window-grows r.journal (followed r.journal events) r.wire r.handed (with_handed script rules r a b (Data p)).handed (grows-followed events r.journal) (handed-acks r a b (Data p)) w in

@@ -40,7 +40,7 @@ all-tested t P xs f h = list_all-at t xs (all-weaker P (λ x. t x ≡ true) f xs
 module _ (script : Script) (rules : Rules) where
   told-number : (r : Run) (a b n : ℕ) (p : Packet) → is_number n p ≡ true → is_told script rules r a b p ≡ true → is_acked r a b n ≡ true
   told-number r a b n (Data p) e t = subst (λ k. is_acked r a b k ≡ true) (eqb-true p.seq n e) t
-  told-number r a b n (Ack from to base bits) e t = absurd (false≢true e)
+  told-number r a b n (Ack layout from to base bits) e t = absurd (false≢true e)
 
   settled-parts : (r : Run) (a b : ℕ) → is_settled script rules r a b ≡ true → (list_all (is_told script rules r a b) (r.wire a b) ≡ true) × (is_empty (to_send script rules r r.journal a b) ≡ true) × (not (r.owed a b) ≡ true)
   unfolding is_settled
@@ -74,7 +74,7 @@ module _ (script : Script) (rules : Rules) where
   unfolding has_number
   is-told r q a b [] h = refl
   is-told r q a b (Data p ∷ ps) h = and_from _ _ (h p.seq (or_left _ _ (eqb-refl p.seq))) (is-told r q a b ps (λ n x. h n (or_right _ _ x)))
-  is-told r q a b (Ack from to base bits ∷ ps) h = is-told r q a b ps (λ n x. h n x)
+  is-told r q a b (Ack layout from to base bits ∷ ps) h = is-told r q a b ps (λ n x. h n x)
 
   pub quiet-to : (r : Run) → Quiet script rules r → is_quiet script rules r ≡ true
   unfolding is_quiet is_idle is_settled

@@ -41,7 +41,7 @@ module _ (script : Script) (rules : Rules) where
   -- An entry of the wire from a to b: a data packet has the pair of its number, an acknowledgement tells of what was delivered the other way.
   abbrev pub Fits : List Event → Lists → (a b : ℕ) → Packet → Type 0
   Fits J handed a b (Data p) = slice_get (numbered script J a b) p.seq ≡ Some (p.name, p.fragment)
-  Fits J handed a b (Ack from to least bits) = (n : ℕ) → covers n (Ack from to least bits) ≡ true → has_number (handed b a) n ≡ true
+  Fits J handed a b (Ack layout from to least bits) = (n : ℕ) → covers n (Ack layout from to least bits) ≡ true → has_number (handed b a) n ≡ true
 
   -- number n is of message m; number n of message m was delivered
   abbrev pub IsOf : List Event → MsgName → ℕ → Type 0
@@ -68,11 +68,11 @@ module _ (script : Script) (rules : Rules) where
 
   fits-later : (e : Event) (J : List Event) (handed : Lists) (a b : ℕ) (p : Packet) → Fits J handed a b p → Fits (e ∷ J) handed a b p
   fits-later e J handed a b (Data p) h = numbered-later script e J a b p.seq (p.name, p.fragment) h
-  fits-later e J handed a b (Ack from to least bits) h = h
+  fits-later e J handed a b (Ack layout from to least bits) h = h
 
   pub fits-more : (J : List Event) (old new : Lists) → ((x y n : ℕ) → has_number (old x y) n ≡ true → has_number (new x y) n ≡ true) → (a b : ℕ) (p : Packet) → Fits J old a b p → Fits J new a b p
   fits-more J old new more a b (Data p) h = h
-  fits-more J old new more a b (Ack from to least bits) h = λ n c. more b a n (h n c)
+  fits-more J old new more a b (Ack layout from to least bits) h = λ n c. more b a n (h n c)
 
   pub all-later : (e : Event) (J : List Event) (handed wire : Lists) → ((a b : ℕ) → AllByRecursion (Fits J handed a b) (wire a b)) → (a b : ℕ) → AllByRecursion (Fits (e ∷ J) handed a b) (wire a b)
   all-later e J handed wire h a b = all-weaker (Fits J handed a b) (Fits (e ∷ J) handed a b) (fits-later e J handed a b) (wire a b) (h a b)
@@ -80,7 +80,7 @@ module _ (script : Script) (rules : Rules) where
   -- a number that was delivered is one of the link
   pub number-known : (J : List Event) (handed : Lists) (a b n : ℕ) (p : Packet) → Fits J handed a b p → is_number n p ≡ true → (x : MsgName × ℕ) × (slice_get (numbered script J a b) n ≡ Some x)
   number-known J handed a b n (Data p) f h = ((p.name, p.fragment), subst (λ k. slice_get (numbered script J a b) k ≡ Some (p.name, p.fragment)) (eqb-true p.seq n h) f)
-  number-known J handed a b n (Ack from to least bits) f h = absurd (false≢true h)
+  number-known J handed a b n (Ack layout from to least bits) f h = absurd (false≢true h)
 
   pub known : (J : List Event) (wire handed : Lists) → Sound J wire handed → (a b n : ℕ) → has_number (handed a b) n ≡ true → (x : MsgName × ℕ) × (slice_get (numbered script J a b) n ≡ Some x)
   unfolding has_number
@@ -91,7 +91,7 @@ module _ (script : Script) (rules : Rules) where
   -- what is acknowledged was delivered
   acked-known : (J : List Event) (handed : Lists) (a b n : ℕ) (p : Packet) → Fits J handed b a p → covers n p ≡ true → has_number (handed a b) n ≡ true
   acked-known J handed a b n (Data p) f h = absurd (false≢true h)
-  acked-known J handed a b n (Ack from to least bits) f h = f n h
+  acked-known J handed a b n (Ack layout from to least bits) f h = f n h
 
   pub acked-delivered : (J : List Event) (wire handed : Lists) → Sound J wire handed → (a b n : ℕ) → has_ack (handed b a) n ≡ true → has_number (handed a b) n ≡ true
   unfolding has_ack

@@ -167,7 +167,7 @@ module _ (script : Script) (rules : Rules) where
 
   hand-still : (r : Run) (a b k : ℕ) (p : Packet) → IsEntry r a b k p → SoundRun script rules r → Calm script rules r → Kept r (reply_with script rules (hand_over script rules r a b p) Did)
   unfolding hand_over followed has_number
-  hand-still r a b k (Ack from to least bits) e s q = (refl, still r (r.replies ++ Did ∷ []) r.wire (with_handed script rules r a b (Ack from to least bits)).handed r.owed s q (λ x y n. refl) (more-acks r a b (Ack from to least bits)))
+  hand-still r a b k (Ack layout from to least bits) e s q = (refl, still r (r.replies ++ Did ∷ []) r.wire (with_handed script rules r a b (Ack layout from to least bits)).handed r.owed s q (λ x y n. refl) (more-acks r a b (Ack layout from to least bits)))
   hand-still r a b k (Data p) e s q =
       let sent : is_sent r a b p.seq ≡ true = any-get (is_number p.seq) (r.wire a b) k (Data p) e (eq-eqb p.seq p.seq refl) in
       let known = acked-delivered script rules r.journal r.wire r.handed s a b p.seq (q.acked a b p.seq sent) in

@@ -110,11 +110,11 @@ smallest_run-target : bytes_of smallest_run 1 0x10 ≡ 0x61 ∷ 0x62 ∷ 0x63 �
 unfolding run
 smallest_run-target = refl
 
-smallest_run-data : wire_of smallest_run 0 1 ≡ Data (record { from = 0; to = 1; seq = 0; name = message 0 1 Go; head = Head.Put 16 None None; length = 8; fragment = 0; payload = 0x61 ∷ 0x62 ∷ 0x63 ∷ 0x64 ∷ 0x65 ∷ 0x66 ∷ 0x67 ∷ 0x68 ∷ [] }) ∷ []
+smallest_run-data : wire_of smallest_run 0 1 ≡ Data (record { layout = 1; from = 0; to = 1; seq = 0; name = message 0 1 Go; head = Head.Put 16 None None; length = 8; fragment = 0; payload = 0x61 ∷ 0x62 ∷ 0x63 ∷ 0x64 ∷ 0x65 ∷ 0x66 ∷ 0x67 ∷ 0x68 ∷ [] }) ∷ []
 unfolding run
 smallest_run-data = refl
 
-smallest_run-acks : wire_of smallest_run 1 0 ≡ Ack 1 0 1 0 ∷ []
+smallest_run-acks : wire_of smallest_run 1 0 ≡ Ack 1 1 0 1 0 ∷ []
 unfolding run
 smallest_run-acks = refl
 
@@ -138,11 +138,11 @@ no_bytes_three_counters-target : counters_of no_bytes_three_counters 1 ≡ 1 ∷
 unfolding run
 no_bytes_three_counters-target = refl
 
-no_bytes_three_counters-data : wire_of no_bytes_three_counters 0 1 ≡ Data (record { from = 0; to = 1; seq = 0; name = message 0 0 Go; head = Head.Put 64 (Some 0) (Some 0); length = 0; fragment = 0; payload = [] }) ∷ Ack 0 1 1 0 ∷ []
+no_bytes_three_counters-data : wire_of no_bytes_three_counters 0 1 ≡ Data (record { layout = 1; from = 0; to = 1; seq = 0; name = message 0 0 Go; head = Head.Put 64 (Some 0) (Some 0); length = 0; fragment = 0; payload = [] }) ∷ Ack 1 0 1 1 0 ∷ []
 unfolding run
 no_bytes_three_counters-data = refl
 
-no_bytes_three_counters-notice : wire_of no_bytes_three_counters 1 0 ≡ Ack 1 0 1 0 ∷ Data (record { from = 1; to = 0; seq = 0; name = message 0 0 Note; head = Head.Note NoteOp.Put 0; length = 0; fragment = 0; payload = [] }) ∷ []
+no_bytes_three_counters-notice : wire_of no_bytes_three_counters 1 0 ≡ Ack 1 1 0 1 0 ∷ Data (record { layout = 1; from = 1; to = 0; seq = 0; name = message 0 0 Note; head = Head.Note NoteOp.Put 0; length = 0; fragment = 0; payload = [] }) ∷ []
 unfolding run
 no_bytes_three_counters-notice = refl
 
@@ -163,7 +163,7 @@ reverse_order_one_twice-before : journal_of (record reverse_order_one_twice { li
 unfolding run
 reverse_order_one_twice-before = refl
 
-reverse_order_one_twice-acks : wire_of reverse_order_one_twice 1 0 ≡ Ack 1 0 0 4 ∷ Ack 1 0 0 6 ∷ Ack 1 0 0 6 ∷ Ack 1 0 3 0 ∷ []
+reverse_order_one_twice-acks : wire_of reverse_order_one_twice 1 0 ≡ Ack 1 1 0 0 4 ∷ Ack 1 1 0 0 6 ∷ Ack 1 1 0 0 6 ∷ Ack 1 1 0 3 0 ∷ []
 unfolding run
 reverse_order_one_twice-acks = refl
 
@@ -203,7 +203,7 @@ put_over_a_running_handler-journal : journal_of put_over_a_running_handler ≡ I
 unfolding run
 put_over_a_running_handler-journal = refl
 
-put_over_a_running_handler-message : take 1 (wire_of put_over_a_running_handler 0 1) ≡ Data (record { from = 0; to = 1; seq = 0; name = message 0 1 Go; head = Head.Am 1 (Some 0) (Some 0) (0 ∷ 0 ∷ 0 ∷ 0x10 ∷ 0 ∷ 0 ∷ 0 ∷ 0x20 ∷ 0 ∷ 0 ∷ 0 ∷ 1 ∷ []); length = 4; fragment = 0; payload = 1 ∷ 2 ∷ 3 ∷ 4 ∷ [] }) ∷ []
+put_over_a_running_handler-message : take 1 (wire_of put_over_a_running_handler 0 1) ≡ Data (record { layout = 1; from = 0; to = 1; seq = 0; name = message 0 1 Go; head = Head.Am 1 (Some 0) (Some 0) (0 ∷ 0 ∷ 0 ∷ 0x10 ∷ 0 ∷ 0 ∷ 0 ∷ 0x20 ∷ 0 ∷ 0 ∷ 0 ∷ 1 ∷ []); length = 4; fragment = 0; payload = 1 ∷ 2 ∷ 3 ∷ 4 ∷ [] }) ∷ []
 unfolding run
 put_over_a_running_handler-message = refl
 
@@ -243,11 +243,11 @@ fence_after_a_get-replies : replies_of fence_after_a_get ≡ Did ∷ Did ∷ Did
 unfolding run
 fence_after_a_get-replies = refl
 
-fence_after_a_get-request : take 1 (wire_of fence_after_a_get 0 1) ≡ Data (record { from = 0; to = 1; seq = 0; name = message 0 0 Go; head = Head.GetGo 4 0 16 (Some 0) (Some 0); length = 0; fragment = 0; payload = [] }) ∷ []
+fence_after_a_get-request : take 1 (wire_of fence_after_a_get 0 1) ≡ Data (record { layout = 1; from = 0; to = 1; seq = 0; name = message 0 0 Go; head = Head.GetGo 4 0 16 (Some 0) (Some 0); length = 0; fragment = 0; payload = [] }) ∷ []
 unfolding run
 fence_after_a_get-request = refl
 
-fence_after_a_get-answer : wire_of fence_after_a_get 1 0 ≡ Ack 1 0 1 0 ∷ Data (record { from = 1; to = 0; seq = 0; name = message 0 0 Back; head = Head.GetBack 16 (Some 0); length = 4; fragment = 0; payload = 0xaa ∷ 0xbb ∷ 0xcc ∷ 0xdd ∷ [] }) ∷ []
+fence_after_a_get-answer : wire_of fence_after_a_get 1 0 ≡ Ack 1 1 0 1 0 ∷ Data (record { layout = 1; from = 1; to = 0; seq = 0; name = message 0 0 Back; head = Head.GetBack 16 (Some 0); length = 4; fragment = 0; payload = 0xaa ∷ 0xbb ∷ 0xcc ∷ 0xdd ∷ [] }) ∷ []
 unfolding run
 fence_after_a_get-answer = refl
 
@@ -275,7 +275,7 @@ four_rmws-events : length (journal_of four_rmws) ≡ 21
 unfolding run
 four_rmws-events = refl
 
-four_rmws-request : take 1 (wire_of four_rmws 0 1) ≡ Data (record { from = 0; to = 1; seq = 0; name = message 0 0 Go; head = Head.RmwGo Add 0 1 0 8 None; length = 0; fragment = 0; payload = [] }) ∷ []
+four_rmws-request : take 1 (wire_of four_rmws 0 1) ≡ Data (record { layout = 1; from = 0; to = 1; seq = 0; name = message 0 0 Go; head = Head.RmwGo Add 0 1 0 8 None; length = 0; fragment = 0; payload = [] }) ∷ []
 unfolding run
 four_rmws-request = refl
 
@@ -311,7 +311,7 @@ address_table-journal : journal_of address_table ≡ Refuse 0 0 NoTable ∷ Ente
 unfolding run
 address_table-journal = refl
 
-address_table-join : take 1 (wire_of address_table 0 1) ≡ Data (record { from = 0; to = 1; seq = 0; name = message 0 1 (Join 1); head = Head.Addr 0 8; length = 0; fragment = 0; payload = [] }) ∷ []
+address_table-join : take 1 (wire_of address_table 0 1) ≡ Data (record { layout = 1; from = 0; to = 1; seq = 0; name = message 0 1 (Join 1); head = Head.Addr 0 8; length = 0; fragment = 0; payload = [] }) ∷ []
 unfolding run
 address_table-join = refl
 

@@ -35,12 +35,12 @@ use Rattle.lapi_laws.proofs.WorkedRuns.{builtin, Row, two_tasks, run, journal_of
 unfoldable numbers : List Packet → List ℕ
 numbers [] = []
 numbers (Data p ∷ ps) = p.seq ∷ numbers ps
-numbers (Ack from to base bits ∷ ps) = numbers ps
+numbers (Ack layout from to base bits ∷ ps) = numbers ps
 
 unfoldable heads : List Packet → List Head
 heads [] = []
 heads (Data p ∷ ps) = p.head ∷ heads ps
-heads (Ack from to base bits ∷ ps) = heads ps
+heads (Ack layout from to base bits ∷ ps) = heads ps
 
 abbrev span : (at len : ℕ) → Span
 span at len = record { at = at; len = len }
@@ -125,7 +125,7 @@ tick_after_one_of_three-numbers : numbers (wire_of tick_after_one_of_three 0 1) 
 unfolding run numbers
 tick_after_one_of_three-numbers = refl
 
-tick_after_one_of_three-acks : wire_of tick_after_one_of_three 1 0 ≡ Ack 1 0 0 2 ∷ []
+tick_after_one_of_three-acks : wire_of tick_after_one_of_three 1 0 ≡ Ack 1 1 0 0 2 ∷ []
 unfolding run
 tick_after_one_of_three-acks = refl
 
@@ -165,11 +165,11 @@ two_packets_second_first-journal : journal_of two_packets_second_first ≡ Issue
 unfolding run
 two_packets_second_first-journal = refl
 
-two_packets_second_first-second : drop 1 (wire_of two_packets_second_first 0 1) ≡ Data (record { from = 0; to = 1; seq = 1; name = message 0 1 Go; head = Head.Am 0 (Some 0) (Some 2) (0 ∷ 0 ∷ 1 ∷ 0 ∷ []); length = 257; fragment = 1; payload = 7 ∷ [] }) ∷ []
+two_packets_second_first-second : drop 1 (wire_of two_packets_second_first 0 1) ≡ Data (record { layout = 1; from = 0; to = 1; seq = 1; name = message 0 1 Go; head = Head.Am 0 (Some 0) (Some 2) (0 ∷ 0 ∷ 1 ∷ 0 ∷ []); length = 257; fragment = 1; payload = 7 ∷ [] }) ∷ []
 unfolding run
 two_packets_second_first-second = refl
 
-two_packets_second_first-answers : wire_of two_packets_second_first 1 0 ≡ Ack 1 0 0 2 ∷ Ack 1 0 0 2 ∷ Ack 1 0 2 0 ∷ Data (record { from = 1; to = 0; seq = 0; name = message 0 1 Note; head = Head.Note NoteOp.Am 2; length = 0; fragment = 0; payload = [] }) ∷ []
+two_packets_second_first-answers : wire_of two_packets_second_first 1 0 ≡ Ack 1 1 0 0 2 ∷ Ack 1 1 0 0 2 ∷ Ack 1 1 0 2 0 ∷ Data (record { layout = 1; from = 1; to = 0; seq = 0; name = message 0 1 Note; head = Head.Note NoteOp.Am 2; length = 0; fragment = 0; payload = [] }) ∷ []
 unfolding run
 two_packets_second_first-answers = refl
 
@@ -234,7 +234,7 @@ overlapping_pieces-target : bytes_of overlapping_pieces 1 0x10 ≡ 5 ∷ 6 ∷ 1
 unfolding run
 overlapping_pieces-target = refl
 
-overlapping_pieces-packet : wire_of overlapping_pieces 0 1 ≡ Data (record { from = 0; to = 1; seq = 0; name = message 0 1 Go; head = Head.Putv (Some 1) (Some 2) (span 16 4 ∷ span 18 4 ∷ []); length = 8; fragment = 0; payload = 5 ∷ 6 ∷ 7 ∷ 8 ∷ 1 ∷ 2 ∷ 3 ∷ 4 ∷ [] }) ∷ []
+overlapping_pieces-packet : wire_of overlapping_pieces 0 1 ≡ Data (record { layout = 1; from = 0; to = 1; seq = 0; name = message 0 1 Go; head = Head.Putv (Some 1) (Some 2) (span 16 4 ∷ span 18 4 ∷ []); length = 8; fragment = 0; payload = 5 ∷ 6 ∷ 7 ∷ 8 ∷ 1 ∷ 2 ∷ 3 ∷ 4 ∷ [] }) ∷ []
 unfolding run
 overlapping_pieces-packet = refl
 
@@ -266,7 +266,7 @@ strided_read-request : heads (wire_of strided_read 0 1) ≡ Head.GetvGo (Some 0)
 unfolding run heads
 strided_read-request = refl
 
-strided_read-answer : wire_of strided_read 1 0 ≡ Ack 1 0 1 0 ∷ Data (record { from = 1; to = 0; seq = 0; name = message 0 0 Back; head = Head.GetvBack (Some 1) (span 16 2 ∷ span 19 2 ∷ []); length = 4; fragment = 0; payload = 1 ∷ 2 ∷ 5 ∷ 6 ∷ [] }) ∷ []
+strided_read-answer : wire_of strided_read 1 0 ≡ Ack 1 1 0 1 0 ∷ Data (record { layout = 1; from = 1; to = 0; seq = 0; name = message 0 0 Back; head = Head.GetvBack (Some 1) (span 16 2 ∷ span 19 2 ∷ []); length = 4; fragment = 0; payload = 1 ∷ 2 ∷ 5 ∷ 6 ∷ [] }) ∷ []
 unfolding run
 strided_read-answer = refl
 
@@ -306,7 +306,7 @@ two_counters-origin : counters_of two_counters 0 ≡ 0 ∷ 1 ∷ 1 ∷ zeros 1
 unfolding run
 two_counters-origin = refl
 
-two_counters-answers : drop 2 (wire_of two_counters 1 0) ≡ Data (record { from = 1; to = 0; seq = 0; name = message 0 0 Back; head = Head.GetBack 16 (Some 1); length = 4; fragment = 0; payload = zeros 4 }) ∷ Data (record { from = 1; to = 0; seq = 1; name = message 0 1 Back; head = Head.RmwBack 8 (Some 2); length = 4; fragment = 0; payload = zeros 4 }) ∷ []
+two_counters-answers : drop 2 (wire_of two_counters 1 0) ≡ Data (record { layout = 1; from = 1; to = 0; seq = 0; name = message 0 0 Back; head = Head.GetBack 16 (Some 1); length = 4; fragment = 0; payload = zeros 4 }) ∷ Data (record { layout = 1; from = 1; to = 0; seq = 1; name = message 0 1 Back; head = Head.RmwBack 8 (Some 2); length = 4; fragment = 0; payload = zeros 4 }) ∷ []
 unfolding run
 two_counters-answers = refl
 

@@ -23,7 +23,7 @@ in_layout n row = record { script = record row.script { layout = n }; lines = ro
 -- Acknowledgements that are held back.
 
 -- The smallest run under the second layout: the delivery puts nothing on the wire back, the receiver's poll does.
-abbrev held_back : Row
+abbrev pub held_back : Row
 held_back = record { script = (in_layout 2 smallest_run).script; lines = Step 0 ∷ Step 0 ∷ Poll 0 ∷ Deliver 0 1 0 ∷ Poll 1 ∷ Deliver 1 0 0 ∷ [] }
 
 abbrev delivered : Row
@@ -33,11 +33,11 @@ held_back-journal : journal_of held_back ≡ Issue 0 0 ∷ Issue 0 1 ∷ Copy (m
 unfolding run
 held_back-journal = refl
 
-held_back-data : wire_of held_back 0 1 ≡ Data (record { from = 0; to = 1; seq = 0; name = message 0 1 Go; head = Head.Put 16 None None; length = 8; fragment = 0; payload = 0x61 ∷ 0x62 ∷ 0x63 ∷ 0x64 ∷ 0x65 ∷ 0x66 ∷ 0x67 ∷ 0x68 ∷ [] }) ∷ []
+held_back-data : wire_of held_back 0 1 ≡ Data (record { layout = 2; from = 0; to = 1; seq = 0; name = message 0 1 Go; head = Head.Put 16 None None; length = 8; fragment = 0; payload = 0x61 ∷ 0x62 ∷ 0x63 ∷ 0x64 ∷ 0x65 ∷ 0x66 ∷ 0x67 ∷ 0x68 ∷ [] }) ∷ []
 unfolding run
 held_back-data = refl
 
-held_back-acks : wire_of held_back 1 0 ≡ Ack 1 0 1 0 ∷ []
+held_back-acks : wire_of held_back 1 0 ≡ Ack 2 1 0 1 0 ∷ []
 unfolding run
 held_back-acks = refl
 
@@ -78,7 +78,7 @@ ticked-owed : (run ticked).owed 0 1 ≡ true
 unfolding run
 ticked-owed = refl
 
-polled_twice-acks : wire_of polled_twice 1 0 ≡ Ack 1 0 1 0 ∷ []
+polled_twice-acks : wire_of polled_twice 1 0 ≡ Ack 2 1 0 1 0 ∷ []
 unfolding run
 polled_twice-acks = refl
 
@@ -94,7 +94,7 @@ repeated-journal : journal_of repeated ≡ Issue 0 0 ∷ Issue 0 1 ∷ Copy (mes
 unfolding run
 repeated-journal = refl
 
-repeated-acks : wire_of repeated 1 0 ≡ Ack 1 0 1 0 ∷ Ack 1 0 1 0 ∷ []
+repeated-acks : wire_of repeated 1 0 ≡ Ack 2 1 0 1 0 ∷ Ack 2 1 0 1 0 ∷ []
 unfolding run
 repeated-acks = refl
 
@@ -119,7 +119,7 @@ both_ways =
       lines = Step 0 ∷ Step 1 ∷ Poll 0 ∷ Deliver 0 1 0 ∷ Poll 1 ∷ [];
     }
 
-both_ways-wire : wire_of both_ways 1 0 ≡ Data (record { from = 1; to = 0; seq = 0; name = message 1 0 Go; head = Head.Put 0 None None; length = 0; fragment = 0; payload = [] }) ∷ Ack 1 0 1 0 ∷ []
+both_ways-wire : wire_of both_ways 1 0 ≡ Data (record { layout = 2; from = 1; to = 0; seq = 0; name = message 1 0 Go; head = Head.Put 0 None None; length = 0; fragment = 0; payload = [] }) ∷ Ack 2 1 0 1 0 ∷ []
 unfolding run
 both_ways-wire = refl
 
@@ -136,7 +136,7 @@ abbrev asking : (layout user : ℕ) (cmpl : Option ℕ) → Row
 asking layout user cmpl = record { script = record { layout = layout; tasks = 2; memory = 64; counters = 4; workers = 1; lists = asks user cmpl ∷ [] ∷ [] }; lines = up_to_end }
 
 -- The word comes back to the origin in the place of the notice, and tells the completion counter when it lands.
-abbrev answering : Row
+abbrev pub answering : Row
 answering = record (asking 2 0x20 (Some 0)) { lines = up_to_end ++ Poll 1 ∷ Deliver 1 0 0 ∷ Deliver 1 0 1 ∷ Poll 0 ∷ Deliver 0 1 1 ∷ [] }
 
 answering-journal : journal_of answering ≡ Issue 0 0 ∷ Issue 0 1 ∷ Copy (message 0 1 Go) ∷ Event.Head (message 0 1 Go) ∷ Land (message 0 1 Go) ∷ Event.Begin (message 0 1 Go) 1 0 ∷ Event.End (message 0 1 Go) 1 0 ∷ Copy (message 0 1 Echo) ∷ Land (message 0 1 Echo) ∷ []
@@ -164,7 +164,7 @@ answering-target : counters_of answering 1 ≡ 1 ∷ zeros 3
 unfolding run
 answering-target = refl
 
-answering-wire : wire_of answering 1 0 ≡ Data (record { from = 1; to = 0; seq = 0; name = message 0 1 Echo; head = Head.Echo 0x20 (Some 0); length = 4; fragment = 0; payload = 0 ∷ 0 ∷ 0 ∷ 10 ∷ [] }) ∷ Ack 1 0 1 0 ∷ []
+answering-wire : wire_of answering 1 0 ≡ Data (record { layout = 2; from = 1; to = 0; seq = 0; name = message 0 1 Echo; head = Head.Echo 0x20 (Some 0); length = 4; fragment = 0; payload = 0 ∷ 0 ∷ 0 ∷ 10 ∷ [] }) ∷ Ack 2 1 0 1 0 ∷ []
 unfolding run
 answering-wire = refl
 

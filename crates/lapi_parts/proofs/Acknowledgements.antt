@@ -42,7 +42,7 @@ module _ (script : Script) (rules : Rules) where
   -- an acknowledgement of the wire from a to b
   abbrev pub IsTold : (a b : ℕ) → Packet → Type 0
   IsTold a b (Data p) = Unit {0}
-  IsTold a b (Ack from to base bits) = (from ≡ a) × (to ≡ b) × (a < script.tasks) × (b < script.tasks) × (ValidScript script → base < 2 ^ 32) × (bits < 2 ^ window_of script) × (bits % 2 ≡ 0)
+  IsTold a b (Ack layout from to base bits) = (layout ≡ script.layout) × (from ≡ a) × (to ≡ b) × (a < script.tasks) × (b < script.tasks) × (ValidScript script → base < 2 ^ 32) × (bits < 2 ^ window_of script) × (bits % 2 ≡ 0)
 
   -- the numbers that were delivered are those of the link, also with one more packet
   delivered-below : (r : Run) (a b : ℕ) (p : DataPacket) (n : ℕ) → SoundRun script rules r → Fits script rules r.journal r.handed a b (Data p) → is_delivered (with_handed script rules r a b (Data p)) a b n ≡ true → n < length (numbered script r.journal a b)
@@ -77,7 +77,7 @@ module _ (script : Script) (rules : Rules) where
       let least = least_missing count q in
       let below = least_missing-le count q in
       let first : least + 0 ≡ least = omega arith in
-      (refl, refl, lb, la, λ valid. let few = numbers-few script rules valid r.journal a b atomic (λ m d. copied-few script rules r.journal m atomic d) in omega arith, bits_of-lt (window_of script) (λ i. q (least + i)), bits_of-even (window_of script) (λ i. q (least + i)) (ap q first ∙ least-not r a b room))
+      (refl, refl, refl, lb, la, λ valid. let few = numbers-few script rules valid r.journal a b atomic (λ m d. copied-few script rules r.journal m atomic d) in omega arith, bits_of-lt (window_of script) (λ i. q (least + i)), bits_of-even (window_of script) (λ i. q (least + i)) (ap q first ∙ least-not r a b room))
 
   abbrev pub ToldRun : Run → Type 0
   ToldRun r = (a b : ℕ) → AllByRecursion (IsTold a b) (r.wire a b)
@@ -113,7 +113,7 @@ module _ (script : Script) (rules : Rules) where
 
   hand_over-told : (r : Run) (a b : ℕ) (p : Packet) → a < script.tasks → b < script.tasks → SoundRun script rules r → Fits script rules r.journal r.handed a b p → ToldRun r → ToldRun (hand_over script rules r a b p)
   unfolding hand_over at_once
-  hand_over-told r a b (Ack from to least bits) la lb s f h x y = h x y
+  hand_over-told r a b (Ack layout from to least bits) la lb s f h x y = h x y
   hand_over-told r a b (Data p) la lb s f h x y =
       let now = with_handed script rules r a b (Data p) in
       let new = ack script rules now a b in

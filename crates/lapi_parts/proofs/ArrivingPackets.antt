@@ -44,11 +44,11 @@ and-none false = refl
 
 head_of : Packet → PacketHead
 head_of (Data p) = p.head
-head_of (Ack from to base bits) = PacketHead.Gfence 0
+head_of (Ack layout from to base bits) = PacketHead.Gfence 0
 
 length_of : Packet → ℕ
 length_of (Data p) = p.length
-length_of (Ack from to base bits) = 0
+length_of (Ack layout from to base bits) = 0
 
 module _ (script : Script) (rules : Rules) where
   -- What the head of a message tells of its statement: whether it is an active message,
@@ -132,7 +132,7 @@ module _ (script : Script) (rules : Rules) where
 
   ack-by : (r : Run) (old : ℕ → ℕ → List Packet) (a b : ℕ) → AllByRecursion (Fits script rules r.journal old a b) (r.handed a b) → ack script rules r a b ≡ ack_of script (r.handed a b) a b
   unfolding ack ack_of
-  ack-by r old a b all = ap (λ n. Ack b a n (bits_of (window_of script) (λ i. has_number (r.handed a b) (n + i)))) (least-local script rules r.journal old a b (r.handed a b) all)
+  ack-by r old a b all = ap (λ n. Ack script.layout b a n (bits_of (window_of script) (λ i. has_number (r.handed a b) (n + i)))) (least-local script rules r.journal old a b (r.handed a b) all)
 
   -- Two packets of one number are the same packet.
   same-data : (r : Run) (a b : ℕ) (p q : DataPacket) → Fits script rules r.journal r.handed a b (Data p) → Fits script rules r.journal r.handed a b (Data q) → Exact script rules r.journal (Data p) → Exact script rules r.journal (Data q) → p.seq ≡ q.seq → Data q ≡ Data p
@@ -148,7 +148,7 @@ module _ (script : Script) (rules : Rules) where
 
   number-at : (p : DataPacket) (q : Packet) (r : Run) (a b : ℕ) → is_number p.seq q ≡ true → Fits script rules r.journal r.handed a b (Data p) → Exact script rules r.journal (Data p) → Fits script rules r.journal r.handed a b q → Exact script rules r.journal q → q ≡ Data p
   number-at p (Data q) r a b n f x g y = same-data r a b p q f g x y (sym (eqb-true q.seq p.seq n))
-  number-at p (Ack from to base bits) r a b n f x g y = absurd (false≢true n)
+  number-at p (Ack layout from to base bits) r a b n f x g y = absurd (false≢true n)
 
   known-in : (r : Run) (a b : ℕ) (p : DataPacket) → Fits script rules r.journal r.handed a b (Data p) → Exact script rules r.journal (Data p) → (ps : List Packet) → AllByRecursion (Fits script rules r.journal r.handed a b) ps → AllByRecursion (Exact script rules r.journal) ps → IsKnown p ps
   unfolding has_number

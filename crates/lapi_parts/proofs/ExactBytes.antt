@@ -71,7 +71,7 @@ module _ (script : Script) (rules : Rules) where
   -- the packet of its number
   abbrev pub Exact : List Event → Packet → Type 0
   Exact J (Data p) = Data p ≡ data_packet script p.name p.seq p.fragment (carried script rules J p.name)
-  Exact J (Ack from to base bits) = Unit {0}
+  Exact J (Ack layout from to base bits) = Unit {0}
 
   pub stays-grown : (later J : List Event) (m : MsgName) → Atomic script rules (later ++ J) → happened (Copied m) J ≡ true → carried script rules (later ++ J) m ≡ carried script rules J m
   stays-grown [] J m h d = refl
@@ -84,7 +84,7 @@ module _ (script : Script) (rules : Rules) where
   exact-grown : (J K : List Event) (handed : Lists) (a b : ℕ) (p : Packet) → Grown J K → Atomic script rules K → Fits script rules J handed a b p → Exact J p → Exact K p
   exact-grown J K handed a b (Data p) g h f x =
       x ∙ ap (data_packet script p.name p.seq p.fragment) (sym (ap (λ L. carried script rules L p.name) g.1 ∙ stays-grown g.0 J p.name (subst (Atomic script rules) g.1 h) (numbered-copied script J a b p.seq (p.name, p.fragment) f).0))
-  exact-grown J K handed a b (Ack from to base bits) g h f x = x
+  exact-grown J K handed a b (Ack layout from to base bits) g h f x = x
 
   pub all-exact : (J K : List Event) (handed : Lists) (a b : ℕ) (ps : List Packet) → Grown J K → Atomic script rules K → AllByRecursion (Fits script rules J handed a b) ps → AllByRecursion (Exact J) ps → AllByRecursion (Exact K) ps
   all-exact J K handed a b [] g h f x = tt
@@ -192,7 +192,7 @@ module _ (script : Script) (rules : Rules) where
 
   hand_over-exact : (r : Run) (a b : ℕ) (p : Packet) → SoundRun script rules r → Atomic script rules (hand_over script rules r a b p).journal → Fits script rules r.journal r.handed a b p → Exact r.journal p → ExactRun r → ExactRun (hand_over script rules r a b p)
   unfolding hand_over
-  hand_over-exact r a b (Ack from to least bits) s h f e x = record { wires = x.wires; hands = hands-exact r.journal r.handed a b (Ack from to least bits) tt x.hands }
+  hand_over-exact r a b (Ack layout from to least bits) s h f e x = record { wires = x.wires; hands = hands-exact r.journal r.handed a b (Ack layout from to least bits) tt x.hands }
   hand_over-exact r a b (Data p) s h f e x =
       let es = cond (has_number (r.handed a b) p.seq) [] (first_delivery script rules r a b p.name p.seq) in
       let K = followed r.journal es in
@@ -238,7 +238,7 @@ record-exact = of-runs ExactRun run-exact
 -- Each packet is that of its number.
 of-number : (script : Script) (rules : Rules) (J : List Event) (handed : Lists) (a b : ℕ) (p : Packet) → Fits script rules J handed a b p → Exact script rules J p → IsOfNumber script rules J a b p
 of-number script rules J handed a b (Data p) f x = (f, x)
-of-number script rules J handed a b (Ack from to base bits) f x = tt
+of-number script rules J handed a b (Ack layout from to base bits) f x = tt
 
 all-of-number : (script : Script) (rules : Rules) (J : List Event) (handed : Lists) (a b : ℕ) (ps : List Packet) → AllByRecursion (Fits script rules J handed a b) ps → AllByRecursion (Exact script rules J) ps → AllByRecursion (IsOfNumber script rules J a b) ps
 all-of-number script rules J handed a b [] f x = tt

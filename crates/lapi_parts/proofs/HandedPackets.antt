@@ -159,7 +159,7 @@ module _ (script : Script) (rules : Rules) (J : List Event) (handed : Lists) (a 
       (λ (x : (p.seq == n) ≡ true). subst (λ k. k < length (numbered script J a b)) (eqb-true p.seq n x) (slice_get_within (numbered script J a b) p.seq (p.name, p.fragment) all.0))
       (λ (x : list_any (is_number n) ps ≡ true). number-below ps all.1 n x)
       (or_cases (p.seq == n) (list_any (is_number n) ps) h)
-  number-below (Ack from to base bits ∷ ps) all n h = number-below ps all.1 n h
+  number-below (Ack layout from to base bits ∷ ps) all n h = number-below ps all.1 n h
 
   -- The least number not delivered is that of the packets.
   pub least-local : (packets : List Packet) → AllByRecursion Fit packets → least_missing (length (numbered script J a b)) (has_number packets) ≡ least_number packets
@@ -168,13 +168,13 @@ module _ (script : Script) (rules : Rules) (J : List Event) (handed : Lists) (a 
 
   pub of-fit : (m : MsgName) (p : Packet) → is_part_of m p ≡ true → Fit p → (n j : ℕ) × (is_number n p ≡ true) × (slice_get (numbered script J a b) n ≡ Some (m, j))
   of-fit m (Data p) h f = (p.seq, p.fragment, eqb-refl p.seq, subst (λ (k : MsgName). slice_get (numbered script J a b) p.seq ≡ Some (k, p.fragment)) (sym (name_eq-true m p.name h)) f)
-  of-fit m (Ack from to base bits) h f = absurd (false≢true h)
+  of-fit m (Ack layout from to base bits) h f = absurd (false≢true h)
 
   pub fragment-fit : (m : MsgName) (j : ℕ) (p : Packet) → is_fragment m j p ≡ true → Fit p → (n : ℕ) × (is_number n p ≡ true) × (slice_get (numbered script J a b) n ≡ Some (m, j))
   fragment-fit m j (Data p) h f =
       let both = and_parts (name_eq m p.name) (p.fragment == j) h in
       (p.seq, eqb-refl p.seq, subst (λ (k : MsgName). slice_get (numbered script J a b) p.seq ≡ Some (k, j)) (sym (name_eq-true m p.name both.0)) (subst (λ i. slice_get (numbered script J a b) p.seq ≡ Some (p.name, i)) (eqb-true p.fragment j both.1) f))
-  fragment-fit m j (Ack from to base bits) h f = absurd (false≢true h)
+  fragment-fit m j (Ack layout from to base bits) h f = absurd (false≢true h)
 
   pub fit-fragment : (m : MsgName) (n j : ℕ) (p : Packet) → is_number n p ≡ true → slice_get (numbered script J a b) n ≡ Some (m, j) → Fit p → (is_fragment m j p ≡ true) × (is_part_of m p ≡ true)
   fit-fragment m n j (Data p) h x f =
@@ -185,7 +185,7 @@ module _ (script : Script) (rules : Rules) (J : List Event) (handed : Lists) (a 
       let fragment = ap (λ (v : MsgName × ℕ). v.1) pair in
       let named : name_eq m p.name ≡ true = subst (λ (k : MsgName). name_eq m k ≡ true) name (name_eq-refl m) in
       (and_from (name_eq m p.name) (p.fragment == j) named (eq-eqb p.fragment j (sym fragment)), named)
-  fit-fragment m n j (Ack from to base bits) h x f = absurd (false≢true h)
+  fit-fragment m n j (Ack layout from to base bits) h x f = absurd (false≢true h)
 
   -- Some number of m was delivered exactly where some packet of m was.
   pub some-local : (packets : List Packet) (m : MsgName) → AllByRecursion Fit packets → some_number script (numbered script J a b) m (has_number packets) ≡ has_some packets m
@@ -237,7 +237,7 @@ module _ (script : Script) (rules : Rules) where
   -- Hence the acknowledgement and the events of a packet are those that the packets handed over tell.
   pub ack-local : (r : Run) (a b : ℕ) → AllByRecursion (Fits script rules r.journal r.handed a b) (r.handed a b) → ack script rules r a b ≡ ack_of script (r.handed a b) a b
   unfolding ack ack_of
-  ack-local r a b all = ap (λ n. Ack b a n (bits_of (window_of script) (λ i. has_number (r.handed a b) (n + i)))) (least-local script rules r.journal r.handed a b (r.handed a b) all)
+  ack-local r a b all = ap (λ n. Ack script.layout b a n (bits_of (window_of script) (λ i. has_number (r.handed a b) (n + i)))) (least-local script rules r.journal r.handed a b (r.handed a b) all)
 
   pub arrival-local : (r : Run) (a b : ℕ) (p : DataPacket) → Atomic script rules r.journal → Fits script rules r.journal r.handed a b (Data p) → AllByRecursion (Fits script rules r.journal r.handed a b) (r.handed a b) → first_delivery script rules r a b p.name p.seq ≡ arrival_of script rules (r.handed a b) (Data p) p.name
   unfolding first_delivery arrival_of

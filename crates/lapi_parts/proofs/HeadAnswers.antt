@@ -97,7 +97,7 @@ module _ (script : Script) (rules : Rules) where
   sent-as : (m : MsgName) (a b : ℕ) (head : PacketHead) (len : ℕ) → sender script m ≡ a → receiver script m ≡ b → head_by script m m.leg (statement script m.origin m.statement) ≡ head → message_length script m ≡ len → IsSentAs script rules m a b head len
   unfolding data_packet
   sent-as m a b head len f t h l = λ n j bytes.
-      λ i. Data (record { from = f i; to = t i; seq = n; name = m; head = h i; length = l i; fragment = j; payload = fragment_bytes (unit_of script) j bytes })
+      λ i. Data (record { layout = script.layout; from = f i; to = t i; seq = n; name = m; head = h i; length = l i; fragment = j; payload = fragment_bytes (unit_of script) j bytes })
 
   -- ---- what a Back brings
 

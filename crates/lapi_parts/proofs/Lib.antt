@@ -15,11 +15,11 @@ pub mod LocalQuestions
 pub mod HandedPackets
 pub mod WholeMessages
 pub mod LineFrames
-pub mod NotePackets
 pub mod OtherTasks
 pub mod Replay
 pub mod SameParts
 pub mod ArrivingPackets
+pub mod OwedAcks
 pub mod WrittenMemory
 pub mod SameSteps
 pub mod InReach

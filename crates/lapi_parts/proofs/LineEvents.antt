@@ -149,7 +149,7 @@ module _ (script : Script) (rules : Rules) where
 
   hand-adds : (r : Run) (act : Act) (a b : ℕ) (p : Packet) → IsDelivery act → Adds r act (hand_over script rules r a b p)
   unfolding hand_over
-  hand-adds r act a b (Ack from to least bits) by = ([], refl, tt)
+  hand-adds r act a b (Ack layout from to least bits) by = ([], refl, tt)
   hand-adds r act a b (Data p) by =
       grows-followed (IsBy r act) (cond (is_delivered r a b p.seq) [] (first_delivery script rules r a b p.name p.seq)) r.journal
       (cond_both (is_delivered r a b p.seq) [] (first_delivery script rules r a b p.name p.seq) (AllByRecursion (IsBy r act)) (λ _. tt) (λ _. arrival-by r act a b p.name p.seq by))

@@ -171,7 +171,7 @@ module _ (script : Script) where
 
     hand-frame : (r : Run) (a b : ℕ) (p : Packet) → Fits script rules r.journal r.handed a b p → Frame b r (hand_over script rules r a b p)
     unfolding hand_over
-    hand-frame r a b (Ack from to least bits) f = record { added = []; journal = refl; here = tt; wires = λ x y _. refl; hands = λ x y h. apart-right y b (x == a) _ (r.handed x y) h; owed = λ x y _. refl }
+    hand-frame r a b (Ack layout from to least bits) f = record { added = []; journal = refl; here = tt; wires = λ x y _. refl; hands = λ x y h. apart-right y b (x == a) _ (r.handed x y) h; owed = λ x y _. refl }
     hand-frame r a b (Data p) f =
         let es = cond (is_delivered r a b p.seq) [] (first_delivery script rules r a b p.name p.seq) in
         let m = more-followed b es r.journal (cond_both (is_delivered r a b p.seq) [] (first_delivery script rules r a b p.name p.seq) (AllByRecursion (At b)) (λ _. tt) (λ _. arrival-own r a b p.name p.seq (numbered-copied script r.journal a b p.seq (p.name, p.fragment) f).2)) in

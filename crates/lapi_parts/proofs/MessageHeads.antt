@@ -1,8 +1,8 @@
 -- The head of every message that a valid script copies keeps its rules.
-use Rattle.std.proofs.Common.{◌≡◌, ℕ, zero, suc, ◌+◌, ◌<◌, ◌≤◌, min, Bool, true, false, List, [], ◌∷◌, ◌++◌, length, map, Option, Some, None, refl, sym, ap, subst, ◌∙◌, arith, inl, inr}
+use Rattle.std.proofs.Common.{◌≡◌, ℕ, zero, suc, ◌+◌, ◌<◌, ◌≤◌, min, Bool, true, false, List, [], ◌∷◌, ◌++◌, length, map, Option, Some, None, refl, sym, ap, ◌∙◌, arith, inl, inr}
 use Rattle.std.specs.Prelude.{nat_lt, is_some}
 use Rattle.std.specs.List.{AllByRecursion, filter, zip}
-use Rattle.std.proofs.lemmas.Bool.{false≢true, cond_both, or_parts, le-leb, ltb-false, cases_lt, and_left, both_ways, and_parts}
+use Rattle.std.proofs.lemmas.Bool.{false≢true, cond_both, or_parts, le-leb, leb-true, ltb-false, eqb-true, cases_lt, and_parts}
 use Rattle.std.proofs.lemmas.List.{length-map, length-append}
 use Rattle.std.proofs.lemmas.List.Elements.{filter-append}
 use Rattle.std.proofs.lemmas.List.Sums.{sum_by-cons}
@@ -18,22 +18,22 @@ use Rattle.lapi_base.specs.declared.message.Leg.{Leg}
 use Rattle.lapi_base.specs.declared.message.Leg.TheVariants.{Go, Back, Note, Echo, Join}
 use Rattle.lapi_base.specs.declared.message.MsgName.{MsgName}
 use Rattle.lapi_base.specs.Packet.Format.{IsSpelled}
-use Rattle.lapi_base.specs.Packet.Layout.{First, layout_of, has_echo, may_answer, longest_of, longest_active_of, longest as most, longest_active as most_active}
+use Rattle.lapi_base.specs.Packet.Layout.{Layout, layout_of, has_echo, may_answer, longest_of, longest_active_of, longest, longest_active}
 use Rattle.lapi_base.specs.Packet.Heads.{is_operation, head_form, note_op_of}
 use Rattle.lapi_base.specs.Packet.Spelling.{is_length}
 use Rattle.lapi_base.specs.Packet.PacketBytes as written
 use Rattle.lapi_base.specs.Record.Below.{below}
-use Rattle.lapi_base.specs.Record.Operations.{numbers_below, statements, statement, address, pieces_of, spans, total, target, has_leg, length_by, cmpl_counter, table_rounds, is_table, is_gfence}
+use Rattle.lapi_base.specs.Record.Operations.{numbers_below, statements, statement, address, pieces_of, spans, total, target, has_leg, length_by, is_am, cmpl_counter, table_rounds, is_table, is_gfence}
 use Rattle.lapi_base.specs.Record.Refusals.{is_long, rounds_like, round_of, gfence_rounds}
 use Rattle.lapi_base.specs.Record.Packets.{head_by}
 use Rattle.lapi_base.specs.Record.Valid.{ValidVector, ValidStatement, ValidScript, ValidRules}
-use Rattle.lapi_base.specs.Laws.Receiving.{bytes_in, NamesCounter}
-use Rattle.lapi_base.specs.Record.Handlers.{answers}
+use Rattle.lapi_base.specs.Laws.Receiving.{bytes_in, NamesCounter, IsWord}
+use Rattle.lapi_base.specs.Record.Handlers.{user, has_completion, answers}
 use Rattle.lapi_base.proofs.ListLaws.{filter-push}
 use Rattle.lapi_base.proofs.UptoLaws.{numbers_below-length}
 use Rattle.lapi_parts.proofs.Accepted.{LiesWithin, Accepted}
 use Rattle.lapi_parts.proofs.SpelledParts.{IsNumbered, IsWithin, SameLengths}
-use Rattle.lapi_parts.proofs.SpelledHeads.{put-spelled, get_go-spelled, get_back-spelled, putv-spelled, getv_go-spelled, getv_back-spelled, rmw_go-spelled, rmw_back-spelled, am-spelled, note-spelled, gfence-spelled, addr-spelled}
+use Rattle.lapi_parts.proofs.SpelledHeads.{put-spelled, get_go-spelled, get_back-spelled, putv-spelled, getv_go-spelled, getv_back-spelled, rmw_go-spelled, rmw_back-spelled, am-spelled, note-spelled, echo-spelled, gfence-spelled, addr-spelled}
 
 -- ---- pieces and spans
 
@@ -109,109 +109,122 @@ counter-small : (script : Script) → ValidScript script → (o : Option ℕ) �
 counter-small script valid None h = tt
 counter-small script valid (Some c) h = let l : c < script.counters = h in let m : script.counters ≤ 64 = valid.counters in let g : c < 64 = omega arith in g
 
+module _ (script : Script) (rules : Rules) where
+  -- an active message alone answers, under a layout that has answers, and its word has a place
+  pub answer-word : (m : MsgName) → answers script rules m.origin m.statement ≡ true → (is_am (statement script m.origin m.statement) ≡ true) × IsWord script (user script m)
+  unfolding answers has_completion user
+  answer-word m h =
+      let both = and_parts _ _ h in
+      let rest = and_parts _ _ (and_parts _ _ both.0).0 in
+      let place = and_parts _ _ both.1 in
+      ((and_parts _ _ rest.1).0, (leb-true _ _ place.1, eqb-true _ 0 place.0))
+
+  pub answer-layout : (m : MsgName) → answers script rules m.origin m.statement ≡ true → has_echo (layout_of script.layout) ≡ true
+  unfolding answers may_answer
+  answer-layout m h = (and_parts _ _ (and_parts _ _ (and_parts _ _ h).0).0).0
+
 module _ (script : Script) (rules : Rules) (valid : ValidScript script) (few : ValidRules rules) (m : MsgName) where
   abbrev Fine : Statement → Type 0
   Fine s = Accepted script rules (target script m.origin m.statement) s
 
-  -- in the first layout nothing answers
-  pub no-answers : answers script rules m.origin m.statement ≡ false
-  unfolding answers may_answer
-  no-answers = and_left _ _ (and_left _ _ (and_left _ _ (ap (λ l. has_echo (layout_of l)) valid.layout)))
+  abbrev layout : Layout
+  layout = layout_of script.layout
 
-  -- the longest message
-  longest : (n : ℕ) → nat_lt (longest_of script) n ≡ false → n ≤ 16384
+  -- what is at most as long as the longest message
+  no-longer : (n : ℕ) → nat_lt (longest_of script) n ≡ false → n ≤ longest layout
   unfolding longest_of
-  longest n h = ltb-false 16384 n (subst (λ l. nat_lt (most (layout_of l)) n ≡ false) valid.layout h)
+  no-longer n h = ltb-false (longest layout) n h
 
-  longest_am : (n : ℕ) → nat_lt (longest_active_of script) n ≡ false → n ≤ 16384
+  no-longer_am : (n : ℕ) → nat_lt (longest_active_of script) n ≡ false → n ≤ longest_active layout
   unfolding longest_active_of
-  longest_am n h = ltb-false 16384 n (subst (λ l. nat_lt (most_active (layout_of l)) n ≡ false) valid.layout h)
+  no-longer_am n h = ltb-false (longest_active layout) n h
 
   -- the largest memory
   inside : (at count : ℕ) → at + count ≤ script.memory → at + count ≤ 65536
   inside at count h = let most : script.memory ≤ 65536 = valid.memory.1 in omega arith
 
-  note-kept : (s : Statement) → is_some (cmpl_counter s) ≡ true → Fine s → IsSpelled (head_form First Note (written.head_number (head_by script m Note s)) 0) (head_by script m Note s) (written.head (head_by script m Note s))
+  note-kept : (s : Statement) → is_some (cmpl_counter s) ≡ true → Fine s → IsSpelled (head_form layout Note (written.head_number (head_by script m Note s)) 0) (head_by script m Note s) (written.head (head_by script m Note s))
   unfolding head_form
   note-kept (Put task to from len tgt org (Some c)) g h = note-spelled (note_op_of 1) c (counter-small script valid (Some c) h.cmpl)
   note-kept (Putv task to from tgt org (Some c)) g h = note-spelled (note_op_of 3) c (counter-small script valid (Some c) h.cmpl)
   note-kept (Am task handler header from len tgt org (Some c)) g h = note-spelled (note_op_of 6) c (counter-small script valid (Some c) h.cmpl)
   note-kept _ g h = absurd (false≢true g)
 
-  pub head-spelled : (leg : Leg) (s : Statement) → has_leg script (answers script rules m.origin m.statement) m.origin leg s ≡ true → Fine s → ValidStatement s → round_of script m.origin m.statement ≤ 511 → IsSpelled (head_form First leg (written.head_number (head_by script m leg s)) (length_by leg s)) (head_by script m leg s) (written.head (head_by script m leg s))
+  -- the head of a message that its statement has, if it answers only where it may
+  pub head-spelled : (echoes : Bool) → (echoes ≡ true → answers script rules m.origin m.statement ≡ true) → (leg : Leg) (s : Statement) → has_leg script echoes m.origin leg s ≡ true → Fine s → ValidStatement s → round_of script m.origin m.statement ≤ 511 → IsSpelled (head_form layout leg (written.head_number (head_by script m leg s)) (length_by leg s)) (head_by script m leg s) (written.head (head_by script m leg s))
   unfolding head_form longest_of address
-  head-spelled Go (Put task to from len tgt org cmpl) g h v r = put-spelled len (address script _ to) tgt cmpl (inside _ len h.to.0) (counter-small script valid tgt h.tgt) (counter-small script valid cmpl h.cmpl)
-  head-spelled Go (Get task from to len tgt org) g h v r = get_go-spelled len (address script _ from) to tgt org (longest len h.short) (inside _ len h.to.0) (inside to len h.from.0) (counter-small script valid tgt h.tgt) (counter-small script valid org h.org)
-  head-spelled Go (Putv task to from tgt org cmpl) g h v r =
+  head-spelled echoes may Go (Put task to from len tgt org cmpl) g h v r = put-spelled len (address script _ to) tgt cmpl (inside _ len h.to.0) (counter-small script valid tgt h.tgt) (counter-small script valid cmpl h.cmpl)
+  head-spelled echoes may Go (Get task from to len tgt org) g h v r = get_go-spelled layout len (address script _ from) to tgt org (no-longer len h.short) (inside _ len h.to.0) (inside to len h.from.0) (counter-small script valid tgt h.tgt) (counter-small script valid org h.org)
+  head-spelled echoes may Go (Putv task to from tgt org cmpl) g h v r =
       let d = target script m.origin m.statement in
       let count = pieces-few to v.1 in
       let n = spans-length script d (pieces_of to) in
       let same = spans-same script d (pieces_of to) (pieces_of from) (h.count refl) (h.lengths refl) in
       putv-spelled (total (pieces_of from)) tgt cmpl (spans script d (pieces_of to)) (counter-small script valid tgt h.tgt) (counter-small script valid cmpl h.cmpl) (omega (arith, n, count.0)) (omega (arith, n, count.1)) (spans-within script valid d (pieces_of to) h.to)
       (same-total _ _ same ∙ spans-total script d (pieces_of from))
-  head-spelled Go (Getv task from to tgt org) g h v r =
+  head-spelled echoes may Go (Getv task from to tgt org) g h v r =
       let d = target script m.origin m.statement in
       let count = pieces-few from v.1 in
       let n = spans-length script d (pieces_of from) in
       let t = spans-total script d (pieces_of from) in
-      let l : total (pieces_of from) ≤ 16384 = longest (total (pieces_of from)) (or_parts (is_long script (pieces_of from)) (is_long script (pieces_of to)) h.short).0 in
-      getv_go-spelled tgt org (spans script d (pieces_of from)) (spans script d (pieces_of to)) (counter-small script valid tgt h.tgt) (counter-small script valid org h.org) (omega (arith, n, count.0)) (omega (arith, n, count.1)) (spans-within script valid d (pieces_of from) h.to) (spans-within script valid d (pieces_of to) h.from) (omega arith)
+      let l : total (pieces_of from) ≤ longest layout = no-longer (total (pieces_of from)) (or_parts (is_long script (pieces_of from)) (is_long script (pieces_of to)) h.short).0 in
+      getv_go-spelled layout tgt org (spans script d (pieces_of from)) (spans script d (pieces_of to)) (counter-small script valid tgt h.tgt) (counter-small script valid org h.org) (omega (arith, n, count.0)) (omega (arith, n, count.1)) (spans-within script valid d (pieces_of from) h.to) (spans-within script valid d (pieces_of to) h.from) (omega arith)
       (spans-same script d (pieces_of from) (pieces_of to) (h.count refl) (h.lengths refl))
-  head-spelled Go (Rmw task op at in1 in2 prev org) g h v r =
+  head-spelled echoes may Go (Rmw task op at in1 in2 prev org) g h v r =
       let w = h.words refl in
       rmw_go-spelled op (address script _ at) in1 in2 prev org (inside _ 4 h.to.0) w.0.0 v.2 v.3 v.4 (inside prev 4 h.from.0) w.1.0 (counter-small script valid org h.org)
-  head-spelled Go (Am task handler header from len tgt org cmpl) g h v r =
+  head-spelled echoes may Go (Am task handler header from len tgt org cmpl) g h v r =
       let one = h.handler refl in
       let most : length rules.headers ≤ 16 = few.0 in
       let words = h.header refl in
       am-spelled handler tgt cmpl header (omega arith) (counter-small script valid tgt h.tgt) (counter-small script valid cmpl h.cmpl) words.0 words.1 v.3
-  head-spelled Back (Get task from to len tgt org) g h v r = get_back-spelled len to org (inside to len h.from.0) (counter-small script valid org h.org)
-  head-spelled Back (Getv task from to tgt org) g h v r =
+  head-spelled echoes may Back (Get task from to len tgt org) g h v r = get_back-spelled len to org (inside to len h.from.0) (counter-small script valid org h.org)
+  head-spelled echoes may Back (Getv task from to tgt org) g h v r =
       let d = target script m.origin m.statement in
       let count = pieces-few to v.2 in
       let n = spans-length script d (pieces_of to) in
       let same = spans-same script d (pieces_of from) (pieces_of to) (h.count refl) (h.lengths refl) in
       getv_back-spelled (total (pieces_of from)) org (spans script d (pieces_of to)) (counter-small script valid org h.org) (omega (arith, n, count.0)) (omega (arith, n, count.1)) (spans-within script valid d (pieces_of to) h.from)
       (sym (same-total _ _ same) ∙ spans-total script d (pieces_of from))
-  head-spelled Back (Rmw task op at in1 in2 prev org) g h v r = let w = h.words refl in rmw_back-spelled prev org (inside prev 4 h.from.0) w.1.0 (counter-small script valid org h.org)
-  head-spelled Note s g h v r = note-kept s (and_parts _ _ g).0 h
-  head-spelled Echo s g h v r = absurd (both_ways _ no-answers g)
-  head-spelled (Join d) Gfence g h v r = gfence-spelled (round_of script m.origin m.statement) r
-  head-spelled (Join d) (Statement.Addr at) g h v r = let within : at + 0 ≤ script.memory = h.from.0 in let most : script.memory ≤ 65536 = valid.memory.1 in addr-spelled (round_of script m.origin m.statement) at r (omega arith)
-  head-spelled _ s g h v r = absurd (false≢true g)
+  head-spelled echoes may Back (Rmw task op at in1 in2 prev org) g h v r = let w = h.words refl in rmw_back-spelled prev org (inside prev 4 h.from.0) w.1.0 (counter-small script valid org h.org)
+  head-spelled echoes may Note s g h v r = note-kept s (and_parts _ _ g).0 h
+  head-spelled echoes may Echo s g h v r = let word = (answer-word script rules m (may g)).1 in echo-spelled (user script m) (cmpl_counter s) (inside (user script m) 4 word.0) word.1 (counter-small script valid (cmpl_counter s) h.cmpl)
+  head-spelled echoes may (Join d) Gfence g h v r = gfence-spelled (round_of script m.origin m.statement) r
+  head-spelled echoes may (Join d) (Statement.Addr at) g h v r = let within : at + 0 ≤ script.memory = h.from.0 in let most : script.memory ≤ 65536 = valid.memory.1 in addr-spelled (round_of script m.origin m.statement) at r (omega arith)
+  head-spelled echoes may _ s g h v r = absurd (false≢true g)
 
   -- the operation goes with the leg
-  pub operation-kept : (leg : Leg) (s : Statement) → has_leg script (answers script rules m.origin m.statement) m.origin leg s ≡ true → is_operation leg (written.head_number (head_by script m leg s)) ≡ true
-  operation-kept Go (Put task to from len tgt org cmpl) g = refl
-  operation-kept Go (Get task from to len tgt org) g = refl
-  operation-kept Go (Putv task to from tgt org cmpl) g = refl
-  operation-kept Go (Getv task from to tgt org) g = refl
-  operation-kept Go (Rmw task op at in1 in2 prev org) g = refl
-  operation-kept Go (Am task handler header from len tgt org cmpl) g = refl
-  operation-kept Back (Get task from to len tgt org) g = refl
-  operation-kept Back (Getv task from to tgt org) g = refl
-  operation-kept Back (Rmw task op at in1 in2 prev org) g = refl
-  operation-kept Note (Put task to from len tgt org cmpl) g = refl
-  operation-kept Note (Putv task to from tgt org cmpl) g = refl
-  operation-kept Note (Am task handler header from len tgt org cmpl) g = refl
-  operation-kept Echo s g = refl
-  operation-kept (Join d) Gfence g = refl
-  operation-kept (Join d) (Statement.Addr at) g = refl
-  operation-kept _ s g = absurd (false≢true g)
+  pub operation-kept : (echoes : Bool) (leg : Leg) (s : Statement) → has_leg script echoes m.origin leg s ≡ true → is_operation leg (written.head_number (head_by script m leg s)) ≡ true
+  operation-kept echoes Go (Put task to from len tgt org cmpl) g = refl
+  operation-kept echoes Go (Get task from to len tgt org) g = refl
+  operation-kept echoes Go (Putv task to from tgt org cmpl) g = refl
+  operation-kept echoes Go (Getv task from to tgt org) g = refl
+  operation-kept echoes Go (Rmw task op at in1 in2 prev org) g = refl
+  operation-kept echoes Go (Am task handler header from len tgt org cmpl) g = refl
+  operation-kept echoes Back (Get task from to len tgt org) g = refl
+  operation-kept echoes Back (Getv task from to tgt org) g = refl
+  operation-kept echoes Back (Rmw task op at in1 in2 prev org) g = refl
+  operation-kept echoes Note (Put task to from len tgt org cmpl) g = refl
+  operation-kept echoes Note (Putv task to from tgt org cmpl) g = refl
+  operation-kept echoes Note (Am task handler header from len tgt org cmpl) g = refl
+  operation-kept echoes Echo s g = refl
+  operation-kept echoes (Join d) Gfence g = refl
+  operation-kept echoes (Join d) (Statement.Addr at) g = refl
+  operation-kept echoes _ s g = absurd (false≢true g)
 
   -- and the length with both
-  pub length-kept : (leg : Leg) (s : Statement) → has_leg script (answers script rules m.origin m.statement) m.origin leg s ≡ true → Fine s → is_length First leg (written.head_number (head_by script m leg s)) (length_by leg s) ≡ true
+  pub length-kept : (echoes : Bool) (leg : Leg) (s : Statement) → has_leg script echoes m.origin leg s ≡ true → Fine s → is_length layout leg (written.head_number (head_by script m leg s)) (length_by leg s) ≡ true
   unfolding longest_of longest_active_of
-  length-kept Go (Put task to from len tgt org cmpl) g h = le-leb len 16384 (longest len h.short)
-  length-kept Go (Get task from to len tgt org) g h = refl
-  length-kept Go (Putv task to from tgt org cmpl) g h = le-leb (total (pieces_of from)) 16384 (longest (total (pieces_of from)) (or_parts (is_long script (pieces_of to)) (is_long script (pieces_of from)) h.short).1)
-  length-kept Go (Getv task from to tgt org) g h = refl
-  length-kept Go (Rmw task op at in1 in2 prev org) g h = refl
-  length-kept Go (Am task handler header from len tgt org cmpl) g h = le-leb len 16384 (longest_am len h.short)
-  length-kept Back (Get task from to len tgt org) g h = le-leb len 16384 (longest len h.short)
-  length-kept Back (Getv task from to tgt org) g h = le-leb (total (pieces_of from)) 16384 (longest (total (pieces_of from)) (or_parts (is_long script (pieces_of from)) (is_long script (pieces_of to)) h.short).0)
-  length-kept Back (Rmw task op at in1 in2 prev org) g h = refl
-  length-kept Note s g h = refl
-  length-kept Echo s g h = refl
-  length-kept (Join d) s g h = refl
-  length-kept _ s g h = absurd (false≢true g)
+  length-kept echoes Go (Put task to from len tgt org cmpl) g h = le-leb len (longest layout) (no-longer len h.short)
+  length-kept echoes Go (Get task from to len tgt org) g h = refl
+  length-kept echoes Go (Putv task to from tgt org cmpl) g h = le-leb (total (pieces_of from)) (longest layout) (no-longer (total (pieces_of from)) (or_parts (is_long script (pieces_of to)) (is_long script (pieces_of from)) h.short).1)
+  length-kept echoes Go (Getv task from to tgt org) g h = refl
+  length-kept echoes Go (Rmw task op at in1 in2 prev org) g h = refl
+  length-kept echoes Go (Am task handler header from len tgt org cmpl) g h = le-leb len (longest_active layout) (no-longer_am len h.short)
+  length-kept echoes Back (Get task from to len tgt org) g h = le-leb len (longest layout) (no-longer len h.short)
+  length-kept echoes Back (Getv task from to tgt org) g h = le-leb (total (pieces_of from)) (longest layout) (no-longer (total (pieces_of from)) (or_parts (is_long script (pieces_of from)) (is_long script (pieces_of to)) h.short).0)
+  length-kept echoes Back (Rmw task op at in1 in2 prev org) g h = refl
+  length-kept echoes Note s g h = refl
+  length-kept echoes Echo s g h = refl
+  length-kept echoes (Join d) s g h = refl
+  length-kept echoes _ s g h = absurd (false≢true g)

@@ -1,5 +1,5 @@
 -- Parts of small runs, and what packets tell, computed by the definitions alone.
-use Rattle.std.proofs.Common.{◌≡◌, ℕ, true, false, List, [], ◌∷◌, Some, None, refl}
+use Rattle.std.proofs.Common.{◌≡◌, ℕ, true, false, List, [], ◌∷◌, take, Some, None, refl}
 use Rattle.std.specs.List.{flat_map}
 use Rattle.lapi_base.specs.declared.message.Leg.TheVariants.{Go, Note}
 use Rattle.lapi_base.specs.declared.event.Event.TheVariants.{Issue, Copy, Head, Land}
@@ -18,13 +18,14 @@ use Rattle.lapi_base.specs.Record.TaskPart.{events_at, part_at}
 use Rattle.lapi_base.specs.Record.Arrived.{has_fragment, has_some, whole_by, payload_of, assembled, number_bound, least_number, ack_of, count_of, comes}
 use Rattle.lapi_base.specs.Record.HeadSays.{announces, lands, follows}
 use Rattle.lapi_laws.proofs.WorkedRuns.{builtin, run, wire_of, smallest_run, no_bytes_three_counters}
+use Rattle.lapi_laws.proofs.WorkedRunsOfSecondLayout.{held_back, answering}
 
 -- Eight bytes that are put: the packet, and the acknowledgement.
 letters : List ℕ
 letters = 0x61 ∷ 0x62 ∷ 0x63 ∷ 0x64 ∷ 0x65 ∷ 0x66 ∷ 0x67 ∷ 0x68 ∷ []
 
 put_packet : DataPacket
-put_packet = record { from = 0; to = 1; seq = 0; name = message 0 1 Go; head = PacketHead.Put 16 None None; length = 8; fragment = 0; payload = letters }
+put_packet = record { layout = 1; from = 0; to = 1; seq = 0; name = message 0 1 Go; head = PacketHead.Put 16 None None; length = 8; fragment = 0; payload = letters }
 
 put-written : flat_map written.packet (wire_of smallest_run 0 1) ≡ 0x4c ∷ 1 ∷ 1 ∷ 0 ∷ 1 ∷ 0 ∷ 0 ∷ 0 ∷ 0 ∷ 0 ∷ 0 ∷ 1 ∷ 1 ∷ 1 ∷ 0 ∷ 0 ∷ 0 ∷ 8 ∷ 0 ∷ 0 ∷ 0 ∷ 0 ∷ 0 ∷ 0x10 ∷ 0xff ∷ 0xff ∷ letters
 unfolding run letters
@@ -33,6 +34,20 @@ put-written = refl
 ack-written : flat_map written.packet (wire_of smallest_run 1 0) ≡ 0x4c ∷ 1 ∷ 2 ∷ 1 ∷ 0 ∷ 0 ∷ 0 ∷ 0 ∷ 1 ∷ 0 ∷ 0 ∷ 0 ∷ 0 ∷ []
 unfolding run
 ack-written = refl
+
+-- The same run under the second layout: the packet, and the acknowledgement with eight bytes of bits.
+second_layout-put : flat_map written.packet (wire_of held_back 0 1) ≡ 0x4c ∷ 2 ∷ 1 ∷ 0 ∷ 1 ∷ 0 ∷ 0 ∷ 0 ∷ 0 ∷ 0 ∷ 0 ∷ 1 ∷ 1 ∷ 1 ∷ 0 ∷ 0 ∷ 0 ∷ 8 ∷ 0 ∷ 0 ∷ 0 ∷ 0 ∷ 0 ∷ 0x10 ∷ 0xff ∷ 0xff ∷ letters
+unfolding run letters
+second_layout-put = refl
+
+second_layout-ack : flat_map written.packet (wire_of held_back 1 0) ≡ 0x4c ∷ 2 ∷ 2 ∷ 1 ∷ 0 ∷ 0 ∷ 0 ∷ 0 ∷ 1 ∷ 0 ∷ 0 ∷ 0 ∷ 0 ∷ 0 ∷ 0 ∷ 0 ∷ 0 ∷ []
+unfolding run
+second_layout-ack = refl
+
+-- An answer goes as an Echo, with the word's place and the completion counter in its head.
+answer-written : flat_map written.packet (take 1 (wire_of answering 1 0)) ≡ 0x4c ∷ 2 ∷ 1 ∷ 1 ∷ 0 ∷ 0 ∷ 0 ∷ 0 ∷ 0 ∷ 0 ∷ 0 ∷ 1 ∷ 5 ∷ 6 ∷ 0 ∷ 0 ∷ 0 ∷ 4 ∷ 0 ∷ 0 ∷ 0 ∷ 0 ∷ 0 ∷ 0x20 ∷ 0 ∷ 0 ∷ 0 ∷ 0 ∷ 10 ∷ []
+unfolding run
+answer-written = refl
 
 -- the parts of both tasks
 origin-events : (part_at smallest_run.script 0 (run smallest_run)).events ≡ Copy (message 0 1 Go) ∷ Issue 0 1 ∷ Issue 0 0 ∷ []
@@ -43,7 +58,7 @@ origin-put : (part_at smallest_run.script 0 (run smallest_run)).put 1 ≡ Data p
 unfolding run part_at put_packet letters
 origin-put = refl
 
-origin-handed : (part_at smallest_run.script 0 (run smallest_run)).handed 1 ≡ Ack 1 0 1 0 ∷ []
+origin-handed : (part_at smallest_run.script 0 (run smallest_run)).handed 1 ≡ Ack 1 1 0 1 0 ∷ []
 unfolding run part_at
 origin-handed = refl
 
@@ -64,13 +79,13 @@ put-lands : lands smallest_run.script builtin (λ t x. 0) 1 put_packet.name put_
 unfolding put_packet letters scattered
 put-lands = refl
 
-put-acked : ack_of smallest_run.script (Data put_packet ∷ []) 0 1 ≡ Ack 1 0 1 0
+put-acked : ack_of smallest_run.script (Data put_packet ∷ []) 0 1 ≡ Ack 1 1 0 1 0
 unfolding put_packet ack_of least_number number_bound least_missing every_below has_number bits_of window_of
 put-acked = refl
 
 -- A put of no bytes that tells its counters: the target's at its landing, the origin's by a notice.
 empty_put : DataPacket
-empty_put = record { from = 0; to = 1; seq = 0; name = message 0 0 Go; head = PacketHead.Put 64 (Some 0) (Some 0); length = 0; fragment = 0; payload = [] }
+empty_put = record { layout = 1; from = 0; to = 1; seq = 0; name = message 0 0 Go; head = PacketHead.Put 64 (Some 0) (Some 0); length = 0; fragment = 0; payload = [] }
 
 empty-comes : comes no_bytes_three_counters.script builtin [] empty_put ≡ Land (message 0 0 Go) ∷ Copy (message 0 0 Note) ∷ []
 unfolding empty_put comes follows whole_by has_fragment has_some count_of unit_of every_below name_eq
@@ -82,7 +97,7 @@ empty-announces = refl
 
 -- Two fragments of an active message without a completion, the second first.
 fragment_of : (number : ℕ) → List ℕ → DataPacket
-fragment_of n bytes = record { from = 0; to = 1; seq = n; name = message 0 0 Go; head = PacketHead.Am 0 (Some 2) None []; length = 300; fragment = n; payload = bytes }
+fragment_of n bytes = record { layout = 1; from = 0; to = 1; seq = n; name = message 0 0 Go; head = PacketHead.Am 0 (Some 2) None []; length = 300; fragment = n; payload = bytes }
 
 -- the first to come has the Head, and no more
 second-comes : comes smallest_run.script builtin [] (fragment_of 1 (7 ∷ [])) ≡ Head (message 0 0 Go) ∷ []
@@ -90,7 +105,7 @@ unfolding fragment_of comes follows whole_by has_fragment has_some count_of unit
 second-comes = refl
 
 -- its acknowledgement tells that number 0 is missing and number 1 is there
-second-acked : ack_of smallest_run.script (Data (fragment_of 1 (7 ∷ [])) ∷ []) 0 1 ≡ Ack 1 0 0 2
+second-acked : ack_of smallest_run.script (Data (fragment_of 1 (7 ∷ [])) ∷ []) 0 1 ≡ Ack 1 1 0 0 2
 unfolding fragment_of ack_of least_number number_bound least_missing every_below has_number bits_of window_of
 second-acked = refl
 

@@ -2,7 +2,7 @@
 use Rattle.std.proofs.Common.{◌≡◌, ℕ, ◌+◌, ◌-◌, ◌*◌, ◌<◌, ◌≤◌, eqb, min, true, false, List, [], ◌∷◌, length, take, drop, Some, refl, sym, ap, ◌∙◌, subst, ⊎_elim, arith, Bool}
 use Rattle.std.specs.Prelude.{slice_get, is_some, nat_lt, ◌==◌}
 use Rattle.std.specs.List.{AllByRecursion, IsDistinct, list_any}
-use Rattle.std.proofs.lemmas.Bool.{false≢true, both_ways, and_parts, eqb-true, ltb-true, false_from_ne_true, cases_lt, leb-true, ltb-false, or_parts, cond_both}
+use Rattle.std.proofs.lemmas.Bool.{false≢true, both_ways, and_parts, eqb-true, ltb-true, false_from_ne_true, cases_lt, ltb-false, or_parts, cond_both}
 use Rattle.std.proofs.lemmas.List.{length-take, length-drop}
 use Rattle.std.proofs.lemmas.Option.{slice_get_within}
 use Rattle.std.proofs.lemmas.Map.Steps.{length-le_from_distinct_below}
@@ -33,7 +33,7 @@ use Rattle.lapi_base.specs.Laws.Entries.{carried}
 use Rattle.lapi_base.specs.Record.Arrived.{is_fragment, has_some, has_fragment, count_of}
 use Rattle.lapi_base.specs.Laws.Receiving.{IsWord, IsThereInPart, SpansAreInMemory, HeadFits, AcksCoverSent, FitsScript, PacketsFitScript, HeadsAgree, NewAreOpen, NewHaveRoom, longest_with}
 use Rattle.lapi_base.specs.Laws.Sending.{SentAreNumbers, AckedAreSent}
-use Rattle.lapi_base.specs.Record.Handlers.{answers, has_completion, user}
+use Rattle.lapi_base.specs.Record.Handlers.{answers, user}
 use Rattle.lapi_base.proofs.BelowLaws.{least_missing-below}
 use Rattle.lapi_base.proofs.ListLaws.{all-get, any-all, any-find, any-get}
 use Rattle.lapi_base.proofs.NameLaws.{name_eq-true}
@@ -49,7 +49,7 @@ use Rattle.lapi_parts.proofs.Records.{of-runs, record-sound}
 use Rattle.lapi_parts.proofs.ExactBytes.{Exact, record-exact}
 use Rattle.lapi_parts.proofs.CarriedLengths.{carried-length}
 use Rattle.lapi_parts.proofs.Accepted.{LiesWithin, Accepted, copied-accepted}
-use Rattle.lapi_parts.proofs.MessageHeads.{round-small, spans-total, spans-same, same-total}
+use Rattle.lapi_parts.proofs.MessageHeads.{round-small, answer-word, spans-total, spans-same, same-total}
 use Rattle.lapi_parts.proofs.HandedPackets.{fragment-fit, numbered-below, numbered-unique}
 use Rattle.lapi_parts.proofs.ArrivingPackets.{head-is, length-is, counts-is}
 use Rattle.lapi_parts.proofs.InReach.{part-delivered}
@@ -122,20 +122,12 @@ module _ (script : Script) (rules : Rules) (m : MsgName) where
 
 payload_in : Packet → List ℕ
 payload_in (Data p) = p.payload
-payload_in (Ack from to base bits) = []
+payload_in (Ack layout from to base bits) = []
 
 module _ (script : Script) (rules : Rules) where
-  answer-word : (m : MsgName) → answers script rules m.origin m.statement ≡ true → (is_am (statement script m.origin m.statement) ≡ true) × IsWord script (user script m)
-  unfolding answers has_completion user
-  answer-word m h =
-      let both = and_parts _ _ h in
-      let rest = and_parts _ _ (and_parts _ _ both.0).0 in
-      let place = and_parts _ _ both.1 in
-      ((and_parts _ _ rest.1).0, (leb-true _ _ place.1, eqb-true _ 0 place.0))
-
   head-keeps : (m : MsgName) → has_leg script (answers script rules m.origin m.statement) m.origin m.leg (statement script m.origin m.statement) ≡ true → Accepted script rules (target script m.origin m.statement) (statement script m.origin m.statement) → round_of script m.origin m.statement ≤ 511 → HeadFits script rules (message_length script m) (head_by script m m.leg (statement script m.origin m.statement))
   unfolding message_length
-  head-keeps m g h r = head-fits script rules m (answers script rules m.origin m.statement) m.leg (statement script m.origin m.statement) (answer-word m) g h r
+  head-keeps m g h r = head-fits script rules m (answers script rules m.origin m.statement) m.leg (statement script m.origin m.statement) (answer-word script rules m) g h r
 
   keeps-short : (m : MsgName) → has_leg script (answers script rules m.origin m.statement) m.origin m.leg (statement script m.origin m.statement) ≡ true → Accepted script rules (target script m.origin m.statement) (statement script m.origin m.statement) → message_length script m ≤ longest_with script (head_by script m m.leg (statement script m.origin m.statement))
   unfolding message_length
@@ -175,7 +167,7 @@ module _ (script : Script) (rules : Rules) where
 
   acks-cover : (r : Run) → SoundRun script rules r → SentRun script rules r → (a b n : ℕ) (p : Packet) → Fits script rules r.journal r.handed a b p → covers n p ≡ true → is_sent r b a n ≡ true
   acks-cover r s sent a b n (Data p) f c = absurd (false≢true c)
-  acks-cover r s sent a b n (Ack from to base bits) f c = sent b a n (f n c)
+  acks-cover r s sent a b n (Ack layout from to base bits) f c = sent b a n (f n c)
 
   -- a packet that wasn't delivered has a number above the least of those
   not-below : (r : Run) (a b n : ℕ) → is_delivered r a b n ≡ false → least_missing (length (numbered script r.journal a b)) (is_delivered r a b) ≤ n

@@ -172,14 +172,14 @@ module _ (script : Script) (rules : Rules) (t : ℕ) (r s : Run) where
           };
         }
 
-    ack-alike : (a from to base bits : ℕ) → Alike (reply_with script rules (hand_over script rules r a t (Ack from to base bits)) Did) (reply_with script rules (hand_over script rules s a t (Ack from to base bits)) Did)
+    ack-alike : (a layout from to base bits : ℕ) → Alike (reply_with script rules (hand_over script rules r a t (Ack layout from to base bits)) Did) (reply_with script rules (hand_over script rules s a t (Ack layout from to base bits)) Did)
     unfolding hand_over
-    ack-alike a from to base bits = record { reply = Did; first = refl; second = refl; part = record { events = same.events; put = same.put; handed = handed-alike a (Ack from to base bits); owed = same.owed } }
+    ack-alike a layout from to base bits = record { reply = Did; first = refl; second = refl; part = record { events = same.events; put = same.put; handed = handed-alike a (Ack layout from to base bits); owed = same.owed } }
 
     entry-alike : (a : ℕ) (o : Option Packet) → ((p : DataPacket) → o ≡ Some (Data p) → ToldAlike a p) → Alike (deliver_entry script rules r a t o) (deliver_entry script rules s a t o)
     entry-alike a None told = only-reply Absent
     entry-alike a (Some (Data p)) told = data-alike a p (told p refl)
-    entry-alike a (Some (Ack from to base bits)) told = ack-alike a from to base bits
+    entry-alike a (Some (Ack layout from to base bits)) told = ack-alike a layout from to base bits
 
     deliver-alike : IsRecord script rules r → IsRecord script rules s → (a k : ℕ) → slice_get (r.wire a t) k ≡ slice_get (s.wire a t) k → Alike (deliver script rules r a t k) (deliver script rules s a t k)
     unfolding deliver

@@ -123,7 +123,7 @@ module _ (script : Script) (rules : Rules) where
 
   hand_over-front : (r : Run) (a b : ℕ) (p : Packet) → FrontRun r → FrontRun (hand_over script rules r a b p)
   unfolding hand_over
-  hand_over-front r a b (Ack from to least bits) h x y = h x y
+  hand_over-front r a b (Ack layout from to least bits) h x y = h x y
   hand_over-front r a b (Data p) h x y =
       let q = with_handed script rules r a b (Data p) in
       same-front (r.wire x y) (cond (x == b && y == a) (r.wire x y ++ at_once script rules (ack script rules q a b)) (r.wire x y)) (ack-entry script rules r.wire q a b x y) (h x y)

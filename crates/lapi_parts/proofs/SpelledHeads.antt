@@ -10,12 +10,13 @@ use Rattle.lapi_base.specs.declared.head.NoteOp.{NoteOp}
 use Rattle.lapi_base.specs.declared.statement.RmwOp.{RmwOp}
 use Rattle.lapi_base.specs.declared.statement.RmwOp.TheVariants.{Add, Or, Swap, Cas}
 use Rattle.lapi_base.specs.Packet.Format.{Done, ◌>>=◌, bytes_form, IsSpelled}
-use Rattle.lapi_base.specs.Packet.Layout.{First}
+use Rattle.lapi_base.specs.Packet.Layout.{Layout, longest}
 use Rattle.lapi_base.specs.Packet.Fields.{counter_form, range_form, word_form, count_form, covering_form, within_form, matching_form}
-use Rattle.lapi_base.specs.Packet.Heads.{put_form, get_go_form, get_back_form, putv_form, getv_go_form, getv_back_form, update_of, update_form, rmw_go_form, rmw_back_form, header_count_form, am_form, note_form, round_form, gfence_form, addr_form}
+use Rattle.lapi_base.specs.Packet.Heads.{put_form, get_go_form, get_back_form, putv_form, getv_go_form, getv_back_form, update_of, update_form, rmw_go_form, rmw_back_form, header_count_form, am_form, note_form, echo_form, round_form, gfence_form, addr_form}
 use Rattle.lapi_base.specs.Packet.PacketBytes as written
 use Rattle.lapi_base.specs.Record.Valid.{IsByte, in2_by}
 use Rattle.lapi_base.specs.Laws.Receiving.{bytes_in}
+use Rattle.lapi_base.proofs.LayoutLaws.{longest-most}
 use Rattle.lapi_parts.proofs.SpelledParts.{spelled-bind, spelled-last, bytes-spelled, IsNumbered, counter-spelled, range-spelled, word-spelled, IsWithin, SameLengths, within-spelled, covering-spelled, matching-spelled}
 
 -- counters at the end of a head
@@ -30,13 +31,13 @@ put-spelled count at tgt cmpl h i j =
     spelled-bind (range_form count) (λ at. counter_form >>= λ tgt. counter_form >>= λ cmpl. Done (heads.Put at tgt cmpl)) at (heads.Put at tgt cmpl) (written.four at) (written.counter tgt ++ written.counter cmpl)
     (range-spelled count at h) (two-counters (heads.Put at) tgt cmpl i j)
 
-pub get_go-spelled : (asked source dest : ℕ) (tgt org : Option ℕ) → asked ≤ 16384 → source + asked ≤ 65536 → dest + asked ≤ 65536 → IsNumbered tgt → IsNumbered org → IsSpelled (get_go_form First) (heads.GetGo asked source dest tgt org) (written.head (heads.GetGo asked source dest tgt org))
+pub get_go-spelled : (layout : Layout) (asked source dest : ℕ) (tgt org : Option ℕ) → asked ≤ longest layout → source + asked ≤ 65536 → dest + asked ≤ 65536 → IsNumbered tgt → IsNumbered org → IsSpelled (get_go_form layout) (heads.GetGo asked source dest tgt org) (written.head (heads.GetGo asked source dest tgt org))
 unfolding get_go_form
-get_go-spelled asked source dest tgt org l s d i j = (
+get_go-spelled layout asked source dest tgt org l s d i j = (
   asked,
   written.four source ++ written.four dest ++ written.counter tgt ++ written.counter org,
-  omega arith,
-  le-leb asked 16384 l,
+  omega (arith, longest-most layout),
+  le-leb asked (longest layout) l,
   refl,
   spelled-bind (range_form asked) (λ source. range_form asked >>= λ dest. counter_form >>= λ tgt. counter_form >>= λ org. Done (heads.GetGo asked source dest tgt org)) source _ (written.four source) (written.four dest ++ written.counter tgt ++ written.counter org)
       (range-spelled asked source s)
@@ -64,15 +65,15 @@ putv-spelled total tgt cmpl pieces i j low high h sum =
     (spelled-bind count_form (λ count. covering_form total count >>= λ pieces. Done (heads.Putv tgt cmpl pieces)) count _ (written.one count) (written.spans pieces) (count-spelled count low high)
     (spelled-last (covering_form total count) (heads.Putv tgt cmpl) pieces (written.spans pieces) (covering-spelled total pieces h sum))))
 
-pub getv_go-spelled : (tgt org : Option ℕ) (source dest : List Span) → IsNumbered tgt → IsNumbered org → 1 ≤ length source → length source ≤ 16 → AllByRecursion IsWithin source → AllByRecursion IsWithin dest → bytes_in source ≤ 16384 → SameLengths source dest → IsSpelled (getv_go_form First) (heads.GetvGo tgt org source dest) (written.head (heads.GetvGo tgt org source dest))
+pub getv_go-spelled : (layout : Layout) (tgt org : Option ℕ) (source dest : List Span) → IsNumbered tgt → IsNumbered org → 1 ≤ length source → length source ≤ 16 → AllByRecursion IsWithin source → AllByRecursion IsWithin dest → bytes_in source ≤ longest layout → SameLengths source dest → IsSpelled (getv_go_form layout) (heads.GetvGo tgt org source dest) (written.head (heads.GetvGo tgt org source dest))
 unfolding getv_go_form
-getv_go-spelled tgt org source dest i j low high s d l same =
+getv_go-spelled layout tgt org source dest i j low high s d l same =
     let count = length source in
     let all = written.spans source ++ written.spans dest in
-    spelled-bind counter_form (λ tgt. counter_form >>= λ org. count_form >>= λ count. within_form 16384 count >>= λ source. matching_form source >>= λ dest. Done (heads.GetvGo tgt org source dest)) tgt _ (written.counter tgt) (written.counter org ++ (written.one count ++ all)) (counter-spelled tgt i)
-    (spelled-bind counter_form (λ org. count_form >>= λ count. within_form 16384 count >>= λ source. matching_form source >>= λ dest. Done (heads.GetvGo tgt org source dest)) org _ (written.counter org) (written.one count ++ all) (counter-spelled org j)
-    (spelled-bind count_form (λ count. within_form 16384 count >>= λ source. matching_form source >>= λ dest. Done (heads.GetvGo tgt org source dest)) count _ (written.one count) all (count-spelled count low high)
-    (spelled-bind (within_form 16384 count) (λ source. matching_form source >>= λ dest. Done (heads.GetvGo tgt org source dest)) source _ (written.spans source) (written.spans dest) (within-spelled 16384 source s l)
+    spelled-bind counter_form (λ tgt. counter_form >>= λ org. count_form >>= λ count. within_form (longest layout) count >>= λ source. matching_form source >>= λ dest. Done (heads.GetvGo tgt org source dest)) tgt _ (written.counter tgt) (written.counter org ++ (written.one count ++ all)) (counter-spelled tgt i)
+    (spelled-bind counter_form (λ org. count_form >>= λ count. within_form (longest layout) count >>= λ source. matching_form source >>= λ dest. Done (heads.GetvGo tgt org source dest)) org _ (written.counter org) (written.one count ++ all) (counter-spelled org j)
+    (spelled-bind count_form (λ count. within_form (longest layout) count >>= λ source. matching_form source >>= λ dest. Done (heads.GetvGo tgt org source dest)) count _ (written.one count) all (count-spelled count low high)
+    (spelled-bind (within_form (longest layout) count) (λ source. matching_form source >>= λ dest. Done (heads.GetvGo tgt org source dest)) source _ (written.spans source) (written.spans dest) (within-spelled (longest layout) source s l)
     (spelled-last (matching_form source) (heads.GetvGo tgt org source) dest (written.spans dest) (matching-spelled source dest d same)))))
 
 pub getv_back-spelled : (total : ℕ) (org : Option ℕ) (dest : List Span) → IsNumbered org → 1 ≤ length dest → length dest ≤ 16 → AllByRecursion IsWithin dest → bytes_in dest ≡ total → IsSpelled (getv_back_form total) (heads.GetvBack org dest) (written.head (heads.GetvBack org dest))
@@ -155,6 +156,12 @@ am-spelled handler tgt cmpl header l i j few four small =
 pub note-spelled : (op : NoteOp) (cmpl : ℕ) → cmpl < 64 → IsSpelled (note_form op) (heads.Note op cmpl) (written.head (heads.Note op cmpl))
 unfolding note_form
 note-spelled op cmpl l = (cmpl, [], omega arith, lt-ltb cmpl 64 l, refl, (refl, refl))
+
+pub echo-spelled : (dest : ℕ) (cmpl : Option ℕ) → dest + 4 ≤ 65536 → dest % 4 ≡ 0 → IsNumbered cmpl → IsSpelled echo_form (heads.Echo dest cmpl) (written.head (heads.Echo dest cmpl))
+unfolding echo_form
+echo-spelled dest cmpl d d4 i =
+    spelled-bind word_form (λ dest. counter_form >>= λ cmpl. Done (heads.Echo dest cmpl)) dest _ (written.four dest) (written.counter cmpl) (word-spelled dest d d4)
+    (spelled-last counter_form (heads.Echo dest) cmpl (written.counter cmpl) (counter-spelled cmpl i))
 
 pub gfence-spelled : (round : ℕ) → round ≤ 511 → IsSpelled gfence_form (heads.Gfence round) (written.head (heads.Gfence round))
 unfolding gfence_form round_form

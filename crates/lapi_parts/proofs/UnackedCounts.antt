@@ -77,34 +77,34 @@ module _ (script : Script) (rules : Rules) where
   abbrev acked-by : Run → (a b : ℕ) → Packet → Run
   acked-by r a b p = hand_over script rules r b a p
 
-  handed-ack : (r : Run) (a b from to least bits n : ℕ) → is_acked (hand_over script rules r b a (Ack from to least bits)) a b n ≡ (covers n (Ack from to least bits) || is_acked r a b n)
+  handed-ack : (r : Run) (a b layout from to least bits n : ℕ) → is_acked (hand_over script rules r b a (Ack layout from to least bits)) a b n ≡ (covers n (Ack layout from to least bits) || is_acked r a b n)
   unfolding hand_over has_ack
-  handed-ack r a b from to least bits n = ap (λ (ps : List Packet). has_ack ps n) (cond-true (b == b && a == a) (Ack from to least bits ∷ r.handed b a) (r.handed b a) (and_from _ _ (eqb-refl b) (eqb-refl a)))
+  handed-ack r a b layout from to least bits n = ap (λ (ps : List Packet). has_ack ps n) (cond-true (b == b && a == a) (Ack layout from to least bits ∷ r.handed b a) (r.handed b a) (and_from _ _ (eqb-refl b) (eqb-refl a)))
 
-  lowered : (r : Run) (a i from to least bits : ℕ) →
+  lowered : (r : Run) (a i layout from to least bits : ℕ) →
       let m = message a i Go in
-      let ack = Ack from to least bits in
+      let ack = Ack layout from to least bits in
       unacknowledged script rules (hand_over script rules r (receiver script m) a ack) a i + numbers_that script rules r m (λ n. covers n ack && not (is_acked r a (receiver script m) n)) ≡ unacknowledged script rules r a i
   unfolding numbers_that hand_over
-  lowered r a i from to least bits =
+  lowered r a i layout from to least bits =
       let m = message a i Go in
       let b = receiver script m in
-      let ack = Ack from to least bits in
+      let ack = Ack layout from to least bits in
       let pairs = numbered script r.journal a b in
       count-parts (length pairs) (λ n. is_of script m (slice_get pairs n) && not (is_acked (hand_over script rules r b a ack) a b n)) (λ n. is_of script m (slice_get pairs n) && (covers n ack && not (is_acked r a b n))) (λ n. is_of script m (slice_get pairs n) && not (is_acked r a b n))
       (λ n.
       let x = is_of script m (slice_get pairs n) in
       let c = covers n ack in
       let o = is_acked r a b n in
-      ap (λ y. cond (x && not y) 1 0 + cond (x && (c && not o)) 1 0) (handed-ack r a b from to least bits n) ∙ one-of x c o)
+      ap (λ y. cond (x && not y) 1 0 + cond (x && (c && not o)) 1 0) (handed-ack r a b layout from to least bits n) ∙ one-of x c o)
 
 pub done-by-count : HoldsOfRecords DoneByCount
 done-by-count script rules r is = λ a i h. done-is script rules r a i h
 
 pub acks-lower : HoldsOfRecords AcksLowerCounts
 unfolding performed perform deliver hand_over numbers_that
-acks-lower script rules r is = λ a i k from to least bits at.
+acks-lower script rules r is = λ a i k layout from to least bits at.
     let m = message a i Go in
     let b = receiver script m in
-    ap (λ o. unacknowledged script rules (deliver_entry script rules r b a o) a i + numbers_that script rules r m (λ n. covers n (Ack from to least bits) && not (is_acked r a b n))) at
-    ∙ lowered script rules r a i from to least bits
+    ap (λ o. unacknowledged script rules (deliver_entry script rules r b a o) a i + numbers_that script rules r m (λ n. covers n (Ack layout from to least bits) && not (is_acked r a b n))) at
+    ∙ lowered script rules r a i layout from to least bits

@@ -29,7 +29,7 @@ use Rattle.lapi_parts.proofs.CarriedLengths.{carried-length}
 
 payload_in : Packet → List ℕ
 payload_in (Data p) = p.payload
-payload_in (Ack from to base bits) = []
+payload_in (Ack layout from to base bits) = []
 
 -- pieces of one size, put together
 pieces : (unit n : ℕ) (bytes : List ℕ) (f : ℕ → List ℕ) → ((j : ℕ) → j < n → f j ≡ take unit (drop (unit * j) bytes)) → flat_map f (numbers_below n) ≡ take (unit * n) bytes
@@ -62,7 +62,7 @@ module _ (script : Script) (rules : Rules) where
         | true ↦ λ e _. one-payload J m j p x.0 e
         | false ↦ λ _ g. payload-exact J m j ps x.1 g
       ] refl h
-  payload-exact J m j (Ack from to base bits ∷ ps) x h = payload-exact J m j ps x.1 h
+  payload-exact J m j (Ack layout from to base bits ∷ ps) x h = payload-exact J m j ps x.1 h
 
   long-enough : (m : MsgName) → message_length script m ≤ unit_of script * fragment_count script m
   unfolding fragment_count unit_of

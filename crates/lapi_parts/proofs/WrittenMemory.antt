@@ -37,7 +37,7 @@ use Rattle.lapi_parts.proofs.Replay.{landed-whole, apart-memory}
 module _ (script : Script) (rules : Rules) where
   number-exact : (J : List Event) (a b : ℕ) (p : Packet) → IsOfNumber script rules J a b p → Exact script rules J p
   number-exact J a b (Data p) h = h.1
-  number-exact J a b (Ack from to base bits) h = tt
+  number-exact J a b (Ack layout from to base bits) h = tt
 
   -- a landing writes by the bytes of its message alone
   land-by : (v : Values) (bytes : MsgName → List ℕ) (m : MsgName) (leg : Leg) (s : Statement) → v.bytes m ≡ bytes m → land_writes script rules v m leg s ≡ land_writes script rules (record v { bytes = bytes }) m leg s

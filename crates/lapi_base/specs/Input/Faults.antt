@@ -1,6 +1,6 @@
 -- What kind of fault a text has: of syntax where its lines have the form of no input, of a limit where they have
 -- one and every input of this form passes the number of that quantity. This is the project's own.
-use Rattle.std.specs.Prelude.{◌≡◌, ℕ, ◌%◌, ◌≤◌, List, ◌++◌, length, take, IsTrue}
+use Rattle.std.specs.Prelude.{◌≡◌, ℕ, ◌%◌, ◌≤◌, true, List, ◌++◌, length, take, IsTrue}
 use Rattle.std.specs.List.{AllZip, AllByRecursion}
 use Rattle.lapi_base.specs.declared.statement.Statement.{Statement}
 use Rattle.lapi_base.specs.declared.statement.Statement.TheVariants.{Rmw}
@@ -11,7 +11,7 @@ use Rattle.lapi_base.specs.declared.input.Which.{Which}
 use Rattle.lapi_base.specs.declared.input.Which.TheVariants as which
 use Rattle.lapi_base.specs.declared.input.LineError.{LineError}
 use Rattle.lapi_base.specs.declared.input.LineError.TheVariants.{Syntax, Limit}
-use Rattle.lapi_base.specs.Packet.Layout.{layout_of, most_lines}
+use Rattle.lapi_base.specs.Packet.Layout.{is_version, layout_of, most_lines}
 use Rattle.lapi_base.specs.Record.Valid.{in2_by}
 use Rattle.lapi_base.specs.Input.Lines.{is_clean, read_words}
 use Rattle.lapi_base.specs.Input.Rows.{IsRow, rows}
@@ -34,7 +34,7 @@ ListKeeps _ list = Unit {0}
 
 abbrev pub LineKeeps : Which → Script → Line → Type 0
 LineKeeps which.Lane script line = line.lane ≤ 15
-LineKeeps which.Bytes script line = IsTrue (keeps_injected script line.act)
+LineKeeps which.Bytes script line = IsTrue (keeps_injected line.act)
 LineKeeps _ script line = Unit {0}
 
 abbrev pub CountKeeps : Which → Script → List Line → Type 0
@@ -57,7 +57,7 @@ HasOperand _ = Unit {0}
 
 -- an input as its lines can say it, whatever its quantities are
 pub record IsFormed (x : Input) : Type 0 where
-  pub layout : x.script.layout ≡ 1
+  pub layout : is_version x.script.layout ≡ true
   pub one_list_each : length x.script.lists ≡ x.script.tasks
   pub operands : AllByRecursion (AllByRecursion HasOperand) x.script.lists
   pub named : AllByRecursion (λ line. IsTrue (names_known x.script line.act)) x.schedule

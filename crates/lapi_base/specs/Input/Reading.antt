@@ -56,9 +56,9 @@ keeps_bytes (Store at bytes) = nat_le (length bytes) 1024
 keeps_bytes (Am target handler header from len tgt org cmpl) = nat_le (length header) 128
 keeps_bytes _ = true
 
-unfoldable pub keeps_injected : Script → Act → Bool
-keeps_injected script (Inject a b bytes) = nat_le (length bytes) (most_injected (layout_of script.layout))
-keeps_injected script _ = true
+unfoldable pub keeps_injected : Act → Bool
+keeps_injected (Inject a b bytes) = nat_le (length bytes) most_injected
+keeps_injected _ = true
 
 -- the tasks and the worker that a line names are there, and what it injects spells no packet
 unfoldable pub names_known : Script → Act → Bool
@@ -99,7 +99,7 @@ on_line script schedule line =
     if names_known script line.act then
     within (nat_lt (length schedule) (most_lines (layout_of script.layout))) which.Lines
     (within (nat_le line.lane 15) which.Lane
-    (within (keeps_injected script line.act) which.Bytes (Ok (Lines script (schedule ++ line ∷ [])))))
+    (within (keeps_injected line.act) which.Bytes (Ok (Lines script (schedule ++ line ∷ [])))))
     else Err Syntax
 
 -- whether the line is this one word

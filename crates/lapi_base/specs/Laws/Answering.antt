@@ -33,7 +33,7 @@ module _ (script : Script) (rules : Rules) where
   abbrev pub IsSentAs : MsgName → (from to : ℕ) → Head → (length : ℕ) → Type 0
   IsSentAs m a b head len = (n j : ℕ) (bytes : List ℕ) →
       data_packet script m n j bytes
-      ≡ Data (record { from = a; to = b; seq = n; name = m; head = head; length = len; fragment = j; payload = fragment_bytes (unit_of script) j bytes })
+      ≡ Data (record { layout = script.layout; from = a; to = b; seq = n; name = m; head = head; length = len; fragment = j; payload = fragment_bytes (unit_of script) j bytes })
 
   -- A Back goes to where its Go came from, with head and length by the head of that;
   abbrev pub BacksFollowHeads : Run → Type 0

@@ -46,10 +46,10 @@ module _ (script : Script) (rules : Rules) where
 
   -- and an acknowledgement lowers that by the numbers that it covers and none covered before.
   abbrev pub AcksLowerCounts : Run → Type 0
-  AcksLowerCounts r = (a i k from to least bits : ℕ) →
+  AcksLowerCounts r = (a i k layout from to least bits : ℕ) →
       let m = message a i Go in
       let b = receiver script m in
-      let ack = Ack from to least bits in
+      let ack = Ack layout from to least bits in
       IsEntry r b a k ack →
       unacknowledged (performed script rules r (Deliver b a k)) a i + numbers_that r m (λ n. covers n ack && not (is_acked r a b n)) ≡ unacknowledged r a i
 

@@ -20,7 +20,12 @@ use Rattle.lapi_base.specs.Laws.Headline.{Happened}
 -- the packet goes from task a to task b
 abbrev pub GoesFrom : (a b : ℕ) → Packet → Type 0
 GoesFrom a b (Data p) = (p.from ≡ a) × (p.to ≡ b)
-GoesFrom a b (Ack from to base bits) = (from ≡ a) × (to ≡ b)
+GoesFrom a b (Ack layout from to base bits) = (from ≡ a) × (to ≡ b)
+
+-- the layout that a packet is spelled in
+abbrev pub layout_in : Packet → ℕ
+layout_in (Data p) = p.layout
+layout_in (Ack layout from to base bits) = layout
 
 module _ (script : Script) (rules : Rules) where
   -- what a message carries, after a journal in which it was copied
@@ -34,7 +39,7 @@ module _ (script : Script) (rules : Rules) where
   -- A data packet's number is that of its message and fragment, and it is the packet of that number, with the bytes that its message carries by this journal.
   abbrev pub IsOfNumber : List Event → (from to : ℕ) → Packet → Type 0
   IsOfNumber J a b (Data p) = (slice_get (numbered script J a b) p.seq ≡ Some (p.name, p.fragment)) × (Data p ≡ data_packet script p.name p.seq p.fragment (carried J p.name))
-  IsOfNumber J a b (Ack from to base bits) = Unit {0}
+  IsOfNumber J a b (Ack layout from to base bits) = Unit {0}
 
   -- all that was put on a wire, and all that was handed over, is the packet of its number by the journal as it is now
   abbrev pub PutAreOfNumber : Run → Type 0
@@ -46,6 +51,10 @@ module _ (script : Script) (rules : Rules) where
   -- every packet on a wire goes between tasks that there are, and from the wire's one end to its other
   abbrev pub PacketsArePlaced : Run → Type 0
   PacketsArePlaced r = (a b k : ℕ) (p : Packet) → IsEntry r a b k p → (a < script.tasks) × (b < script.tasks) × GoesFrom a b p
+
+  -- every packet on a wire has the script's layout
+  abbrev pub PacketsHaveLayout : Run → Type 0
+  PacketsHaveLayout r = (a b k : ℕ) (p : Packet) → IsEntry r a b k p → layout_in p ≡ script.layout
 
   -- every packet on a wire has a spelling
   abbrev pub PacketsAreSpelled : Run → Type 0

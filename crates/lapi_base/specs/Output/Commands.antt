@@ -8,12 +8,12 @@ use Rattle.lapi_base.specs.Input.Tokens.{same_text, hex_of, number_of}
 
 -- the most bytes that are shown
 abbrev pub most_shown : ℕ
-most_shown = 640
+most_shown = 1280
 
 abbrev pub few_bytes : List ℕ → Option (List ℕ)
 few_bytes bytes = if nat_le (length bytes) most_shown then Some bytes else None
 
--- the bytes that a word spells, one of 2 to 1,280 digits, an even number of them
+-- the bytes that a word spells, one of 2 to 2,560 digits, an even number of them
 abbrev pub shown_of : List ℕ → Option (List ℕ)
 shown_of word = option_and_then few_bytes (hex_of word)
 
@@ -31,6 +31,7 @@ read_of word =
     if same_text word (codes "check") then Some commands.Check
     else if same_text word (codes "audit") then Some commands.Audit
     else if same_text word (codes "landings") then Some commands.Landings
+    else if same_text word (codes "array") then Some commands.Array
     else option_map (λ view. commands.Read view) (view_of word)
 
 -- a packet's bytes, or a number as an input has it

@@ -12,8 +12,9 @@ use Rattle.lapi_base.specs.declared.packet.DataPacket.{DataPacket}
 use Rattle.lapi_base.specs.declared.reply.Bad.{Bad}
 use Rattle.lapi_base.specs.declared.span.Span.{Span}
 use Rattle.lapi_base.specs.Input.Rows.{operation_word}
+use Rattle.lapi_base.specs.Packet.Layout.{Layout, First, Second, layout_of}
 use Rattle.lapi_base.specs.Packet.Spelling.{decoded}
-use Rattle.lapi_base.specs.Output.TextParts.{message_text, counter_word, hex_word, eight_digits, reason_number, reason_name}
+use Rattle.lapi_base.specs.Output.TextParts.{message_text, counter_word, hex_word, eight_digits, sixteen_digits, reason_number, reason_name}
 
 abbrev pub note_name : NoteOp → List ℕ
 note_name notes.Put = codes "put"
@@ -63,16 +64,30 @@ head_text (heads.Note op cmpl) = codes " cmpl " ++ decimal cmpl
 head_text (heads.Gfence round) = codes " round " ++ decimal round
 head_text (heads.Addr round address) = codes " round " ++ decimal round ++ codes " address " ++ decimal address
 
+-- the first word and the bits tell the layout
+abbrev pub data_word : Layout → List ℕ
+data_word First = codes "data"
+data_word Second = codes "data2"
+
+abbrev pub ack_word : Layout → List ℕ
+ack_word First = codes "ack"
+ack_word Second = codes "ack2"
+
+abbrev pub bits_word : Layout → ℕ → List ℕ
+bits_word First bits = eight_digits bits
+bits_word Second bits = sixteen_digits bits
+
 -- data from A to B seq N message O.S LEG op NAME length L fragment J
 abbrev pub data_front : DataPacket → List ℕ
 data_front d =
-    codes "data from " ++ decimal d.from ++ codes " to " ++ decimal d.to ++ codes " seq " ++ decimal d.seq ++ codes " message " ++ message_text d.name
+    data_word (layout_of d.layout) ++ codes " from " ++ decimal d.from ++ codes " to " ++ decimal d.to ++ codes " seq " ++ decimal d.seq ++ codes " message " ++ message_text d.name
     ++ codes " op " ++ head_name d.head ++ codes " length " ++ decimal d.length ++ codes " fragment " ++ decimal d.fragment
 
 abbrev pub packet_line : Packet → List ℕ
 packet_line (packets.Data d) = data_front d ++ head_text d.head ++ codes " payload " ++ hex_word d.payload ++ codes "\n"
-packet_line (packets.Ack from to base bits) =
-    codes "ack from " ++ decimal from ++ codes " to " ++ decimal to ++ codes " base " ++ decimal base ++ codes " bits " ++ eight_digits bits ++ codes "\n"
+packet_line (packets.Ack layout from to base bits) =
+    ack_word (layout_of layout) ++ codes " from " ++ decimal from ++ codes " to " ++ decimal to ++ codes " base " ++ decimal base
+    ++ codes " bits " ++ bits_word (layout_of layout) bits ++ codes "\n"
 
 -- bad P N NAME
 abbrev pub bad_line : Bad → List ℕ

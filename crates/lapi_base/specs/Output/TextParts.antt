@@ -1,7 +1,7 @@
 -- What the lines of the output texts are made of: names, numbers and places. This is the project's own.
 use Rattle.std.specs.Prelude.{ℕ, ◌%◌, ◌^◌, List, ◌++◌, codes, Option}
 use Rattle.std.specs.Fmt.{decimal}
-use Rattle.std.specs.Int.{w16, w32, to_be_bytes}
+use Rattle.std.specs.Int.{w16, w32, w64, to_be_bytes}
 use Rattle.hex.specs.Hex.{encode_lower}
 use Rattle.lapi_base.specs.declared.message.Leg.{Leg}
 use Rattle.lapi_base.specs.declared.message.MsgName.{MsgName}
@@ -36,6 +36,10 @@ four_digits n = encode_lower (to_be_bytes w16 (n % 2 ^ 16))
 
 abbrev pub eight_digits : ℕ → List ℕ
 eight_digits n = encode_lower (to_be_bytes w32 n)
+
+-- the sixteen of one of 64 bits
+abbrev pub sixteen_digits : ℕ → List ℕ
+sixteen_digits n = encode_lower (to_be_bytes w64 n)
 
 -- Why a statement is refused: N NAME.
 abbrev pub refusal_number : Refusal → ℕ

@@ -1,6 +1,6 @@
 -- What differs from one layout of packets to another: sizes and limits, by the layout and by a script's. All of
 -- them are this project's own.
-use Rattle.std.specs.Prelude.{ℕ, Bool, true, false, cond, ◌==◌}
+use Rattle.std.specs.Prelude.{ℕ, Bool, true, false, cond, ◌||◌, ◌==◌}
 use Rattle.lapi_base.specs.declared.script.Script.{Script}
 use Rattle.lapi_base.specs.declared.sizes.Sizes.{Sizes}
 use Rattle.lapi_base.specs.Packet.Format.{Size, Four, Eight}
@@ -9,9 +9,9 @@ pub data Layout : Type 0 where
   First : Layout
   Second : Layout
 
--- the layouts that a version byte can name
+-- the numbers of the layouts: what a version byte can be, and the first line of an input can name
 abbrev pub is_version : ℕ → Bool
-is_version n = n == 1
+is_version n = n == 1 || n == 2
 
 abbrev pub layout_of : ℕ → Layout
 layout_of n = cond (n == 2) Second First
@@ -61,10 +61,9 @@ abbrev pub most_lines : Layout → ℕ
 most_lines First = 20000
 most_lines Second = 5000
 
--- the most bytes that a line injects
-abbrev pub most_injected : Layout → ℕ
-most_injected First = 640
-most_injected Second = 1280
+-- the most bytes that a line injects, in each layout
+abbrev pub most_injected : ℕ
+most_injected = 1280
 
 -- The layout and the sizes of a script.
 abbrev pub sizes_of : Script → Sizes

@@ -16,6 +16,8 @@ use Rattle.lapi_base.specs.declared.message.Leg.{Leg}
 use Rattle.lapi_base.specs.declared.message.Leg.TheVariants.{Go, Back, Note, Echo, Join}
 use Rattle.lapi_base.specs.declared.statement.RmwOp.{RmwOp}
 use Rattle.lapi_base.specs.declared.statement.RmwOp.TheVariants as updates
+use Rattle.lapi_base.specs.Packet.Format.{bytes_of}
+use Rattle.lapi_base.specs.Packet.Layout.{layout_of, bits_size}
 
 -- The numbers that stand for legs and operations.
 abbrev pub leg_number : Leg → ℕ
@@ -71,11 +73,11 @@ span s = four (s.at % 2 ^ 32) ++ four s.len
 abbrev pub spans : List Span → List ℕ
 spans list = flat_map span list
 
-abbrev pub front : ℕ → ℕ → ℕ → List ℕ
-front kind from to = one 76 ++ one 1 ++ one kind ++ one from ++ one to
+abbrev pub front : (layout kind from to : ℕ) → List ℕ
+front layout kind from to = one 76 ++ one layout ++ one kind ++ one from ++ one to
 
-abbrev pub acknowledgement : ℕ → ℕ → List ℕ
-acknowledgement base bits = four base ++ four bits
+abbrev pub acknowledgement : (layout base bits : ℕ) → List ℕ
+acknowledgement layout base bits = four base ++ bytes_of (bits_size (layout_of layout)) bits
 
 abbrev pub head : Head → List ℕ
 head (heads.Put at tgt cmpl) = four at ++ counter tgt ++ counter cmpl
@@ -96,11 +98,11 @@ abbrev pub name : MsgName → List ℕ
 name m = one m.origin ++ two m.statement ++ one (leg_number m.leg)
 
 abbrev pub packet_data : DataPacket → List ℕ
-packet_data d = front 1 d.from d.to ++ four d.seq ++ name d.name ++ one (head_number d.head) ++ four d.length ++ two d.fragment ++ head d.head ++ d.payload
+packet_data d = front d.layout 1 d.from d.to ++ four d.seq ++ name d.name ++ one (head_number d.head) ++ four d.length ++ two d.fragment ++ head d.head ++ d.payload
 
 abbrev pub packet : Packet → List ℕ
 packet (packets.Data d) = packet_data d
-packet (packets.Ack from to base bits) = front 2 from to ++ acknowledgement base bits
+packet (packets.Ack layout from to base bits) = front layout 2 from to ++ acknowledgement layout base bits
 
 -- how many bytes a packet has
 unfoldable pub packet_size : Packet → ℕ

@@ -10,12 +10,12 @@ use Rattle.lapi_base.specs.declared.packet.Packet.{Packet}
 use Rattle.lapi_base.specs.declared.packet.Packet.TheVariants as packets
 use Rattle.lapi_base.specs.Packet.Format.{Format, Done, ◌>>=◌, field, any, bytes_form, IsSpelled, IsRefused, answer, One, Two, Four}
 use Rattle.lapi_base.specs.Record.Fragments.{fragments_in, fragment_length}
-use Rattle.lapi_base.specs.Packet.Layout.{Layout, is_version, layout_of, unit, longest, bits_size}
+use Rattle.lapi_base.specs.Packet.Layout.{Layout, is_version, layout_of, unit, longest, longest_active, has_echo, bits_size}
 use Rattle.lapi_base.specs.Packet.Heads.{operation_form, head_form}
 
 -- the fields that each packet begins with; kind is 1 for data, 2 for an acknowledgement
 pub record Front : Type 0 where
-  pub layout : Layout
+  pub layout : ℕ
   pub kind : ℕ
   pub from : ℕ
   pub to : ℕ
@@ -33,41 +33,45 @@ front_form = do
   kind ← kind_form
   from ← task_form
   to ← task_form
-  Done (record { layout = layout_of version; kind = kind; from = from; to = to })
+  Done (record { layout = version; kind = kind; from = from; to = to })
 
-unfoldable pub acknowledgement_form : Layout → ℕ → ℕ → Format Packet
+unfoldable pub acknowledgement_form : (layout from to : ℕ) → Format Packet
 acknowledgement_form layout from to = do
   base ← any Four
-  bits ← field (bits_size layout) reasons.NotCanonical (λ n. n % 2 == 0)
-  Done (packets.Ack from to base bits)
+  bits ← field (bits_size (layout_of layout)) reasons.NotCanonical (λ n. n % 2 == 0)
+  Done (packets.Ack layout from to base bits)
 
--- Go and Join are from the origin, Back and Note to it, and Join to another task.
-abbrev pub is_leg : ℕ → ℕ → ℕ → ℕ → Bool
-is_leg from to origin n =
+-- Go and Join are from the origin, Back, Note and Echo to it, and Join to another task; the first layout has no Echo.
+abbrev pub is_leg : Layout → (from to origin number : ℕ) → Bool
+is_leg layout from to origin n =
     if n == 1 then origin == from
     else if n == 2 then origin == to
     else if n == 3 then origin == to
+    else if n == 5 then has_echo layout && origin == to
     else n == 4 && origin == from && not (from == to)
 
 -- 1 Go, 2 Back, 3 Note, 4 Join, 5 Echo
 abbrev pub leg_of : ℕ → ℕ → Leg
 leg_of to n = if n == 1 then Go else if n == 2 then Back else if n == 3 then Note else if n == 5 then Echo else Join to
 
-unfoldable pub leg_form : ℕ → ℕ → ℕ → Format Leg
-leg_form from to origin = do
-  n ← field One reasons.Kind (is_leg from to origin)
+unfoldable pub leg_form : Layout → (from to origin : ℕ) → Format Leg
+leg_form layout from to origin = do
+  n ← field One reasons.Kind (is_leg layout from to origin)
   Done (leg_of to n)
 
-unfoldable pub name_form : ℕ → ℕ → Format MsgName
-name_form from to = do
+unfoldable pub name_form : Layout → (from to : ℕ) → Format MsgName
+name_form layout from to = do
   origin ← field One reasons.Task (λ n. n == from || n == to)
   statement ← field Two reasons.Field (λ n. nat_le n 511)
-  leg ← leg_form from to origin
+  leg ← leg_form layout from to origin
   Done (record { origin = origin; statement = statement; leg = leg })
 
 -- Requests, notices and joins carry no bytes, and the answer of a read-modify-write a word.
 abbrev pub is_length : Layout → Leg → ℕ → ℕ → Bool
-is_length layout Go op n = if op == 2 || op == 4 || op == 5 then n == 0 else nat_le n (longest layout)
+is_length layout Go op n =
+    if op == 2 || op == 4 || op == 5 then n == 0
+    else if op == 6 then nat_le n (longest_active layout)
+    else nat_le n (longest layout)
 is_length layout Back op n = if op == 5 then n == 4 else nat_le n (longest layout)
 is_length layout Note op n = n == 0
 is_length layout Echo op n = n == 4
@@ -79,16 +83,16 @@ length_form layout leg op = field Four reasons.Field (is_length layout leg op)
 unfoldable pub fragment_form : Layout → ℕ → Format ℕ
 fragment_form layout size = field Two reasons.Field (λ n. nat_lt n (fragments_in (unit layout) size))
 
-unfoldable pub data_form : Layout → ℕ → ℕ → Format Packet
+unfoldable pub data_form : (layout from to : ℕ) → Format Packet
 data_form layout from to = do
   seq ← any Four
-  name ← name_form from to
+  name ← name_form (layout_of layout) from to
   op ← operation_form name.leg
-  size ← length_form layout name.leg op
-  fragment ← fragment_form layout size
-  head ← head_form layout name.leg op size
-  payload ← bytes_form (fragment_length (unit layout) size fragment)
-  Done (packets.Data (record { from = from; to = to; seq = seq; name = name; head = head; length = size; fragment = fragment; payload = payload }))
+  size ← length_form (layout_of layout) name.leg op
+  fragment ← fragment_form (layout_of layout) size
+  head ← head_form (layout_of layout) name.leg op size
+  payload ← bytes_form (fragment_length (unit (layout_of layout)) size fragment)
+  Done (packets.Data (record { layout = layout; from = from; to = to; seq = seq; name = name; head = head; length = size; fragment = fragment; payload = payload }))
 
 unfoldable pub packet_form : Format Packet
 packet_form = do

@@ -112,7 +112,7 @@ module _ (script : Script) (rules : Rules) where
   with_events r es = record r { journal = followed r.journal es }
 
   unfoldable pub hand_over : Run → (from to : ℕ) → Packet → Run
-  hand_over r a b (Ack from to least bits) = with_handed r a b (Ack from to least bits)
+  hand_over r a b (Ack layout from to least bits) = with_handed r a b (Ack layout from to least bits)
   hand_over r a b (Data p) =
       let s = with_handed r a b (Data p) in
       let t = with_events s (cond (is_delivered r a b p.seq) [] (first_delivery r a b p.name p.seq)) in
@@ -220,7 +220,7 @@ deliveries wire a b acts replies = flat_map (λ (line : Act × Reply). handed_by
 -- Whether b owes an acknowledgement to a: it was handed a data packet from a, and hasn't polled since.
 abbrev pub is_numbered : Packet → Bool
 is_numbered (Data p) = true
-is_numbered (Ack from to base bits) = false
+is_numbered (Ack layout from to base bits) = false
 
 abbrev pub owes_by : (wire : List Packet) → (from to : ℕ) → Act → Reply → (before : Bool) → Bool
 owes_by wire a b (Poll t) reply before = not (b == t) && before

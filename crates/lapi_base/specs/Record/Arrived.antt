@@ -22,11 +22,11 @@ use Rattle.lapi_base.specs.Record.HeadSays.{is_active, follows}
 -- Fragments.
 abbrev pub is_fragment : MsgName → ℕ → Packet → Bool
 is_fragment m j (Data p) = name_eq m p.name && p.fragment == j
-is_fragment m j (Ack from to base bits) = false
+is_fragment m j (Ack layout from to base bits) = false
 
 abbrev pub is_part_of : MsgName → Packet → Bool
 is_part_of m (Data p) = name_eq m p.name
-is_part_of m (Ack from to base bits) = false
+is_part_of m (Ack layout from to base bits) = false
 
 -- fragment j of message m is among these packets; some fragment of it is
 unfoldable pub has_fragment : List Packet → MsgName → ℕ → Bool
@@ -39,7 +39,7 @@ has_some packets m = list_any (is_part_of m) packets
 unfoldable pub some_packet : List Packet → MsgName → Option DataPacket
 some_packet [] m = None
 some_packet (Data p ∷ ps) m = cond (name_eq m p.name) (Some p) (some_packet ps m)
-some_packet (Ack from to base bits ∷ ps) m = some_packet ps m
+some_packet (Ack layout from to base bits ∷ ps) m = some_packet ps m
 
 -- every fragment of m is, of so many
 unfoldable pub whole_by : (count : ℕ) → List Packet → MsgName → Bool
@@ -52,7 +52,7 @@ is_whole script packets m = whole_by (fragment_count script m) packets m
 unfoldable pub payload_of : List Packet → MsgName → ℕ → List ℕ
 payload_of [] m j = []
 payload_of (Data p ∷ ps) m j = cond (is_fragment m j (Data p)) p.payload (payload_of ps m j)
-payload_of (Ack from to base bits ∷ ps) m j = payload_of ps m j
+payload_of (Ack layout from to base bits ∷ ps) m j = payload_of ps m j
 
 unfoldable pub assembled : (count : ℕ) → List Packet → MsgName → List ℕ
 assembled count packets m = flat_map (payload_of packets m) (numbers_below count)
@@ -62,7 +62,7 @@ assembled count packets m = flat_map (payload_of packets m) (numbers_below count
 unfoldable pub number_bound : List Packet → ℕ
 number_bound [] = 0
 number_bound (Data p ∷ ps) = max (suc p.seq) (number_bound ps)
-number_bound (Ack from to base bits ∷ ps) = number_bound ps
+number_bound (Ack layout from to base bits ∷ ps) = number_bound ps
 
 -- the least number that none of these packets has
 unfoldable pub least_number : List Packet → ℕ
@@ -70,7 +70,7 @@ least_number packets = least_missing (number_bound packets) (has_number packets)
 
 -- the acknowledgement of these packets of the link from a to b
 unfoldable pub ack_of : Script → List Packet → (from to : ℕ) → Packet
-ack_of script packets a b = Ack b a (least_number packets) (bits_of (window_of script) (λ i. has_number packets (least_number packets + i)))
+ack_of script packets a b = Ack script.layout b a (least_number packets) (bits_of (window_of script) (λ i. has_number packets (least_number packets + i)))
 
 -- The same by the packet alone.
 -- the fragments of a message with so many bytes

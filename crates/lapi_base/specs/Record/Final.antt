@@ -23,7 +23,7 @@ use Rattle.std.specs.List.{list_all, AllByRecursion, Contains}
 -- the last acknowledgement on a wire
 abbrev pub or_first : Packet → Option Packet → Option Packet
 or_first p (Some q) = Some q
-or_first (Ack from to base bits) None = Some (Ack from to base bits)
+or_first (Ack layout from to base bits) None = Some (Ack layout from to base bits)
 or_first (Data p) None = None
 
 unfoldable pub last_ack : List Packet → Option Packet
@@ -54,7 +54,7 @@ module _ (script : Script) (rules : Rules) where
   -- The same as a test, over the tasks and the workers that there are.
   abbrev pub is_told : Run → (from to : ℕ) → Packet → Bool
   is_told r a b (Data p) = is_acked r a b p.seq
-  is_told r a b (Ack from to base bits) = true
+  is_told r a b (Ack layout from to base bits) = true
 
   -- all that is on the wire from a to b is acknowledged, a Poll would add nothing to it, and no acknowledgement is owed on the link
   unfoldable pub is_settled : Run → (from to : ℕ) → Bool

@@ -52,6 +52,7 @@ module _ (script : Script) (m : MsgName) where
   unfoldable pub data_packet : (number fragment : ℕ) → List ℕ → Packet
   data_packet n j bytes =
       Data (record {
+        layout = script.layout;
         from = sender script m;
         to = receiver script m;
         seq = n;

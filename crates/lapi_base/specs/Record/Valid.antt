@@ -1,6 +1,6 @@
 -- Valid scripts, rules and schedules: the limits that every input keeps, and what its lines may name. In a
 -- definition a number has no bound of its own: that it has 32 bits, or 8, is said here. This is the project's own.
-use Rattle.std.specs.Prelude.{◌≡◌, ℕ, ◌%◌, ◌^◌, ◌<◌, ◌≤◌, Bool, false, List, length, Option, Some, None}
+use Rattle.std.specs.Prelude.{◌≡◌, ℕ, ◌%◌, ◌^◌, ◌<◌, ◌≤◌, Bool, true, false, List, length, Option, Some, None}
 use Rattle.std.specs.List.{AllByRecursion}
 use Rattle.lapi_base.specs.declared.address.Addr.{Addr}
 use Rattle.lapi_base.specs.declared.address.Addr.TheVariants.{Plain, Table}
@@ -12,7 +12,7 @@ use Rattle.lapi_base.specs.declared.statement.RmwOp.TheVariants.{Cas}
 use Rattle.lapi_base.specs.declared.statement.Statement.{Statement}
 use Rattle.lapi_base.specs.declared.statement.Statement.TheVariants.{Store, Put, Get, Putv, Getv, Rmw, Am, Wait, Set, Read, Fence, Gfence}
 use Rattle.lapi_base.specs.declared.script.Script.{Script}
-use Rattle.lapi_base.specs.Packet.Layout.{layout_of, most_lines, most_injected}
+use Rattle.lapi_base.specs.Packet.Layout.{is_version, layout_of, most_lines, most_injected}
 use Rattle.lapi_base.specs.declared.rule.Rules.{Rules}
 use Rattle.lapi_base.specs.declared.schedule.Act.{Act}
 use Rattle.lapi_base.specs.declared.schedule.Line.{Line}
@@ -69,7 +69,7 @@ ValidStatement Gfence = Unit {0}
 ValidStatement (Statement.Addr at) = IsU32 at
 
 pub record ValidScript (script : Script) : Type 0 where
-  pub layout : script.layout ≡ 1
+  pub layout : is_version script.layout ≡ true
   pub tasks : (2 ≤ script.tasks) × (script.tasks ≤ 8)
   pub memory : (64 ≤ script.memory) × (script.memory ≤ 65536) × (script.memory % 4 ≡ 0)
   pub counters : script.counters ≤ 64
@@ -88,7 +88,7 @@ module _ (script : Script) (spells : List ℕ → Bool) where
   ValidAct (Tick t) = t < script.tasks
   ValidAct (Deliver a b k) = (a < script.tasks) × (b < script.tasks) × IsU32 k
   ValidAct (Cut a b k n) = (a < script.tasks) × (b < script.tasks) × IsU32 k × IsU32 n
-  ValidAct (Inject a b bytes) = (a < script.tasks) × (b < script.tasks) × (length bytes ≤ most_injected (layout_of script.layout)) × AllByRecursion IsByte bytes × spells bytes ≡ false
+  ValidAct (Inject a b bytes) = (a < script.tasks) × (b < script.tasks) × (length bytes ≤ most_injected) × AllByRecursion IsByte bytes × spells bytes ≡ false
   ValidAct (Act.Begin t w) = (t < script.tasks) × (w < script.workers)
   ValidAct (Act.End t w) = (t < script.tasks) × (w < script.workers)
 

@@ -43,12 +43,12 @@ numbered script (e ∷ J) a b = numbered script J a b
 
 abbrev pub is_number : ℕ → Packet → Bool
 is_number n (Data p) = p.seq == n
-is_number n (Ack from to base bits) = false
+is_number n (Ack layout from to base bits) = false
 
 -- an acknowledgement tells of every number below its base, and of base + i for each bit i that is set
 abbrev pub covers : ℕ → Packet → Bool
 covers n (Data p) = false
-covers n (Ack from to base bits) = nat_lt n base || has_bit bits (n - base)
+covers n (Ack layout from to base bits) = nat_lt n base || has_bit bits (n - base)
 
 -- among these packets one has this number; one of them acknowledges it
 unfoldable pub has_number : List Packet → ℕ → Bool
@@ -119,7 +119,7 @@ module _ (script : Script) (rules : Rules) where
   unfoldable pub ack : Run → (from to : ℕ) → Packet
   ack r a b =
       let least = least_undelivered script r a b in
-      Ack b a least (bits_of (window_of script) (λ i. is_delivered r a b (least + i)))
+      Ack script.layout b a least (bits_of (window_of script) (λ i. is_delivered r a b (least + i)))
 
   unfoldable pub owed_ack : Run → (from to : ℕ) → List Packet
   owed_ack r a b = cond (r.owed a b) (ack r a b ∷ []) []
