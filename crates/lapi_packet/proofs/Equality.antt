@@ -152,8 +152,9 @@ data_packet : (a b : DataPacket) → (data_eq.ghosts).eq a b ≡ true → a ≡ 
 data_packet a b e =
     let last : Bool = a.length == b.length && (a.fragment == b.fragment && pointwise (λ x y. x == y) a.payload b.payload) in
     let middle : Bool = a.seq == b.seq && ((name_eq.ghosts).eq a.name b.name && ((head_eq.ghosts).eq a.head b.head && last)) in
-    let fields : (a.from == b.from && (a.to == b.to && middle)) ≡ true = e in
-    let p = and_parts _ _ fields in
+    let fields : (a.layout == b.layout && (a.from == b.from && (a.to == b.to && middle))) ≡ true = e in
+    let o = and_parts _ _ fields in
+    let p = and_parts _ _ o.1 in
     let q = and_parts _ _ p.1 in
     let r = and_parts _ _ q.1 in
     let s = and_parts _ _ r.1 in
@@ -161,6 +162,7 @@ data_packet a b e =
     let u = and_parts _ _ t.1 in
     let v = and_parts _ _ u.1 in
     λ i. record {
+      layout = number a.layout b.layout o.0 i;
       from = number a.from b.from p.0 i;
       to = number a.to b.to q.0 i;
       seq = number a.seq b.seq r.0 i;
@@ -173,12 +175,13 @@ data_packet a b e =
 
 packet : (a b : Packet) → (packet_eq.ghosts).eq a b ≡ true → a ≡ b
 packet (Data a) (Data b) e = ap (λ (p : DataPacket). Data p) (data_packet a b e)
-packet (Ack from to base bits) (Ack from' to' base' bits') e =
-    let fields : (from == from' && (to == to' && (base == base' && bits == bits'))) ≡ true = e in
-    let p = and_parts _ _ fields in
+packet (Ack layout from to base bits) (Ack layout' from' to' base' bits') e =
+    let fields : (layout == layout' && (from == from' && (to == to' && (base == base' && bits == bits')))) ≡ true = e in
+    let o = and_parts _ _ fields in
+    let p = and_parts _ _ o.1 in
     let q = and_parts _ _ p.1 in
     let r = and_parts _ _ q.1 in
-    λ i. Ack (number from from' p.0 i) (number to to' q.0 i) (number base base' r.0 i) (number bits bits' r.1 i)
+    λ i. Ack (number layout layout' o.0 i) (number from from' p.0 i) (number to to' q.0 i) (number base base' r.0 i) (number bits bits' r.1 i)
 packet _ _ e = absurd (false≢true e)
 
 pub same_packet : (a b : Packet) (answer : Bool) → answer ≡ (packet_eq.ghosts).eq a b → Decides answer (a ≡ b)

@@ -1,6 +1,5 @@
 -- The numbers of the code's own kinds and operations.
 use Rattle.std.specs.Prelude.{ℕ}
-use Rattle.lapi_base.specs.Packet.Layout.{First}
 use Rattle.lapi_base.specs.Packet.Spelling as spelling
 use Rattle.lapi_packet.specs.declared.front.Kind.{Kind}
 use Rattle.lapi_packet.specs.declared.front.Kind.TheVariants as kinds
@@ -13,7 +12,7 @@ kind_number kinds.Data = 1
 kind_number kinds.Acknowledgement = 2
 
 abbrev pub front_of : Front → spelling.Front
-front_of front = record { layout = First; kind = kind_number front.kind; from = front.from; to = front.to }
+front_of front = record { layout = front.layout; kind = kind_number front.kind; from = front.from; to = front.to }
 
 abbrev pub operation_number : Operation → ℕ
 operation_number operations.Put = 1

@@ -12,7 +12,6 @@
 //! ```
 
 ghost use Rattle.std.specs.Prelude.{◌≡◌, ◌≤◌, ◌+◌, [], ◌++◌, length};
-ghost use Rattle.lapi_base.specs.Packet.Layout.{First};
 ghost use Rattle.lapi_base.specs.Packet.Spelling.{data_form};
 ghost use Rattle.lapi_packet.specs.Reader.{Reads};
 ghost use Rattle.lapi_base.specs.Packet.PacketBytes as written;
@@ -21,22 +20,23 @@ use crate::fault::Fault;
 use crate::front::{Front, Kind};
 use crate::number::{read_four, write_four, write_one, write_two};
 use crate::{fragment, front, head, name, operation};
-use lapi_base::{DataPacket, Frame, Packet};
+use lapi_base::{DataPacket, FRAME_ROOM, Frame, Packet};
 
 #[tactic(auto, using(lapi_base::proofs::FormLaws::read_bind), unfolding(lapi_base::specs::Packet::Spelling::data_form))]
-pub(crate) fn read(from: u32, to: u32, bytes: &[u8]) -> Result<(Packet, &[u8]), Fault>
-    ensures { Reads (data_form First from to) bytes.now result }
+pub(crate) fn read(front: Front, bytes: &[u8]) -> Result<(Packet, &[u8]), Fault>
+    ensures { Reads (data_form front.layout front.from front.to) bytes.now result }
 {
     let (seq, rest) = read_four(bytes)?;
-    let (name, rest) = name::read(from, to, rest)?;
+    let (name, rest) = name::read(front, rest)?;
     let (operation, rest) = operation::read(name.leg, rest)?;
-    let (length, rest) = fragment::read_length(name.leg, operation, rest)?;
-    let (fragment, rest) = fragment::read_number(length, rest)?;
-    let (head, rest) = head::read(name.leg, operation, length, rest)?;
-    let (payload, rest) = fragment::read_payload(length, fragment, rest)?;
+    let (length, rest) = fragment::read_length(front.layout, name.leg, operation, rest)?;
+    let (fragment, rest) = fragment::read_number(front.layout, length, rest)?;
+    let (head, rest) = head::read(front.layout, name.leg, operation, length, rest)?;
+    let (payload, rest) = fragment::read_payload(front.layout, length, fragment, rest)?;
     let packet = DataPacket {
-        from,
-        to,
+        layout: front.layout,
+        from: front.from,
+        to: front.to,
         seq,
         name,
         head,
@@ -47,11 +47,15 @@ pub(crate) fn read(from: u32, to: u32, bytes: &[u8]) -> Result<(Packet, &[u8]), 
     Ok((Packet::Data(packet), rest))
 }
 
+/// Appends the bytes of any data packet, each field reduced to its size, where a frame has room for them. It has for
+/// each packet that has a spelling; of another one the payload may be left out.
 pub(crate) fn write(packet: &DataPacket, out: &mut Frame)
     requires { out.old ≡ [] }
-    ensures { out.new ≡ written.packet_data packet.now }
+    ensures { length (written.packet_data packet.now) ≤ FRAME_ROOM
+        → out.new ≡ written.packet_data packet.now }
 {
     let front = Front {
+        layout: packet.layout,
         kind: Kind::Data,
         from: packet.from,
         to: packet.to,
@@ -63,5 +67,8 @@ pub(crate) fn write(packet: &DataPacket, out: &mut Frame)
     write_four(packet.length, out);
     write_two(packet.fragment, out);
     head::write(&packet.head, out);
-    out.extend_from_slice(packet.payload.as_slice());
+    let payload = packet.payload.as_slice();
+    if payload.len() <= FRAME_ROOM - out.as_slice().len() {
+        out.extend_from_slice(payload);
+    }
 }

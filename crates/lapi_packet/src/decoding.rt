@@ -41,8 +41,8 @@ fn read(bytes: &[u8]) -> Result<(Packet, &[u8]), Fault>
 {
     let (front, rest) = front::read(bytes)?;
     match front.kind {
-        Kind::Data => data::read(front.from, front.to, rest),
-        Kind::Acknowledgement => acknowledgement::read(front.from, front.to, rest),
+        Kind::Data => data::read(front, rest),
+        Kind::Acknowledgement => acknowledgement::read(front, rest),
     }
 }
 

@@ -3,7 +3,7 @@
 //! ```text
 //! place  size  field    rule                         reason
 //! 0      1     magic    4c                           Magic
-//! 1      1     version  01                           Version
+//! 1      1     version  the layout: 01 or 02         Version
 //! 2      1     kind     1 data, 2 acknowledgement    Kind
 //! 3      1     from     at most 7                    Task
 //! 4      1     to       at most 7                    Task
@@ -18,11 +18,9 @@ ghost use Rattle.lapi_base.specs.Packet.PacketBytes as written;
 
 use crate::fault::{Fault, refused};
 use crate::number::{read_one, write_one};
-use lapi_base::{FRAME_ROOM, Frame, Reason};
+use lapi_base::{FRAME_ROOM, Frame, Reason, is_version};
 
 const MAGIC: u32 = 0x4c;
-
-const VERSION: u32 = 1;
 
 const LAST_TASK: u32 = 7;
 
@@ -34,6 +32,7 @@ pub(crate) enum Kind {
 
 #[derive(Clone, Copy)]
 pub(crate) struct Front {
+    pub(crate) layout: u32,
     pub(crate) kind: Kind,
     pub(crate) from: u32,
     pub(crate) to: u32,
@@ -47,14 +46,20 @@ pub(crate) fn read(bytes: &[u8]) -> Result<(Front, &[u8]), Fault>
     if magic != MAGIC {
         return Err(refused(bytes, Reason::Magic));
     }
-    let (version, after_version) = read_one(after_magic)?;
-    if version != VERSION {
+    let (layout, after_version) = read_one(after_magic)?;
+    if !is_version(layout) {
         return Err(refused(after_magic, Reason::Version));
     }
     let (kind, rest) = read_kind(after_version)?;
     let (from, rest) = read_task(rest)?;
     let (to, rest) = read_task(rest)?;
-    Ok((Front { kind, from, to }, rest))
+    let front = Front {
+        layout,
+        kind,
+        from,
+        to,
+    };
+    Ok((front, rest))
 }
 
 #[tactic(auto, unfolding(lapi_base::specs::Packet::Spelling::kind_form))]
@@ -91,10 +96,10 @@ fn number_of(kind: Kind) -> u32
 
 pub(crate) fn write(front: Front, out: &mut Frame)
     requires { length out.old + 5 ≤ FRAME_ROOM }
-    ensures { out.new ≡ out.old ++ written.front (kind_number front.kind) front.from front.to }
+    ensures { out.new ≡ out.old ++ written.front front.layout (kind_number front.kind) front.from front.to }
 {
     write_one(MAGIC, out);
-    write_one(VERSION, out);
+    write_one(front.layout, out);
     write_one(number_of(front.kind), out);
     write_one(front.from, out);
     write_one(front.to, out);

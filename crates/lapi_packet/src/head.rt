@@ -1,8 +1,9 @@
-//! What a message carries before its payload: one form for each leg and operation.
+//! What a message carries before its payload: one form for each leg and operation, the same in both layouts but for
+//! the longest length that is asked for.
 
 ghost use Rattle.std.specs.Prelude.{◌≡◌, ◌≤◌, ◌+◌, ◌++◌, length};
 ghost use Rattle.lapi_base.specs.Packet.Heads.{head_form};
-ghost use Rattle.lapi_base.specs.Packet.Layout.{First};
+ghost use Rattle.lapi_base.specs.Packet.Layout.{layout_of};
 ghost use Rattle.lapi_packet.specs.Codes.{operation_number};
 ghost use Rattle.lapi_packet.specs.Reader.{Reads};
 ghost use Rattle.lapi_base.specs.Packet.PacketBytes as written;
@@ -27,15 +28,16 @@ use lapi_base::{FRAME_ROOM, Frame, Head, Leg, NoteOp};
 
 #[tactic(auto, unfolding(lapi_base::specs::Packet::Heads::head_form))]
 pub(crate) fn read(
+    layout: u32,
     leg: Leg,
     operation: Operation,
     length: u32,
     bytes: &[u8],
 ) -> Result<(Head, &[u8]), Fault>
-    ensures { Reads (head_form First leg (operation_number operation) length) bytes.now result }
+    ensures { Reads (head_form (layout_of layout) leg (operation_number operation) length) bytes.now result }
 {
     match leg {
-        Leg::Go => read_go(operation, length, bytes),
+        Leg::Go => read_go(layout, operation, length, bytes),
         Leg::Back => match operation {
             Operation::Get => get_back::read(length, bytes),
             Operation::Getv => getv_back::read(length, bytes),
@@ -55,14 +57,20 @@ pub(crate) fn read(
 }
 
 #[tactic(auto, unfolding(lapi_base::specs::Packet::Heads::head_form))]
-fn read_go(operation: Operation, length: u32, bytes: &[u8]) -> Result<(Head, &[u8]), Fault>
-    ensures { Reads (head_form First Leg.Go (operation_number operation) length) bytes.now result }
+fn read_go(
+    layout: u32,
+    operation: Operation,
+    length: u32,
+    bytes: &[u8],
+) -> Result<(Head, &[u8]), Fault>
+    ensures { Reads (head_form (layout_of layout) Leg.Go (operation_number operation) length)
+        bytes.now result }
 {
     match operation {
         Operation::Put => put::read(length, bytes),
-        Operation::Get => get_go::read(bytes),
+        Operation::Get => get_go::read(layout, bytes),
         Operation::Putv => putv::read(length, bytes),
-        Operation::Getv => getv_go::read(bytes),
+        Operation::Getv => getv_go::read(layout, bytes),
         Operation::Rmw => rmw_go::read(bytes),
         _ => am::read(bytes),
     }

@@ -2,7 +2,8 @@ ghost use Rattle.std.specs.Prelude.{◌≡◌, ◌≢◌, ℕ, ◌≤◌, List, 
 ghost use Rattle.lapi_base.specs.declared.packet.Packet.{Packet};
 ghost use Rattle.lapi_base.specs.declared.reply.Bad.{Bad};
 ghost use Rattle.lapi_base.specs.declared.reply.Reason.TheVariants.{Short};
-ghost use Rattle.lapi_base.specs.Packet.Layout.{First, longest_packet};
+ghost use Rattle.lapi_base.specs.Laws.Entries.{layout_in};
+ghost use Rattle.lapi_base.specs.Packet.Layout.{Layout, layout_of, longest_packet};
 ghost use Rattle.lapi_base.specs.Packet.Spelling.{Spells, Refuses, decoded};
 
 /// The laws of spellings. Nothing runs: a caller takes them from the contract.
@@ -21,9 +22,9 @@ pub fn spelling_laws()
     // Bytes have one first fault, and none where they spell a packet.
     ensures one_fault { (bytes : List ℕ) (bad : Bad) → Refuses bytes bad → decoded bytes ≡ Err bad }
 
-    // The longest spelling.
+    // The longest spelling of each layout.
     ensures longest { (p : Packet) (bytes : List ℕ) → Spells p bytes
-        → length bytes ≤ longest_packet First }
-    ensures reached { (p : Packet) × (bytes : List ℕ) × Spells p bytes
-        × (length bytes ≡ longest_packet First) }
+        → length bytes ≤ longest_packet (layout_of (layout_in p)) }
+    ensures reached { (layout : Layout) → (p : Packet) × (bytes : List ℕ) × Spells p bytes
+        × (layout_of (layout_in p) ≡ layout) × (length bytes ≡ longest_packet layout) }
 {}

@@ -8,11 +8,13 @@
 //! ```
 
 ghost use Rattle.std.specs.Prelude.{◌≡◌, ◌≤◌, ◌+◌, ◌++◌, length};
+ghost use Rattle.lapi_base.specs.Packet.Layout.{layout_of};
 ghost use Rattle.lapi_base.specs.Packet.Spelling.{name_form};
 ghost use Rattle.lapi_packet.specs.Reader.{Reads};
 ghost use Rattle.lapi_base.specs.Packet.PacketBytes as written;
 
 use crate::fault::{Fault, refused};
+use crate::front::Front;
 use crate::leg;
 use crate::number::{read_one, read_two, write_one, write_two};
 use lapi_base::{FRAME_ROOM, Frame, MsgName, Reason};
@@ -20,18 +22,18 @@ use lapi_base::{FRAME_ROOM, Frame, MsgName, Reason};
 const LAST_STATEMENT: u32 = 511;
 
 #[tactic(auto, using(lapi_base::proofs::FormLaws::read_bind), unfolding(lapi_base::specs::Packet::Spelling::name_form))]
-pub(crate) fn read(from: u32, to: u32, bytes: &[u8]) -> Result<(MsgName, &[u8]), Fault>
-    ensures { Reads (name_form from to) bytes.now result }
+pub(crate) fn read(front: Front, bytes: &[u8]) -> Result<(MsgName, &[u8]), Fault>
+    ensures { Reads (name_form (layout_of front.layout) front.from front.to) bytes.now result }
 {
     let (origin, after_origin) = read_one(bytes)?;
-    if origin != from && origin != to {
+    if origin != front.from && origin != front.to {
         return Err(refused(bytes, Reason::Task));
     }
     let (statement, rest) = read_two(after_origin)?;
     if statement > LAST_STATEMENT {
         return Err(refused(after_origin, Reason::Field));
     }
-    let (leg, rest) = leg::read(from, to, origin, rest)?;
+    let (leg, rest) = leg::read(front, origin, rest)?;
     let name = MsgName {
         origin,
         statement,

@@ -1,5 +1,5 @@
 ghost use Rattle.std.specs.Prelude.{◌≡◌, ◌≤◌, ◌+◌, ◌++◌, length};
-ghost use Rattle.lapi_base.specs.Packet.Format.{One, Two, Four, number_at};
+ghost use Rattle.lapi_base.specs.Packet.Format.{One, Two, Four, Eight, bytes_of, number_at};
 ghost use Rattle.lapi_packet.specs.Reader.{ReaderGives};
 ghost use Rattle.lapi_base.specs.Packet.PacketBytes.{one, two, four};
 
@@ -41,6 +41,20 @@ pub(crate) fn read_four(bytes: &[u8]) -> Result<(u32, &[u8]), Fault>
     Ok((number, rest))
 }
 
+/// The number that the first eight bytes spell.
+pub(crate) fn read_eight(bytes: &[u8]) -> Result<(u64, &[u8]), Fault>
+    ensures { ReaderGives (λ x. (x.0, x.1.now)) result (number_at Eight bytes.now) }
+{
+    if bytes.len() < 8 {
+        return Err(cut_short());
+    }
+    let (front, rest) = bytes.split_at(8);
+    let number = u64::from_be_bytes([
+        front[0], front[1], front[2], front[3], front[4], front[5], front[6], front[7],
+    ]);
+    Ok((number, rest))
+}
+
 /// Appends the lowest byte of a number.
 pub(crate) fn write_one(number: u32, out: &mut Frame)
     requires { length out.old + 1 ≤ FRAME_ROOM }
@@ -61,6 +75,14 @@ pub(crate) fn write_two(number: u32, out: &mut Frame)
 pub(crate) fn write_four(number: u32, out: &mut Frame)
     requires { length out.old + 4 ≤ FRAME_ROOM }
     ensures { out.new ≡ out.old ++ four number }
+{
+    out.extend_from_slice(&number.to_be_bytes());
+}
+
+/// Appends the eight bytes of a number.
+pub(crate) fn write_eight(number: u64, out: &mut Frame)
+    requires { length out.old + 8 ≤ FRAME_ROOM }
+    ensures { out.new ≡ out.old ++ bytes_of Eight number }
 {
     out.extend_from_slice(&number.to_be_bytes());
 }

@@ -2,7 +2,7 @@
 //!
 //! ```text
 //! size  field   rule                                        reason
-//! 4     asked   at most 16,384                              Field
+//! 4     asked   at most 16,384, in layout 2 65,536          Field
 //! 4     source  source + asked at most 65,536               Field
 //! 4     dest    dest + asked at most 65,536                 Field
 //! 1     tgt     below 64, or ff for none                    Field
@@ -11,7 +11,7 @@
 
 ghost use Rattle.std.specs.Prelude.{◌≡◌, ◌≤◌, ◌+◌, ◌++◌, length};
 ghost use Rattle.lapi_base.specs.Packet.Heads.{get_go_form};
-ghost use Rattle.lapi_base.specs.Packet.Layout.{First};
+ghost use Rattle.lapi_base.specs.Packet.Layout.{layout_of};
 ghost use Rattle.lapi_packet.specs.Reader.{Reads};
 ghost use Rattle.lapi_base.specs.Packet.PacketBytes as written;
 
@@ -19,14 +19,14 @@ use crate::counter;
 use crate::fault::{Fault, refused};
 use crate::number::{read_four, write_four};
 use crate::range::read_range;
-use lapi_base::{FIRST_LONGEST, FRAME_ROOM, Frame, Head, Reason};
+use lapi_base::{FRAME_ROOM, Frame, Head, Reason, longest_in};
 
 #[tactic(auto, using(lapi_base::proofs::FormLaws::read_bind), unfolding(lapi_base::specs::Packet::Heads::get_go_form))]
-pub(crate) fn read(bytes: &[u8]) -> Result<(Head, &[u8]), Fault>
-    ensures { Reads (get_go_form First) bytes.now result }
+pub(crate) fn read(layout: u32, bytes: &[u8]) -> Result<(Head, &[u8]), Fault>
+    ensures { Reads (get_go_form (layout_of layout)) bytes.now result }
 {
     let (asked, rest) = read_four(bytes)?;
-    if asked > FIRST_LONGEST {
+    if asked > longest_in(layout) {
         return Err(refused(bytes, Reason::Field));
     }
     let (source, rest) = read_range(asked, rest)?;

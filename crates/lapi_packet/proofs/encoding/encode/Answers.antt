@@ -1,10 +1,5 @@
-use Rattle.std.proofs.Common.{◌∙◌, sym, subst, List, ℕ}
-use Rattle.lapi_base.specs.Packet.Spelling.{Spells}
-use Rattle.lapi_base.proofs.Spellings.{spelling_is}
+use Rattle.lapi_packet.proofs.Answering.{raw_spelled}
 use Rattle.lapi_packet.proofs.encoding.encode.Goals as goal
 
 pub returns : goal.returns
-returns c =
-    let bytes = c.requires.0 in
-    let spells = c.requires.1 in
-    subst (λ (l : List ℕ). Spells c.args.p.now l) (sym (spelling_is c.args.p.now bytes spells) ∙ sym c.write.ensures) spells
+returns c = raw_spelled c.args.p.now c.write.new.out c.write.ensures c.requires

@@ -1,10 +1,10 @@
-use Rattle.std.proofs.Common.{◌∙◌, sym, refl}
+use Rattle.std.proofs.Common.{◌∙◌, sym}
 use Rattle.lapi_base.specs.Packet.Spelling.{packet_form}
-use Rattle.lapi_base.proofs.FormLaws.{answer_spelled, no_prefix, at_most_spelling}
-use Rattle.lapi_packet.proofs.Lengths.{at_most_packet}
+use Rattle.lapi_base.proofs.FormLaws.{answer_spelled, no_prefix}
+use Rattle.lapi_packet.proofs.Lengths.{longest_of_layout}
 use Rattle.lapi_base.proofs.Spellings.{spelling_is, one_packet}
 use Rattle.lapi_packet.proofs.Faults.{cut_answer, refused_answer}
-use Rattle.lapi_packet.proofs.LongestPacket.{longest_bytes, longest_one, longest_spelled}
+use Rattle.lapi_packet.proofs.LongestPacket.{longest_bytes, longest_layout, longest_length, longest_one, longest_spelled}
 use Rattle.lapi_packet.proofs.laws.spelling_laws.Goals as goal
 
 pub returns-clause-one_spelling : goal.returns-clause-one_spelling
@@ -26,7 +26,7 @@ pub returns-clause-one_fault : goal.returns-clause-one_fault
 returns-clause-one_fault c = λ bytes bad s. refused_answer packet_form bytes bad s
 
 pub returns-clause-longest : goal.returns-clause-longest
-returns-clause-longest c = λ p bytes s. at_most_spelling packet_form 407 p bytes at_most_packet s
+returns-clause-longest c = longest_of_layout
 
 pub returns-clause-reached : goal.returns-clause-reached
-returns-clause-reached c = (longest_one, longest_bytes, longest_spelled, refl)
+returns-clause-reached c = λ layout. (longest_one layout, longest_bytes layout, longest_spelled layout, longest_layout layout, longest_length layout)
