@@ -2,7 +2,7 @@
 ghost use Rattle.std.specs.Prelude.{◌≡◌, ◌%◌, ◌^◌};
 ghost use Rattle.std.specs.List as lists;
 ghost use Rattle.lapi_base.specs.Record.Handlers.{completion_answer};
-ghost use Rattle.lapi_base.specs.declared.rule.CompletionRule.TheVariants.{Nothing, Sum, Same, Reversed};
+ghost use Rattle.lapi_base.specs.declared.rule.CompletionRule.TheVariants.{Nothing, Sum, Same, Reversed, Answer};
 
 use lapi_base::Effect;
 
@@ -35,6 +35,16 @@ pub fn reversed(user: u32, buffer: &[u8]) -> Effect
     ensures { result ≡ completion_answer Reversed user buffer.now }
 {
     Effect::Reversed { at: user }
+}
+
+/// Completion handler 4: answers the origin with the sum, for its user value as an address there.
+pub fn sum_back(user: u32, buffer: &[u8]) -> Effect
+    ensures { result ≡ completion_answer Answer user buffer.now }
+{
+    Effect::Answer {
+        at: user,
+        value: sum_of(buffer),
+    }
 }
 
 fn sum_of(bytes: &[u8]) -> u32

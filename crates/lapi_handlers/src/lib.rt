@@ -11,7 +11,7 @@ mod header_fn;
 mod job;
 
 pub use begun::Begun;
-pub use built_in_completion::{nothing, reversed, same, sum};
+pub use built_in_completion::{nothing, reversed, same, sum, sum_back};
 pub use built_in_header::{
     NOWHERE, PER_ORIGIN, WORD, WORD_AND_CHOICE, nowhere, per_origin, word, word_and_choice,
 };
