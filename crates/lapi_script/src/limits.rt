@@ -6,7 +6,7 @@ ghost use Rattle.lapi_base.specs.Packet.Spelling.{spells_packet};
 ghost use Rattle.lapi_script.specs.Gives.{Gives};
 
 use crate::fault::{LineFault, limit};
-use lapi_base::{Act, Script, Statement, Vector, Which};
+use lapi_base::{Act, MOST_INJECTED, Script, Statement, Vector, Which};
 use lapi_packet::decode;
 
 /// The most bytes of a store.
@@ -85,11 +85,11 @@ pub(crate) fn keeps_bytes(statement: &Statement) -> bool
 }
 
 #[tactic(auto, unfolding(lapi_base::specs::Input::Reading::keeps_injected))]
-pub(crate) fn keeps_injected(script: &Script, act: &Act) -> bool
-    ensures { result ≡ keeps_injected script.now act.now }
+pub(crate) fn keeps_injected(act: &Act) -> bool
+    ensures { result ≡ keeps_injected act.now }
 {
     match act {
-        Act::Inject { bytes, .. } => bytes.as_slice().len() <= script.most_injected(),
+        Act::Inject { bytes, .. } => bytes.as_slice().len() <= MOST_INJECTED,
         _ => true,
     }
 }

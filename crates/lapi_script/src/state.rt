@@ -23,7 +23,7 @@ use crate::limits::{checked_sizes, keeps_bytes, keeps_injected, keeps_pieces, na
 use crate::scan::is_clean;
 use crate::task_lines::{TaskLine, task_line};
 use crate::words::{Words, is_remark};
-use lapi_base::{Input, Line, Schedule, Script, Statement, Statements, Which};
+use lapi_base::{Input, Line, Schedule, Script, Statement, Statements, Which, is_version};
 use std::alloc::Global;
 use std::mem;
 
@@ -135,7 +135,7 @@ fn on_line(script: &Script, schedule: &mut Schedule, line: Line) -> Result<(), L
     if line.lane > 15 {
         return Err(limit(Which::Lane));
     }
-    if !keeps_injected(script, &line.act) {
+    if !keeps_injected(&line.act) {
         return Err(limit(Which::Bytes));
     }
     schedule.push(line)?;
@@ -184,7 +184,7 @@ pub(crate) fn step(alloc: Global, state: State, words: &mut Words) -> Result<Sta
     match state {
         State::First => {
             let layout = head(words)?;
-            if layout != 1 {
+            if !is_version(layout) {
                 return Err(syntax());
             }
             Ok(State::Second { layout })

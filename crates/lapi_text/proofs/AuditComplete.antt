@@ -141,13 +141,13 @@ script_run s front fits z =
 line_stays : (script : Script) (schedule : List Line) (line : Line) (next : State) → on_line script schedule line ≡ Ok next → IsScript next → ⊥
 line_stays script schedule line next e is =
     let to : Result State LineError = Ok (reading.Lines script (schedule ++ line ∷ [])) in
-    let injected = within (keeps_injected script line.act) which.Bytes to in
+    let injected = within (keeps_injected line.act) which.Bytes to in
     let lane = within (nat_le line.lane 15) which.Lane injected in
     let lines = within (nat_lt (length schedule) (most_lines (layout_of script.layout))) which.Lines lane in
     let p = passed (names_known script line.act) lines next e in
     let a = allowed (nat_lt (length schedule) (most_lines (layout_of script.layout))) which.Lines lane next p.1 in
     let b = allowed (nat_le line.lane 15) which.Lane injected next a.1 in
-    let c = allowed (keeps_injected script line.act) which.Bytes to next b.1 in
+    let c = allowed (keeps_injected line.act) which.Bytes to next b.1 in
     subst IsScript (sym (same_Ok (reading.Lines script (schedule ++ line ∷ [])) next c.1)) is
 
 script_before : (state next : State) (words : List (List ℕ)) → step state words ≡ Ok next → IsScript next → IsScript state

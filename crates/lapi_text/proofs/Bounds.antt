@@ -257,7 +257,7 @@ not_false : (b : Bool) → not b ≡ true → b ≡ false
 not_false true e = absurd (false≢true e)
 not_false false e = refl
 
-pub valid_act : (script : Script) (a : Act) → AllByRecursion FieldFits (act_row a) → names_known script a ≡ true → keeps_injected script a ≡ true → ValidAct script spells_packet a
+pub valid_act : (script : Script) (a : Act) → AllByRecursion FieldFits (act_row a) → names_known script a ≡ true → keeps_injected a ≡ true → ValidAct script spells_packet a
 unfolding names_known keeps_injected
 valid_act script (Step t) f n e = ltb-true _ _ n
 valid_act script (Poll t) f n e = ltb-true _ _ n
@@ -282,7 +282,7 @@ act_known script (Inject a b bytes) v = rw (lt-ltb _ _ v.0, lt-ltb _ _ v.1, v.4)
 act_known script (Act.Begin t w) v = rw (lt-ltb _ _ v.0, lt-ltb _ _ v.1) refl
 act_known script (Act.End t w) v = rw (lt-ltb _ _ v.0, lt-ltb _ _ v.1) refl
 
-pub injected_kept : (script : Script) (a : Act) → ValidAct script spells_packet a → keeps_injected script a ≡ true
+pub injected_kept : (script : Script) (a : Act) → ValidAct script spells_packet a → keeps_injected a ≡ true
 unfolding keeps_injected
 injected_kept script (Inject a b bytes) v = le-leb _ _ v.2
 injected_kept script (Step t) v = refl

@@ -1,6 +1,6 @@
 -- The canonical text has the rows of its input.
 use Rattle.std.proofs.Common.{◌≡◌, ◌≢◌, ℕ, zero, suc, ◌+◌, ◌^◌, ◌/◌, ◌%◌, ◌<◌, ◌≤◌, List, [], ◌∷◌, ◌++◌, length, map, refl, ap, ◌∙◌, Bool, true, false, cond, arith, append_assoc, nat_lt, get_or, inl, inr}
-use Rattle.std.specs.Prelude.{codes, filter, IsTrue, ◌==◌, ◌&&◌, nat_le, Some, None}
+use Rattle.std.specs.Prelude.{codes, filter, IsTrue, ◌==◌, ◌&&◌, ◌⊎◌, nat_le, Some, None}
 use Rattle.std.specs.List.{AllZip, AllByRecursion, All, slice_split, onto_first, join_with_byte, flat_map, list_all}
 use Rattle.std.specs.Fmt.{decimal}
 use Rattle.std.specs.Str.Parse.{AllDigits}
@@ -27,10 +27,12 @@ use Rattle.lapi_base.specs.declared.script.Script.{Script}
 use Rattle.lapi_base.specs.declared.input.Input.{Input}
 use Rattle.lapi_base.specs.Input.Lines.{lines_of, ended_lines, words_of, is_clean, is_skipped, read_words}
 use Rattle.lapi_base.specs.Input.Tokens.{Kind, Number, Counter, Hex, OptionalHex, Address, PlainVector, TargetVector, Dotted, LegWord, Value, Stands, IsPlainAddress, IsTargetAddress, IsPieceText, IsVectorText, IsLegText, leg_word, offset_text, address_text, piece_text, vector_text, canonical}
+use Rattle.lapi_base.specs.Packet.Layout.{is_version}
 use Rattle.lapi_base.specs.Packet.Spelling.{spells_packet}
 use Rattle.lapi_base.specs.Record.Valid.{IsAddress, IsPlain, IsPiece, ValidStatement, ValidScript, ValidLine}
 use Rattle.lapi_base.specs.Input.AuditRows.{journal_row}
 use Rattle.lapi_base.specs.Input.Rows.{Column, Word, Field, IsColumn, IsRow, head_row, sizes_row, task_row, statement_row, schedule_row, done_row, line_row, task_rows, script_rows, column_text, row_line, row_text, rows, canon, IsInputText}
+use Rattle.lapi_base.proofs.LayoutLaws.{two-layouts}
 use Rattle.lapi_text.proofs.Bounds.{FitVector, FitLeg, Fit, PartFits, is_bytes, both_true, statement_fits, line_fits}
 use Rattle.lapi_text.proofs.Sound.{Fits, ValidList}
 
@@ -340,8 +342,12 @@ journal_fits = (omega arith, (refl, tt))
 pub done_fits : RowFits done_row
 done_fits = (omega arith, (refl, tt))
 
-pub head_fits : (layout : ℕ) → layout ≡ 1 → RowFits (head_row layout)
-head_fits layout is = (omega arith, (refl, (omega (arith, is), tt)))
+pub head_fits : (layout : ℕ) → is_version layout ≡ true → RowFits (head_row layout)
+head_fits layout is = (omega arith, (refl, (in_range (two-layouts layout is), tt)))
+  where
+    in_range : (layout ≡ 1) ⊎ (layout ≡ 2) → layout < 2 ^ 32
+    in_range (inl one) = omega (arith, one)
+    in_range (inr two) = omega (arith, two)
 
 pub sizes_fits : (s : Script) → s.tasks ≤ 8 → s.memory ≤ 65536 → s.counters ≤ 64 → s.workers ≤ 4 → RowFits (sizes_row s)
 sizes_fits s tasks memory counters workers = (omega arith, (refl, (omega (arith, tasks), (refl, (omega (arith, memory), (refl, (omega (arith, counters), (refl, (omega (arith, workers), tt)))))))))

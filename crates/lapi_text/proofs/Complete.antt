@@ -13,7 +13,7 @@ use Rattle.lapi_base.specs.declared.schedule.Act.TheVariants.{Step, Poll, Tick, 
 use Rattle.lapi_base.specs.declared.schedule.Line.{Line}
 use Rattle.lapi_base.specs.declared.script.Script.{Script}
 use Rattle.lapi_base.specs.declared.input.Input.{Input}
-use Rattle.lapi_base.specs.Packet.Layout.{layout_of, most_lines}
+use Rattle.lapi_base.specs.Packet.Layout.{is_version, layout_of, most_lines}
 use Rattle.lapi_base.specs.Record.Valid.{ValidStatement, ValidScript, ValidLine}
 use Rattle.lapi_base.specs.Packet.Spelling.{spells_packet}
 use Rattle.lapi_base.specs.Input.Lines.{words_of, is_clean, is_skipped, read_words}
@@ -71,9 +71,9 @@ not_done text line (w ∷ v ∷ words) z = refl
 abbrev pub script_with : Script → List (List Statement) → Script
 script_with s lists = record s { lists = lists }
 
-pub step_head : (layout : ℕ) (words : List (List ℕ)) → layout ≡ 1 → IsRow (head_row layout) words → step reading.First words ≡ Ok (reading.Second layout)
+pub step_head : (layout : ℕ) (words : List (List ℕ)) → is_version layout ≡ true → IsRow (head_row layout) words → step reading.First words ≡ Ok (reading.Second layout)
 unfolding step
-step_head layout words is z = rw (said head_form layout (head_row layout) words (head_matches layout) z, eq-eqb layout 1 is) refl
+step_head layout words is z = rw (said head_form layout (head_row layout) words (head_matches layout) z, is) refl
 
 step_sizes : (s : Script) (words : List (List ℕ)) → IsRow (sizes_row s) words → ValidScript s → step (reading.Second s.layout) words ≡ Ok (reading.Start (without_tasks s))
 unfolding step

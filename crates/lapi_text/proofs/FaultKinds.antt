@@ -115,7 +115,7 @@ end_fits = (schedule_fits, (done_fits, tt))
 
 -- ---- what a line that passes a limit extends to
 
-sizes_extend : (layout : ℕ) (s : Script) (words : List (List ℕ)) → layout ≡ 1 → SizesSay layout s words → Extends (reading.Second layout) words
+sizes_extend : (layout : ℕ) (s : Script) (words : List (List ℕ)) → is_version layout ≡ true → SizesSay layout s words → Extends (reading.Second layout) words
 sizes_extend layout s words is says =
     let tasks : s.tasks < 2 ^ 32 = (row_fit (sizes_row s) words says.row).1.0 in
     record {
@@ -123,7 +123,7 @@ sizes_extend layout s words is says =
       row = sizes_row s;
       more = task_rows 0 (empties s.tasks) ++ end_rows [];
       whole = ap (λ n. head_row n ∷ sizes_row s ∷ (task_rows 0 (empties s.tasks) ++ end_rows [])) says.same_layout;
-      formed = record { layout = says.same_layout ∙ is; one_list_each = length_empties s.tasks; operands = empties_operands s.tasks; named = tt };
+      formed = record { layout = ap is_version says.same_layout ∙ is; one_list_each = length_empties s.tasks; operands = empties_operands s.tasks; named = tt };
       texts = all_append RowFits (task_rows 0 (empties s.tasks)) (end_rows []) (empties_fit s.tasks 0 (omega (arith, tasks))) end_fits;
       spelled = says.row;
     }

@@ -8,6 +8,7 @@ use Rattle.lapi_base.specs.declared.statement.Statement.{Statement}
 use Rattle.lapi_base.specs.declared.schedule.Line.{Line}
 use Rattle.lapi_base.specs.declared.script.Script.{Script}
 use Rattle.lapi_base.specs.declared.input.Input.{Input}
+use Rattle.lapi_base.specs.Packet.Layout.{is_version}
 use Rattle.lapi_base.specs.Input.Lines.{words_of, is_clean, is_skipped, read_words}
 use Rattle.lapi_base.specs.Input.Forms.{sized}
 use Rattle.lapi_base.specs.Input.Rows.{Column, IsRow, head_row, sizes_row, task_row, schedule_row, done_row, task_rows, script_rows, line_row, row_line, rows, IsRead, Begins, IsFirstFault}
@@ -79,15 +80,16 @@ start_completes script fit none =
     prepend _ (reading.Tasks script []) (task_row 0) (ap (λ r. head_row script.layout ∷ sizes_row script ∷ r) first) (task_fits 0 (lit< tt)) (tasks_complete script [] kept)
 
 -- the smallest sizes
-abbrev pub small : Script
-small = sized 1 2 64 0 1
+abbrev pub small : (layout : ℕ) → Script
+small layout = sized layout 2 64 0 1
 
-small_fit : Sized small
-small_fit = record { layout = refl; tasks = (omega arith, omega arith); memory = (omega arith, omega arith, refl); counters = omega arith; workers = (omega arith, omega arith) }
+small_fit : (layout : ℕ) → is_version layout ≡ true → Sized (small layout)
+small_fit layout is = record { layout = is; tasks = (omega arith, omega arith); memory = (omega arith, omega arith, refl); counters = omega arith; workers = (omega arith, omega arith) }
 
-pub second_completes : (layout : ℕ) → layout ≡ 1 → ScriptCompletes (reading.Second layout)
+pub second_completes : (layout : ℕ) → is_version layout ≡ true → ScriptCompletes (reading.Second layout)
 second_completes layout is =
-    prepend _ (reading.Start small) (sizes_row small) (ap (λ n. head_row n ∷ sizes_row small ∷ []) (sym is)) (sizes_fits small (omega arith) (omega arith) (omega arith) (omega arith)) (start_completes small small_fit refl)
+    let s = small layout in
+    prepend _ (reading.Start s) (sizes_row s) refl (sizes_fits s (omega arith) (omega arith) (omega arith) (omega arith)) (start_completes s (small_fit layout is) refl)
 
 pub first_completes : ScriptCompletes reading.First
 first_completes = prepend _ (reading.Second 1) (head_row 1) refl (head_fits 1 refl) (second_completes 1 refl)

@@ -12,7 +12,7 @@ use Rattle.lapi_base.specs.declared.statement.Statement.{Statement}
 use Rattle.lapi_base.specs.declared.schedule.Line.{Line}
 use Rattle.lapi_base.specs.declared.script.Script.{Script}
 use Rattle.lapi_base.specs.declared.input.Input.{Input}
-use Rattle.lapi_base.specs.Packet.Layout.{layout_of, most_lines}
+use Rattle.lapi_base.specs.Packet.Layout.{is_version, layout_of, most_lines}
 use Rattle.lapi_base.specs.Record.Valid.{ValidStatement, ValidScript, ValidSchedule, ValidLine}
 use Rattle.lapi_base.specs.Packet.Spelling.{spells_packet}
 use Rattle.lapi_base.specs.Input.Lines.{words_of, is_clean, is_skipped, read_words}
@@ -48,7 +48,7 @@ so_far (reading.Finished x) = rows x
 
 -- the sizes keep their limits
 pub record Sized (s : Script) : Type 0 where
-  pub layout : s.layout ≡ 1
+  pub layout : is_version s.layout ≡ true
   pub tasks : (2 ≤ s.tasks) × (s.tasks ≤ 8)
   pub memory : (64 ≤ s.memory) × (s.memory ≤ 65536) × (s.memory % 4 ≡ 0)
   pub counters : s.counters ≤ 64
@@ -71,7 +71,7 @@ pub record Fits (x : Input) : Type 0 where
 -- the limits that it keeps
 abbrev pub Keeps : State → Type 0
 Keeps reading.First = Unit {0}
-Keeps (reading.Second layout) = layout ≡ 1
+Keeps (reading.Second layout) = is_version layout ≡ true
 Keeps (reading.Start script) = Sized script × (script.lists ≡ [])
 Keeps (reading.Tasks script current) = TasksKeep script current
 Keeps (reading.Lines script schedule) = Fits (input_with script schedule)
@@ -140,7 +140,7 @@ schedule_keeps script current keeps is = record {
 
 -- ---- what a line adds
 
-pub checked_sizes_fit : (s t : Script) → s.layout ≡ 1 → checked_sizes s ≡ Ok t → (s ≡ t) × Sized s
+pub checked_sizes_fit : (s t : Script) → is_version s.layout ≡ true → checked_sizes s ≡ Ok t → (s ≡ t) × Sized s
 checked_sizes_fit s t layout e =
     let a = allowed _ _ _ t e in
     let b = allowed _ _ _ t a.1 in
@@ -232,13 +232,13 @@ line_adds : (script : Script) (schedule : List Line) (next : State) (words : Lis
     → Adds (reading.Lines script schedule) next words
 line_adds script schedule next words line keeps z e =
     let to : Result State LineError = Ok (reading.Lines script (schedule ++ line ∷ [])) in
-    let injected = within (keeps_injected script line.act) which.Bytes to in
+    let injected = within (keeps_injected line.act) which.Bytes to in
     let lane = within (nat_le line.lane 15) which.Lane injected in
     let lines = within (nat_lt (length schedule) (most_lines (layout_of script.layout))) which.Lines lane in
     let p = passed (names_known script line.act) lines next e in
     let a = allowed (nat_lt (length schedule) (most_lines (layout_of script.layout))) which.Lines lane next p.1 in
     let b = allowed (nat_le line.lane 15) which.Lane injected next a.1 in
-    let c = allowed (keeps_injected script line.act) which.Bytes to next b.1 in
+    let c = allowed (keeps_injected line.act) which.Bytes to next b.1 in
     let len : length (schedule ++ line ∷ []) ≡ length schedule + 1 = length-append schedule (line ∷ []) in
     let valid : ValidLine script spells_packet line = (leb-true _ _ b.0, valid_act script line.act (row_fit (line_row line) words z).1 p.0 c.0) in
     let kept : Fits (input_with script (schedule ++ line ∷ [])) = record {
@@ -262,15 +262,15 @@ unfolding step
 step_says reading.First next words keeps e =
     let h = bound (run head_form words) _ next e in
     let p = passed _ _ next h.2 in
-    subst (λ n. Adds reading.First n words) (same_Ok _ _ p.1) (record { keeps = eqb-true h.0 1 p.0; row = head_row h.0; rows = refl; spelled = head_says words h.0 h.1 })
+    subst (λ n. Adds reading.First n words) (same_Ok _ _ p.1) (record { keeps = p.0; row = head_row h.0; rows = refl; spelled = head_says words h.0 h.1 })
 step_says (reading.Second layout) next words keeps e =
     let h = bound (run (sizes_form layout) words) _ next e in
     let c = bound (checked_sizes h.0) _ next h.2 in
     second_adds layout h.0 c.0 next words keeps (sizes_says layout words h.0 h.1) c.1 (same_Ok _ _ c.2)
   where
-    second_adds : (layout : ℕ) (s t : Script) (next : State) (words : List (List ℕ)) → layout ≡ 1 → SizesSay layout s words → checked_sizes s ≡ Ok t → reading.Start t ≡ next → Adds (reading.Second layout) next words
+    second_adds : (layout : ℕ) (s t : Script) (next : State) (words : List (List ℕ)) → is_version layout ≡ true → SizesSay layout s words → checked_sizes s ≡ Ok t → reading.Start t ≡ next → Adds (reading.Second layout) next words
     second_adds layout s t next words is says checked to =
-        let fit = checked_sizes_fit s t (says.same_layout ∙ is) checked in
+        let fit = checked_sizes_fit s t (ap is_version says.same_layout ∙ is) checked in
         subst (λ n. Adds (reading.Second layout) n words) (ap (λ s. reading.Start s) fit.0 ∙ to) (record {
           keeps = (fit.1, says.none);
           row = sizes_row s;

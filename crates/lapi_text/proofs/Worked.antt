@@ -72,6 +72,9 @@ smallest_with put = record {
   schedule = line 0 (Step 0) ∷ line 0 (Step 0) ∷ line 0 (Poll 0) ∷ line 0 (Deliver 0 1 0) ∷ line 0 (Deliver 1 0 0) ∷ [];
 }
 
+abbrev in_layout : ℕ → Input → Input
+in_layout layout x = record x { script = record x.script { layout = layout } }
+
 smallest-read : reading (text_of smallest) ≡ Ok (smallest_with (put_to 16))
 unfolding reading
 smallest-read = refl
@@ -83,6 +86,10 @@ smallest-written = refl
 -- the smallest run with another line of this number, or one more behind the last
 abbrev pub with_line : ℕ → List ℕ → Result Input Fault
 with_line l text = reading (text_of (take (l - 1) smallest ++ text ∷ drop l smallest))
+
+second_layout : with_line 1 (codes "lapi 2") ≡ Ok (in_layout 2 (smallest_with (put_to 16)))
+unfolding reading
+second_layout = refl
 
 other_layout : with_line 1 (codes "lapi 3") ≡ Err (Syntax, 1)
 unfolding reading
@@ -236,6 +243,18 @@ greatest_lane : after (Lines (smallest_with (put_to 16)).script []) (codes "15 s
 unfolding reading
 greatest_lane = refl
 
+-- a schedule of n lines in a layout
+abbrev scheduled : (layout n : ℕ) → State
+scheduled layout n = Lines (in_layout layout (smallest_with (put_to 16))).script (replicate n (line 0 (Step 0)))
+
+last_line : after (scheduled 2 4999) (codes "0 step 0") ≡ Ok (scheduled 2 5000)
+unfolding reading
+last_line = refl
+
+line_too_many : (after (scheduled 2 5000) (codes "0 step 0") ≡ Err (Limit which.Lines)) × (after (scheduled 1 20000) (codes "0 step 0") ≡ Err (Limit which.Lines))
+unfolding reading
+line_too_many = (refl, refl)
+
 -- a task with n statements
 abbrev pub filled : ℕ → State
 filled n = Tasks (sized 1 2 64 4 1) (replicate n (Read 0))
@@ -273,7 +292,7 @@ longest_header = (refl, refl)
 abbrev injected : ℕ → Act
 injected n = Inject 0 1 (replicate n 0)
 
-most_bytes_injected : (keeps_injected (sized 1 2 64 0 1) (injected 640) ≡ true) × (keeps_injected (sized 1 2 64 0 1) (injected 641) ≡ false)
+most_bytes_injected : (keeps_injected (injected 1280) ≡ true) × (keeps_injected (injected 1281) ≡ false)
 unfolding keeps_injected
 most_bytes_injected = (refl, refl)
 
@@ -479,6 +498,12 @@ cut_packet = refl
 packet_injected : after (Lines (smallest_with (put_to 16)).script []) (codes "16 inject 1 0 4c010201000000000100000000") ≡ Err Syntax
 unfolding reading spells_packet packet_form front_form packet.task_form kind_form acknowledgement_form
 packet_injected = refl
+
+-- whatever the script's layout
+second_packet_injected : (after (Lines (smallest_with (put_to 16)).script []) (codes "0 inject 1 0 4c0202010000000001ffffffff00000000") ≡ Err Syntax)
+    × (after (scheduled 2 0) (codes "0 inject 1 0 4c010201000000000100000000") ≡ Err Syntax)
+unfolding reading spells_packet packet_form front_form packet.task_form kind_form acknowledgement_form
+second_packet_injected = (refl, refl)
 
 cut_packet_injected : after (Lines (smallest_with (put_to 16)).script []) (codes "0 inject 1 0 4C0102010000000001000000") ≡ Ok (Lines (smallest_with (put_to 16)).script (line 0 (Inject 1 0 (take 12 acknowledgement)) ∷ []))
 unfolding reading spells_packet packet_form front_form packet.task_form kind_form acknowledgement_form
