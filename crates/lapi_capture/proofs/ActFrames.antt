@@ -18,20 +18,24 @@ use Rattle.lapi_base.specs.declared.schedule.Act.{Act}
 use Rattle.lapi_base.specs.declared.schedule.Act.TheVariants.{Step, Poll, Tick, Deliver, Cut, Inject}
 use Rattle.lapi_base.specs.declared.script.Script.{Script}
 use Rattle.lapi_base.specs.Output.CaptureBytes.{bytes_of, capture, capture_of, frame, frames, frames_of}
-use Rattle.lapi_base.specs.Packet.Layout.{First, longest_packet, layout_of, most_injected, unit, unit_of}
+use Rattle.lapi_base.specs.Packet.Layout.{Layout, First, Second, layout_of, longest_packet, most_injected, unit, unit_of}
+use Rattle.lapi_base.specs.Laws.Entries.{IsOfNumber, layout_in}
 use Rattle.lapi_base.specs.Packet.PacketBytes.{packet, packet_size}
 use Rattle.lapi_base.specs.Packet.Spelling.{Spells, decoded, refusal, spells_packet}
 use Rattle.lapi_base.specs.Record.Acts.{after, cut_entry, deliver, deliver_entry, first_delivery, hand_over, handed_by, perform, reply_with, run_of}
 use Rattle.lapi_base.specs.Record.Arrived.{count_of, has_fragment}
 use Rattle.lapi_base.specs.Record.Fragments.{fragments_in}
 use Rattle.lapi_base.specs.Record.Operations.{receiver, sender}
+use Rattle.lapi_base.specs.Record.Packets.{data_packet}
 use Rattle.lapi_base.specs.Record.Valid.{ValidAct, ValidRules, ValidScript}
 use Rattle.lapi_base.specs.Record.Wires.{Run, IsEntry, is_delivered, start}
 use Rattle.lapi_base.specs.Record.WorldView.{IsRecord, performed, record_of}
 use Rattle.lapi_base.proofs.HeldPackets.{fragment-there}
+use Rattle.lapi_base.proofs.ListLaws.{all-get}
 use Rattle.lapi_laws.proofs.HandedOver.{perform-adds}
 use Rattle.lapi_parts.proofs.ArrivingPackets.{arrivals-told, repeats-known}
 use Rattle.lapi_parts.proofs.Deliveries.{delivered, facts}
+use Rattle.lapi_parts.proofs.ExactBytes.{put-of-number}
 use Rattle.lapi_parts.proofs.LineEvents.{IsDelivery, line-adds}
 use Rattle.lapi_parts.proofs.LinesTaken.{more-record, start-record}
 use Rattle.lapi_parts.proofs.Receivable.{new-open, packets-fit}
@@ -49,13 +53,20 @@ use Rattle.lapi_capture.proofs.RecordFrames.{Goes, Told, no-frame, one-frame, pl
 and-refl : (a b : ℕ) → (a == a && b == b) ≡ true
 and-refl a b = and_from _ _ (eq-eqb a a refl) (eq-eqb b b refl)
 
+most : (layout : Layout) → longest_packet layout ≤ 1280
+most First = omega arith
+most Second = omega arith
+
 -- what laws of spellings say
 module _
     (round_trip : (p : Packet) (bytes : List ℕ) → Spells p bytes → decoded bytes ≡ Ok p)
     (cuts : (p : Packet) (front more : List ℕ) → Spells p (front ++ more) → more ≢ [] → decoded front ≡ Err (record { place = length front; reason = Short }))
-    (longest : (p : Packet) (bytes : List ℕ) → Spells p bytes → length bytes ≤ longest_packet First)
+    (longest : (p : Packet) (bytes : List ℕ) → Spells p bytes → length bytes ≤ longest_packet (layout_of (layout_in p)))
     (script : Script) (rules : Rules) (valid : ValidScript script) (few : ValidRules rules)
   where
+    short : (p : Packet) (bytes : List ℕ) → Spells p bytes → length bytes ≤ 1280
+    short p bytes spelled = let l = longest p bytes spelled in let m = most (layout_of (layout_in p)) in omega arith
+
     small : (a : ℕ) → a < script.tasks → a ≤ 7
     small a lt = let tasks : script.tasks ≤ 8 = valid.tasks.1 in omega arith
 
@@ -70,7 +81,7 @@ module _
         ap is_ok (cuts p (take n (packet p)) (drop n (packet p)) (subst (Spells p) (sym (take-append-drop n (packet p))) spelled) (no-rest (packet p) n lt))
 
     front-short : (p : Packet) (n : ℕ) → Spells p (packet p) → length (take n (packet p)) ≤ 1280
-    front-short p n spelled = let l : length (packet p) ≤ 407 = longest p (packet p) spelled in omega (arith, l, length-take n (packet p))
+    front-short p n spelled = let l = short p (packet p) spelled in omega (arith, l, length-take n (packet p))
 
     module _ (acts : List Act) (r : Run) (is : IsRecord script rules r) (t : Told script acts r) (room : length acts < 20000) where
       module _ (a b : ℕ) (la : a < script.tasks) (lb : b < script.tasks) where
@@ -90,11 +101,10 @@ module _
               | false ↦ λ ge. no-frame script acts act r (reply_with script rules r Absent) t (stays script rules r act Absent tt) refl t.parts refl
             ] refl
 
-        inject-told : (bytes : List ℕ) → length bytes ≤ most_injected (layout_of script.layout) → spells_packet bytes ≡ false → Told script (acts ++ Inject a b bytes ∷ []) (reply_with script rules r (Bad (refusal bytes)))
-        inject-told bytes short none =
-            let l : length bytes ≤ 640 = subst (λ n. length bytes ≤ most_injected (layout_of n)) valid.layout short in
+        inject-told : (bytes : List ℕ) → length bytes ≤ most_injected → spells_packet bytes ≡ false → Told script (acts ++ Inject a b bytes ∷ []) (reply_with script rules r (Bad (refusal bytes)))
+        inject-told bytes fits none =
             plain-frame script acts (Inject a b bytes) r (reply_with script rules r (Bad (refusal bytes))) t (stays script rules r (Inject a b bytes) (Bad (refusal bytes)) tt) (frame a b bytes) refl room
-            (frame-is a b bytes (small a la) (small b lb) (omega (arith, l))) (no-part a b bytes none) t.parts refl
+            (frame-is a b bytes (small a la) (small b lb) fits) (no-part a b bytes none) t.parts refl
 
         -- ---- an entry that is handed over
 
@@ -109,16 +119,16 @@ module _
           replies-by : (q : Packet) → (reply_with script rules (hand_over script rules r a b q) Did).replies ≡ r.replies ++ Did ∷ []
           unfolding hand_over
           replies-by (Data q) = refl
-          replies-by (Ack x y base bits) = refl
+          replies-by (Ack layout x y base bits) = refl
 
           handed-by : (q : Packet) → (reply_with script rules (hand_over script rules r a b q) Did).handed ≡ (λ x y. cond (x == a && y == b) (q ∷ r.handed x y) (r.handed x y))
           unfolding hand_over
           handed-by (Data q) = refl
-          handed-by (Ack x y base bits) = refl
+          handed-by (Ack layout x y base bits) = refl
 
-          journal-by : (x y base bits : ℕ) → (reply_with script rules (hand_over script rules r a b (Ack x y base bits)) Did).journal ≡ r.journal
+          journal-by : (layout x y base bits : ℕ) → (reply_with script rules (hand_over script rules r a b (Ack layout x y base bits)) Did).journal ≡ r.journal
           unfolding hand_over
-          journal-by x y base bits = refl
+          journal-by layout x y base bits = refl
 
           longer : Longer r after-delivery
           unfolding after-delivery performed
@@ -142,17 +152,17 @@ module _
           spelled = packets-written script rules r is valid few a b k p at
 
           frame-fits : IsFrame (frame a b (packet p))
-          frame-fits = let l : length (packet p) ≤ 407 = longest p (packet p) spelled in frame-is a b (packet p) (small a la) (small b lb) (omega (arith, l))
+          frame-fits = frame-is a b (packet p) (small a la) (small b lb) (short p (packet p) spelled)
 
-        ack-delivered : (k x y base bits : ℕ) → IsEntry r a b k (Ack x y base bits) → Told script (acts ++ Deliver a b k ∷ []) (performed script rules r (Deliver a b k))
+        ack-delivered : (k layout x y base bits : ℕ) → IsEntry r a b k (Ack layout x y base bits) → Told script (acts ++ Deliver a b k ∷ []) (performed script rules r (Deliver a b k))
         unfolding after-delivery goes performed
-        ack-delivered k x y base bits at =
-            let p = Ack x y base bits in
+        ack-delivered k layout x y base bits at =
+            let p = Ack layout x y base bits in
             let s = performed script rules r (Deliver a b k) in
             plain-frame script acts (Deliver a b k) r s t (goes k p at) (frame a b (packet p)) (frame-one k p at) room (frame-fits k p at)
-            (ack-told a b (small a la) (small b lb) x y base bits (packets-placed script rules r is a b k p at).2 (round_trip p (packet p) (spelled k p at)))
-            (subst (Same script (parts_of t.whole)) (sym (handed-is k p at)) (same-ack script (parts_of t.whole) r.handed a b x y base bits t.parts))
-            (ap (λ (s : Run). s.journal) (by-entry k p at) ∙ journal-by k p at x y base bits)
+            (ack-told a b (small a la) (small b lb) layout x y base bits (packets-placed script rules r is a b k p at).2 (round_trip p (packet p) (spelled k p at)))
+            (subst (Same script (parts_of t.whole)) (sym (handed-is k p at)) (same-ack script (parts_of t.whole) r.handed a b layout x y base bits t.parts))
+            (ap (λ (s : Run). s.journal) (by-entry k p at) ∙ journal-by k p at layout x y base bits)
 
         module _ (k : ℕ) (p : DataPacket) (at : IsEntry r a b k (Data p)) where
           abbrev s : Run
@@ -161,8 +171,12 @@ module _
           came : p.to ≡ receiver script p.name
           came = (packets-placed script rules r is a b k (Data p) at).2.1 ∙ sym (facts script rules r is a b k p at).place
 
+          laid-out : p.layout ≡ script.layout
+          unfolding data_packet
+          laid-out = ap layout_in (all-get (IsOfNumber script rules r.journal a b) (r.wire a b) k (Data p) (put-of-number script rules r is a b) at).1
+
           of-script : IsOfScript script (part_in p)
-          of-script = (refl, (facts script rules r is a b k p at).size)
+          of-script = (laid-out, (facts script rules r is a b k p at).size)
 
           abbrev ps : List Part
           ps = parts_of t.whole
@@ -191,7 +205,7 @@ module _
 
           count-same : count_of script p.length ≡ count (part_in p)
           unfolding count_of unit_of
-          count-same = ap (λ l. fragments_in (unit (layout_of l)) p.length) valid.layout
+          count-same = ap (λ l. fragments_in (unit (layout_of l)) p.length) (sym laid-out)
 
           -- what the frame lands is what its delivery adds to the journal
           lands-are : (known : Bool) → is_delivered r a b p.seq ≡ known → cond (lands ps (part_in p)) (here ∷ []) [] ≡ filter_map (landed script) (cond known [] (first_delivery script rules r a b p.name p.seq))
@@ -203,7 +217,7 @@ module _
               let lt = (packets-fit script rules r is valid few a b k p at).fragment in
               ap (λ c. cond c (here ∷ []) []) (
               new-lands script p came ps (before p.fragment ∙ missing) (subst (λ n. p.fragment < n) count-same lt)
-              ∙ whole-same script p came (part_in p ∷ ps) (Data p ∷ r.handed a b) valid.layout with-it
+              ∙ whole-same script p came (part_in p ∷ ps) (Data p ∷ r.handed a b) laid-out with-it
               )
               ∙ sym (ap (filter_map (landed script)) (arrivals-told script rules r is a b k p at) ∙ comes-landed script rules (r.handed a b) p)
 
@@ -244,7 +258,7 @@ module _
             subst (Told script (acts ++ Deliver a b k ∷ [])) (sym (absent k at))
             (no-frame script acts (Deliver a b k) r (reply_with script rules r Absent) t (stays script rules r (Deliver a b k) Absent tt) refl t.parts refl)
         deliver-told k (Some (Data p)) at = data-delivered k p at
-        deliver-told k (Some (Ack x y base bits)) at = ack-delivered k x y base bits at
+        deliver-told k (Some (Ack layout x y base bits)) at = ack-delivered k layout x y base bits at
 
       -- ---- all other acts
 

@@ -9,7 +9,7 @@ use Rattle.lapi_base.specs.declared.packet.Packet.{Packet}
 use Rattle.lapi_base.specs.declared.packet.Packet.TheVariants.{Data, Ack}
 use Rattle.lapi_base.specs.declared.reply.Reason.{Reason}
 use Rattle.lapi_base.specs.Packet.Format.{Format, Done, Field, ◌>>=◌, and_then, bytes_form, number_at, reading, whole}
-use Rattle.lapi_base.specs.Packet.Layout.{Layout, First, Second, unit, longest}
+use Rattle.lapi_base.specs.Packet.Layout.{Layout, First, Second, layout_of, unit, longest, longest_active}
 use Rattle.lapi_base.specs.Packet.Heads.{operation_form, head_form}
 use Rattle.lapi_base.specs.Packet.Spelling.{packet_form, data_form, name_form, fragment_form, length_form, is_length, decoded, front_form, acknowledgement_form}
 use Rattle.lapi_base.specs.Record.Fragments.{fragments_in}
@@ -50,7 +50,7 @@ whole_read size (Err (left, why)) x is = absurd (cc)
 
 abbrev HasFew : Packet → Type 0
 HasFew (Data p) = p.fragment < 64
-HasFew (Ack from to base bits) = 0 ≤ 0
+HasFew (Ack layout from to base bits) = 0 ≤ 0
 
 of_either : (P : Type 0) (b x y : Bool) → cond b x y ≡ true → (x ≡ true → P) → (y ≡ true → P) → P
 of_either P true x y h one other = one h
@@ -63,8 +63,14 @@ word_fits : (layout : Layout) (n : ℕ) → (n == 4) ≡ true → n ≤ longest 
 word_fits First n h = let e : n ≡ 4 = eqb-true n 4 h in omega (arith, e)
 word_fits Second n h = let e : n ≡ 4 = eqb-true n 4 h in omega (arith, e)
 
+active_fits : (layout : Layout) (n : ℕ) → nat_le n (longest_active layout) ≡ true → n ≤ longest layout
+active_fits First n h = leb-true n 16384 h
+active_fits Second n h = let l : n ≤ 16384 = leb-true n 16384 h in omega (arith, l)
+
 length_fits : (layout : Layout) (leg : Leg) (op n : ℕ) → is_length layout leg op n ≡ true → n ≤ longest layout
-length_fits layout Go op n h = of_either (n ≤ longest layout) (op == 2 || op == 4 || op == 5) (n == 0) (nat_le n (longest layout)) h (zero_fits layout n) (leb-true n (longest layout))
+length_fits layout Go op n h =
+    of_either (n ≤ longest layout) (op == 2 || op == 4 || op == 5) (n == 0) (cond (op == 6) (nat_le n (longest_active layout)) (nat_le n (longest layout))) h (zero_fits layout n)
+    (λ other. of_either (n ≤ longest layout) (op == 6) (nat_le n (longest_active layout)) (nat_le n (longest layout)) other (active_fits layout n) (leb-true n (longest layout)))
 length_fits layout Back op n h = of_either (n ≤ longest layout) (op == 5) (n == 4) (nat_le n (longest layout)) h (word_fits layout n) (leb-true n (longest layout))
 length_fits layout Note op n h = zero_fits layout n h
 length_fits layout Echo op n h = word_fits layout n h
@@ -74,14 +80,15 @@ few_in : (layout : Layout) (size j : ℕ) → size ≤ longest layout → j < fr
 few_in First size j fits lt = omega (arith, fits, lt)
 few_in Second size j fits lt = omega (arith, fits, lt)
 
-data_keeps : (layout : Layout) (from to : ℕ) → Keeps HasFew (data_form layout from to)
+data_keeps : (layout from to : ℕ) → Keeps HasFew (data_form layout from to)
 unfolding data_form length_form fragment_form
 data_keeps layout from to = λ seq _.
-    keeps_bind HasFew (name_form from to) _ (λ name. keeps_bind HasFew (operation_form name.leg) _ (λ op. λ size fits. λ fragment lt.
-    keeps_bind HasFew (head_form layout name.leg op size) _ (λ head. keeps_bind HasFew (bytes_form _) _ (λ payload.
-    few_in layout size fragment (length_fits layout name.leg op size fits) (ltb-true fragment (fragments_in (unit layout) size) lt)))))
+    let l = layout_of layout in
+    keeps_bind HasFew (name_form l from to) _ (λ name. keeps_bind HasFew (operation_form name.leg) _ (λ op. λ size fits. λ fragment lt.
+    keeps_bind HasFew (head_form l name.leg op size) _ (λ head. keeps_bind HasFew (bytes_form _) _ (λ payload.
+    few_in l size fragment (length_fits l name.leg op size fits) (ltb-true fragment (fragments_in (unit l) size) lt)))))
 
-ack_keeps : (layout : Layout) (from to : ℕ) → Keeps HasFew (acknowledgement_form layout from to)
+ack_keeps : (layout from to : ℕ) → Keeps HasFew (acknowledgement_form layout from to)
 unfolding acknowledgement_form
 ack_keeps layout from to = λ base _. λ bits _. omega arith
 

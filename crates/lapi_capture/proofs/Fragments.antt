@@ -45,19 +45,19 @@ module _ (script : Script) where
 
   -- a part is one of the script's messages
   abbrev pub IsOfScript : Part → Type 0
-  IsOfScript part = (part.version ≡ 1) × (part.length ≡ message_length script part.message.name)
+  IsOfScript part = (part.layout ≡ script.layout) × (part.length ≡ message_length script part.message.name)
 
   pub agrees : (part : Part) (ps : List Part) → IsOfScript part → AllByRecursion IsOfScript ps → list_any (disagrees part) ps ≡ false
   agrees part ps is all = none-any (disagrees part) ps (each ps all)
     where
-      lengths : (e : Part) → IsOfScript e → is_same e.message part.message ≡ true → (part.version == e.version && part.length == e.length) ≡ true
+      lengths : (e : Part) → IsOfScript e → is_same e.message part.message ≡ true → (part.layout == e.layout && part.length == e.length) ≡ true
       lengths e of same =
           let name = name_eq-true e.message.name part.message.name (and_parts _ _ same).0 in
-          and_from _ _ (eq-eqb part.version e.version (is.0 ∙ sym of.0)) (eq-eqb part.length e.length (is.1 ∙ sym (ap (message_length script) name) ∙ sym of.1))
+          and_from _ _ (eq-eqb part.layout e.layout (is.0 ∙ sym of.0)) (eq-eqb part.length e.length (is.1 ∙ sym (ap (message_length script) name) ∙ sym of.1))
 
       one : (e : Part) → IsOfScript e → disagrees part e ≡ false
       one e of =
-          elim (is_same e.message part.message) as (λ t. is_same e.message part.message ≡ t → (t && not (part.version == e.version && part.length == e.length)) ≡ false) [
+          elim (is_same e.message part.message) as (λ t. is_same e.message part.message ≡ t → (t && not (part.layout == e.layout && part.length == e.length)) ≡ false) [
             | true ↦ λ same. ap not (lengths e of same)
             | false ↦ λ same. refl
           ] refl
@@ -67,11 +67,11 @@ module _ (script : Script) where
       each (e ∷ es) h = (one e h.0, each es h.1)
 
   -- an acknowledgement that was handed over tells of none
-  pub same-ack : (ps : List Part) (handed : (from to : ℕ) → List Packet) (a b x y base bits : ℕ) → Same ps handed
-      → Same ps (λ u v. cond (u == a && v == b) (Ack x y base bits ∷ handed u v) (handed u v))
+  pub same-ack : (ps : List Part) (handed : (from to : ℕ) → List Packet) (a b layout x y base bits : ℕ) → Same ps handed
+      → Same ps (λ u v. cond (u == a && v == b) (Ack layout x y base bits ∷ handed u v) (handed u v))
   unfolding has_fragment
-  same-ack ps handed a b x y base bits same m j =
-      cond_both (sender script m == a && receiver script m == b) (Ack x y base bits ∷ handed (sender script m) (receiver script m)) (handed (sender script m) (receiver script m)) (λ hs. has ps (incoming m) j ≡ has_fragment hs m j)
+  same-ack ps handed a b layout x y base bits same m j =
+      cond_both (sender script m == a && receiver script m == b) (Ack layout x y base bits ∷ handed (sender script m) (receiver script m)) (handed (sender script m) (receiver script m)) (λ hs. has ps (incoming m) j ≡ has_fragment hs m j)
       (λ _. same m j) (λ _. same m j)
 
   module _ (p : DataPacket) (to : p.to ≡ receiver script p.name) where
@@ -107,10 +107,10 @@ module _ (script : Script) where
         ] refl
 
     -- a message is whole by its parts where it is by its packets
-    pub whole-same : (ps : List Part) (hs : List Packet) → script.layout ≡ 1 → ((j : ℕ) → has ps (part_in p).message j ≡ has_fragment hs p.name j) → is_whole ps (part_in p) ≡ whole_by (count_of script p.length) hs p.name
+    pub whole-same : (ps : List Part) (hs : List Packet) → p.layout ≡ script.layout → ((j : ℕ) → has ps (part_in p).message j ≡ has_fragment hs p.name j) → is_whole ps (part_in p) ≡ whole_by (count_of script p.length) hs p.name
     unfolding whole_by count_of unit_of
     whole-same ps hs layout same =
-        ap (λ l. every_below (fragments_in (unit (layout_of l)) p.length) (has ps (part_in p).message)) (sym layout)
+        ap (λ l. every_below (fragments_in (unit (layout_of l)) p.length) (has ps (part_in p).message)) layout
         ∙ (λ i. every_below (fragments_in (unit (layout_of script.layout)) p.length) (λ j. same j i))
 
     -- with a fragment that is there already nothing lands

@@ -12,7 +12,7 @@ use Rattle.lapi_base.specs.Packet.PacketBytes.{packet}
 use Rattle.lapi_base.specs.Packet.Spelling.{decoded, spells_packet}
 use Rattle.lapi_capture.specs.declared.part.Part.{Part}
 use Rattle.lapi_capture.specs.Captures.{IsFrame}
-use Rattle.lapi_capture.specs.Format.{byte_at, size_of, part_by, part_of, is_addressed_by, is_addressed}
+use Rattle.lapi_capture.specs.Format.{size_of, part_by, part_of, is_addressed_by, is_addressed}
 
 module _ (a b : ℕ) (bytes : List ℕ) where
   size-is : length bytes ≤ 1280 → size_of (frame a b bytes) ≡ length bytes
@@ -32,15 +32,15 @@ module _ (a b : ℕ) (bytes : List ℕ) where
   none-told : (d : Result Packet Bad) → decoded bytes ≡ d → is_ok d ≡ false → (part_of (frame a b bytes) ≡ None) × (is_addressed (frame a b bytes) ≡ true)
   unfolding part_of is_addressed
   none-told (Ok p) e unspelled = absurd (false≢true (sym unspelled))
-  none-told (Err bad) e unspelled = (ap (part_by (byte_at bytes 1)) e, ap (is_addressed_by (a % 256) (b % 256)) e)
+  none-told (Err bad) e unspelled = (ap part_by e, ap (is_addressed_by (a % 256) (b % 256)) e)
 
   pub no-part : spells_packet bytes ≡ false → (part_of (frame a b bytes) ≡ None) × (is_addressed (frame a b bytes) ≡ true)
   unfolding spells_packet
   no-part unspelled = none-told (decoded bytes) refl unspelled
 
--- a data packet's part, as its layout is the first
+-- a data packet's part
 abbrev pub part_in : DataPacket → Part
-part_in p = record { message = record { name = p.name; to = p.to }; version = 1; length = p.length; fragment = p.fragment }
+part_in p = record { message = record { name = p.name; to = p.to }; layout = p.layout; length = p.length; fragment = p.fragment }
 
 module _ (a b : ℕ) (la : a ≤ 7) (lb : b ≤ 7) where
   ends-are : (x y : ℕ) → x ≡ a → y ≡ b → (x == (a % 256) && y == (b % 256)) ≡ true
@@ -49,9 +49,9 @@ module _ (a b : ℕ) (la : a ≤ 7) (lb : b ≤ 7) where
   pub data-told : (p : DataPacket) → GoesFrom a b (Data p) → decoded (packet (Data p)) ≡ Ok (Data p)
       → (part_of (frame a b (packet (Data p))) ≡ Some (part_in p)) × (is_addressed (frame a b (packet (Data p))) ≡ true)
   unfolding part_of is_addressed
-  data-told p goes read = (ap (part_by 1) read, ap (is_addressed_by (a % 256) (b % 256)) read ∙ ends-are p.from p.to goes.0 goes.1)
+  data-told p goes read = (ap part_by read, ap (is_addressed_by (a % 256) (b % 256)) read ∙ ends-are p.from p.to goes.0 goes.1)
 
-  pub ack-told : (x y base bits : ℕ) → GoesFrom a b (Ack x y base bits) → decoded (packet (Ack x y base bits)) ≡ Ok (Ack x y base bits)
-      → (part_of (frame a b (packet (Ack x y base bits))) ≡ None) × (is_addressed (frame a b (packet (Ack x y base bits))) ≡ true)
+  pub ack-told : (layout x y base bits : ℕ) → GoesFrom a b (Ack layout x y base bits) → decoded (packet (Ack layout x y base bits)) ≡ Ok (Ack layout x y base bits)
+      → (part_of (frame a b (packet (Ack layout x y base bits))) ≡ None) × (is_addressed (frame a b (packet (Ack layout x y base bits))) ≡ true)
   unfolding part_of is_addressed
-  ack-told x y base bits goes read = (ap (part_by 1) read, ap (is_addressed_by (a % 256) (b % 256)) read ∙ ends-are x y goes.0 goes.1)
+  ack-told layout x y base bits goes read = (ap part_by read, ap (is_addressed_by (a % 256) (b % 256)) read ∙ ends-are x y goes.0 goes.1)

@@ -45,18 +45,18 @@ Agree [] = 0 ≤ 0
 Agree (part ∷ before) = (list_any (disagrees part) before ≡ false) × (part.fragment < 64) × Agree before
 
 -- as one part disagrees, so does another of the same message, layout and length
-same_kind : (a b : Part) (earlier : List Part) → a.message ≡ b.message → a.version ≡ b.version → a.length ≡ b.length → list_any (disagrees a) earlier ≡ list_any (disagrees b) earlier
-same_kind a b earlier message version len =
-    ap (λ (m : Incoming). list_any (λ (e : Part). is_same e.message m && not (a.version == e.version && a.length == e.length)) earlier) message
-    ∙ ap (λ (v : ℕ). list_any (λ (e : Part). is_same e.message b.message && not (v == e.version && a.length == e.length)) earlier) version
-    ∙ ap (λ (n : ℕ). list_any (λ (e : Part). is_same e.message b.message && not (b.version == e.version && n == e.length)) earlier) len
+same_kind : (a b : Part) (earlier : List Part) → a.message ≡ b.message → a.layout ≡ b.layout → a.length ≡ b.length → list_any (disagrees a) earlier ≡ list_any (disagrees b) earlier
+same_kind a b earlier message layout len =
+    ap (λ (m : Incoming). list_any (λ (e : Part). is_same e.message m && not (a.layout == e.layout && a.length == e.length)) earlier) message
+    ∙ ap (λ (l : ℕ). list_any (λ (e : Part). is_same e.message b.message && not (l == e.layout && a.length == e.length)) earlier) layout
+    ∙ ap (λ (n : ℕ). list_any (λ (e : Part). is_same e.message b.message && not (b.layout == e.layout && n == e.length)) earlier) len
 
 -- the newest part of a message tells whether another one disagrees with any
 newest_tells : (part p : Part) (before : List Part) → p.message ≡ part.message → list_any (disagrees p) before ≡ false
-    → (kind : Bool) → (part.version == p.version && part.length == p.length) ≡ kind → not kind ≡ (not kind || list_any (disagrees part) before)
+    → (kind : Bool) → (part.layout == p.layout && part.length == p.length) ≡ kind → not kind ≡ (not kind || list_any (disagrees part) before)
 newest_tells part p before same agrees true e =
-    let both = and_parts (part.version == p.version) (part.length == p.length) e in
-    sym (same_kind part p before (sym same) (eqb-true part.version p.version both.0) (eqb-true part.length p.length both.1) ∙ agrees)
+    let both = and_parts (part.layout == p.layout) (part.length == p.length) e in
+    sym (same_kind part p before (sym same) (eqb-true part.layout p.layout both.0) (eqb-true part.length p.length both.1) ∙ agrees)
 newest_tells part p before same agrees false e = refl
 
 pub differs_is : (parts : List Part) → Agree parts → (part : Part) → differs (entries_of parts) part ≡ list_any (disagrees part) parts
@@ -64,8 +64,8 @@ unfolding entries_of
 differs_is [] agree part = refl
 differs_is (p ∷ before) agree part =
     ap (λ seen. differs_from seen part) (inserted (entries_of before) p.message (seen_with (entries_of before) p) part.message)
-    ∙ elim (is_same p.message part.message) as (λ b. is_same p.message part.message ≡ b → differs_from (cond b (Some (seen_with (entries_of before) p)) (entry (entries_of before) part.message)) part ≡ ((b && not (part.version == p.version && part.length == p.length)) || list_any (disagrees part) before)) [
-      | true ↦ λ h. newest_tells part p before (same_true p.message part.message h) agree.0 (part.version == p.version && part.length == p.length) refl
+    ∙ elim (is_same p.message part.message) as (λ b. is_same p.message part.message ≡ b → differs_from (cond b (Some (seen_with (entries_of before) p)) (entry (entries_of before) part.message)) part ≡ ((b && not (part.layout == p.layout && part.length == p.length)) || list_any (disagrees part) before)) [
+      | true ↦ λ h. newest_tells part p before (same_true p.message part.message h) agree.0 (part.layout == p.layout && part.length == p.length) refl
       | false ↦ λ h. differs_is before agree.2 part
     ] refl
 

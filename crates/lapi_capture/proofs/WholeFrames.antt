@@ -39,14 +39,14 @@ made r = r
 
 -- ---- the parts in frames agree
 
-few_by : (version : ℕ) (r : Result Packet Bad) (part : Part) → ((p : _) → r ≡ Ok (Data p) → p.fragment < 64) → part_by version r ≡ Some part → part.fragment < 64
-few_by version (Ok (Data p)) part few is = let same : p.fragment ≡ part.fragment = cc in let lt = few p refl in omega (arith, same, lt)
-few_by version (Ok (Ack from to base bits)) part few is = absurd (cc)
-few_by version (Err bad) part few is = absurd (cc)
+few_by : (r : Result Packet Bad) (part : Part) → ((p : _) → r ≡ Ok (Data p) → p.fragment < 64) → part_by r ≡ Some part → part.fragment < 64
+few_by (Ok (Data p)) part few is = let same : p.fragment ≡ part.fragment = cc in let lt = few p refl in omega (arith, same, lt)
+few_by (Ok (Ack layout from to base bits)) part few is = absurd (cc)
+few_by (Err bad) part few is = absurd (cc)
 
 few_parts : (f : List ℕ) (part : Part) → part_of f ≡ Some part → part.fragment < 64
 unfolding part_of
-few_parts f part is = few_by (byte_at (handed f) 1) (decoded (handed f)) part (few_fragments (handed f)) is
+few_parts f part is = few_by (decoded (handed f)) part (few_fragments (handed f)) is
 
 agree_more : (before : List Part) (part : Option Part) (addressed : Bool) → Agree before → ((p : Part) → part ≡ Some p → p.fragment < 64)
     → (not addressed || disagrees_with before part) ≡ false → Agree (with_part before part)

@@ -28,14 +28,14 @@ with_bit word j = bit_or word (1 * 2 ^ j % 2 ^ 64)
 -- a part's message has another layout or length in its entry
 abbrev pub differs_from : Option Seen → Part → Bool
 differs_from None part = false
-differs_from (Some seen) part = not (part.version == seen.version && part.length == seen.length)
+differs_from (Some seen) part = not (part.layout == seen.layout && part.length == seen.length)
 
 abbrev pub differs : Entries → Part → Bool
 differs entries part = differs_from (entry entries part.message) part
 
 -- with one part more
 abbrev pub seen_with : Entries → Part → Seen
-seen_with entries part = record { version = part.version; length = part.length; fragments = with_bit (bits entries part.message) part.fragment }
+seen_with entries part = record { layout = part.layout; length = part.length; fragments = with_bit (bits entries part.message) part.fragment }
 
 abbrev pub with_part : Entries → Part → Entries
 with_part entries part = insert_entry is_same entries part.message (seen_with entries part)

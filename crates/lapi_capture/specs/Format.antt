@@ -24,20 +24,20 @@ size_of frame = 256 * byte_at frame 2 + byte_at frame 3
 abbrev pub handed : List ℕ → List ℕ
 handed frame = drop FRONT frame
 
--- The part of a message, where what was handed over spells a data packet; a packet's second byte names its layout.
-abbrev pub part_by : (version : ℕ) → Result Packet Bad → Option Part
-part_by version (Ok (Data p)) =
-    Some (record { message = record { name = p.name; to = p.to }; version = version; length = p.length; fragment = p.fragment })
-part_by version (Ok (Ack sender receiver base bits)) = None
-part_by version (Err bad) = None
+-- the part of a message, where what was handed over spells a data packet
+abbrev pub part_by : Result Packet Bad → Option Part
+part_by (Ok (Data p)) =
+    Some (record { message = record { name = p.name; to = p.to }; layout = p.layout; length = p.length; fragment = p.fragment })
+part_by (Ok (Ack layout sender receiver base bits)) = None
+part_by (Err bad) = None
 
 unfoldable pub part_of : List ℕ → Option Part
-part_of frame = part_by (byte_at (handed frame) 1) (decoded (handed frame))
+part_of frame = part_by (decoded (handed frame))
 
 -- It spells no packet of other tasks than the frame's.
 abbrev pub is_addressed_by : (a b : ℕ) → Result Packet Bad → Bool
 is_addressed_by a b (Ok (Data p)) = p.from == a && p.to == b
-is_addressed_by a b (Ok (Ack sender receiver base bits)) = sender == a && receiver == b
+is_addressed_by a b (Ok (Ack layout sender receiver base bits)) = sender == a && receiver == b
 is_addressed_by a b (Err bad) = true
 
 unfoldable pub is_addressed : List ℕ → Bool

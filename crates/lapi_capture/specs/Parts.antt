@@ -15,7 +15,7 @@ is_same a b = name_eq a.name b.name && a.to == b.to
 
 -- a part's message had another layout or length in an earlier part
 abbrev pub disagrees : Part → (earlier : Part) → Bool
-disagrees part earlier = is_same earlier.message part.message && not (part.version == earlier.version && part.length == earlier.length)
+disagrees part earlier = is_same earlier.message part.message && not (part.layout == earlier.layout && part.length == earlier.length)
 
 -- a part is fragment j of a message
 abbrev pub is_fragment : Incoming → ℕ → Part → Bool
@@ -27,7 +27,7 @@ has parts message j = list_any (is_fragment message j) parts
 
 -- how many fragments a part's message has
 abbrev pub count : Part → ℕ
-count part = fragments_in (unit (layout_of part.version)) part.length
+count part = fragments_in (unit (layout_of part.layout)) part.length
 
 -- all fragments of a part's message are among these
 abbrev pub is_whole : List Part → Part → Bool

@@ -1,6 +1,6 @@
 ghost use Rattle.std.specs.Prelude.{◌≡◌, ◌<◌, ◌≤◌, length, IfSome};
 ghost use Rattle.lapi_base.specs.Packet.Spelling.{decoded};
-ghost use Rattle.lapi_capture.specs.Format.{byte_at, part_of, part_by, is_addressed, is_addressed_by};
+ghost use Rattle.lapi_capture.specs.Format.{part_of, part_by, is_addressed, is_addressed_by};
 
 use crate::format::{FRONT, byte_at};
 use crate::incoming::Incoming;
@@ -25,7 +25,7 @@ pub(crate) fn contents(frame: &[u8]) -> (bool, Option<Part>)
 #[tactic(auto, using(crate::proofs::FewFragments::few_fragments))]
 fn contents_of(from: u32, to: u32, bytes: &[u8]) -> (bool, Option<Part>)
     ensures addressed { result.0 ≡ is_addressed_by from to (decoded bytes.now) }
-    ensures part { result.1 ≡ part_by (byte_at bytes.now 1) (decoded bytes.now) }
+    ensures part { result.1 ≡ part_by (decoded bytes.now) }
     ensures few { IfSome result.1 (λ part. part.fragment < MOST_FRAGMENTS) }
 {
     match decode(bytes) {
@@ -44,7 +44,7 @@ fn contents_of(from: u32, to: u32, bytes: &[u8]) -> (bool, Option<Part>)
             };
             let part = Part {
                 message,
-                version: byte_at(bytes, 1),
+                layout: packet.layout,
                 length: packet.length,
                 fragment: packet.fragment,
             };

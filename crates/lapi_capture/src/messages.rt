@@ -40,7 +40,7 @@ impl Messages {
     {
         match self.seen.get(&part.message) {
             None => false,
-            Some(seen) => seen.version != part.version || seen.length != part.length,
+            Some(seen) => seen.layout != part.layout || seen.length != part.length,
         }
     }
 
@@ -53,7 +53,7 @@ impl Messages {
         let before = self.came(part.message);
         let after = before | 1 << part.fragment;
         let seen = Seen {
-            version: part.version,
+            layout: part.layout,
             length: part.length,
             fragments: after,
         };
