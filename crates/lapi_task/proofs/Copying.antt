@@ -8,3 +8,4 @@ pub mod CopySendable
 pub mod MessageCopies
 pub mod PollCopies
 pub mod UncopiedLaws
+pub mod Units

@@ -1,5 +1,4 @@
 pub mod AnswerLaws
-pub mod AnswerSpelled
 pub mod FollowerParts
 pub mod Followers
 pub mod HeaderAnswers
@@ -7,4 +6,5 @@ pub mod JobsLand
 pub mod JoinsLand
 pub mod KeptHeads
 pub mod Landings
+pub mod Leaving
 pub mod SpelledFollowers

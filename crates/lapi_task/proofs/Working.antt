@@ -1,7 +1,7 @@
 pub mod BeginLaws
 pub mod EffectLaws
+pub mod EndFollowers
 pub mod EndLaws
-pub mod EndNotes
 pub mod JobCounts
 pub mod JobsStay
 pub mod QueueLaws

@@ -52,5 +52,5 @@ Performs line before after old new =
 -- what bytes are told as: where they spell no packet, where they fail and why, else the packet's kind
 abbrev pub received_as : Result Packet Bad → Received
 received_as (Ok (packets.Data p)) = received.Data
-received_as (Ok (packets.Ack from to base bits)) = received.Ack
+received_as (Ok (packets.Ack layout from to base bits)) = received.Ack
 received_as (Err bad) = received.Refused bad

@@ -10,7 +10,7 @@ use Rattle.lapi_base.specs.declared.head.Head.TheVariants as heads
 use Rattle.lapi_base.specs.declared.head.NoteOp.{NoteOp}
 use Rattle.lapi_base.specs.declared.layout.TheConstants.{LONGEST_ACTIVE}
 use Rattle.lapi_base.specs.declared.message.Leg.{Leg}
-use Rattle.lapi_base.specs.declared.message.Leg.TheVariants.{Back, Note}
+use Rattle.lapi_base.specs.declared.message.Leg.TheVariants.{Back, Note, Echo}
 use Rattle.lapi_base.specs.declared.message.MsgName.{MsgName}
 use Rattle.lapi_base.specs.declared.packet.DataPacket.{DataPacket}
 use Rattle.lapi_base.specs.declared.packet.Packet.{Packet}
@@ -18,6 +18,7 @@ use Rattle.lapi_base.specs.declared.packet.Packet.TheVariants.{Data}
 use Rattle.lapi_base.specs.declared.script.Script.{Script}
 use Rattle.lapi_base.specs.declared.span.Span.{Span}
 use Rattle.lapi_base.specs.Laws.Receiving.{bytes_in}
+use Rattle.lapi_base.specs.Packet.Layout.{layout_of, unit}
 use Rattle.lapi_base.specs.Record.Handlers.{number_of, word_bytes}
 use Rattle.lapi_base.specs.Record.HeadSays.{is_active, announces, follows, head_pieces, back_head, asked_pieces, note_head}
 use Rattle.lapi_base.specs.Record.Names.{message}
@@ -34,16 +35,10 @@ use Rattle.lapi_link.specs.Receiver.{ReceivingEnd, ReceivesFor, MayArrive, MayTa
 use Rattle.lapi_link.specs.Sender.{SendingEnd}
 use Rattle.lapi_task.specs.Answered.{completes_in, kept_pieces, job_in}
 use Rattle.lapi_task.specs.Outgoing.{with_message, AreSpelled}
-use Rattle.lapi_task.specs.StandsFor.{task_unit}
 use Rattle.lapi_task.specs.declared.task.Task.{Task}
 use Rattle.lapi_task.specs.Counting.{announced}
 use Rattle.lapi_task.specs.HasRounds.{MayJoin, JoinsBy}
 use Rattle.lapi_task.specs.declared.collective.Collective.{Collective}
-
--- no completion handler sent the message
-abbrev pub IsDirect : Head → Type 0
-IsDirect (heads.Echo dest cmpl) = ⊥
-IsDirect _ = Unit {0}
 
 -- What its landing writes: the word that it makes of the one that stood there; its bytes, where the answer to its header
 -- keeps them; or its bytes, piece by piece;
@@ -66,9 +61,10 @@ pub record Follower : Type 0 where
   pub packet : DataPacket
   pub bytes : List ℕ
 
--- what the packets have in common, where task t sends this leg of message m to task a
-abbrev pub follower_packet : (t a : ℕ) → MsgName → Leg → Head → (length : ℕ) → DataPacket
-follower_packet t a m leg head len = record {
+-- what the packets have in common, where task t sends this leg of message m to task a in a layout
+abbrev pub follower_packet : (layout t a : ℕ) → MsgName → Leg → Head → (length : ℕ) → DataPacket
+follower_packet layout t a m leg head len = record {
+  layout = layout;
   from = t;
   to = a;
   seq = 0;
@@ -80,13 +76,20 @@ follower_packet t a m leg head len = record {
 }
 
 -- a notice, which has no bytes,
-abbrev pub note_of : (t a : ℕ) → MsgName → Head → Follower
-note_of t a m head = record { packet = follower_packet t a m Note head 0; bytes = [] }
+abbrev pub note_of : (layout t a : ℕ) → MsgName → Head → Follower
+note_of layout t a m head = record { packet = follower_packet layout t a m Note head 0; bytes = [] }
+
+-- the word that a completion handler has for the origin,
+abbrev pub echo_of : (layout t a : ℕ) → MsgName → (dest value : ℕ) → (cmpl : Option ℕ) → Follower
+echo_of layout t a m dest value cmpl = record {
+  packet = follower_packet layout t a m Echo (heads.Echo dest cmpl) 4;
+  bytes = word_bytes value;
+}
 
 -- and an answer with what stands at these pieces of a memory
-abbrev pub back_of : (t a : ℕ) → MsgName → (pieces : List Span) → (memory : List ℕ) → Head → Follower
-back_of t a m pieces memory head = record {
-  packet = follower_packet t a m Back head (bytes_in pieces);
+abbrev pub back_of : (layout t a : ℕ) → MsgName → (pieces : List Span) → (memory : List ℕ) → Head → Follower
+back_of layout t a m pieces memory head = record {
+  packet = follower_packet layout t a m Back head (bytes_in pieces);
   bytes = flat_map (λ p. bytes_at memory p.at p.len) pieces;
 }
 
@@ -96,10 +99,10 @@ note_now (heads.Am handler tgt cmpl header) completion = cond completion None (o
 note_now head completion = note_head head
 
 -- the message that follows the landing at task t of what came from task a, if one does
-abbrev pub follower : (t a : ℕ) → MsgName → Head → (completion : Bool) → (memory : List ℕ) → Option Follower
-follower t a m head completion memory =
-    option_or (option_map (back_of t a m (asked_pieces head) memory) (back_head head))
-    (option_map (note_of t a m) (note_now head completion))
+abbrev pub follower : (layout t a : ℕ) → MsgName → Head → (completion : Bool) → (memory : List ℕ) → Option Follower
+follower layout t a m head completion memory =
+    option_or (option_map (back_of layout t a m (asked_pieces head) memory) (back_head head))
+    (option_map (note_of layout t a m) (note_now head completion))
 
 -- the sending ends with its packets more at the end of its link
 abbrev pub with_follower_at : (unit : ℕ) → Follower → Option SendingEnd → List SendingEnd → List SendingEnd
@@ -119,7 +122,6 @@ pub record MayLeave (unit : ℕ) (x : Follower) : Type 0 where
 -- A message with so many bytes may land: its places, the places that it asks for and its counter are there, and its origin
 -- may join the round that it names.
 pub record HeadMayLand (a : ℕ) (head : Head) (completion : Bool) (len : ℕ) (memory counters : List ℕ) (collective : Collective) : Type 0 where
-  pub direct : IsDirect head
   pub pieces : AreWithin (head_pieces head len) (length memory)
   pub total : is_active head ≡ false → total_of (head_pieces head len) ≡ len
   pub asked : AreWithin (asked_pieces head) (length memory)
@@ -127,8 +129,9 @@ pub record HeadMayLand (a : ℕ) (head : Head) (completion : Bool) (len : ℕ) (
   pub joins : MayJoin a head collective
 
 -- what follows its landing, if a message does, may leave
-abbrev pub FollowerMayLeave : (unit t a : ℕ) → MsgName → Head → (completion : Bool) → (memory : List ℕ) → Type 0
-FollowerMayLeave unit t a m head completion memory = (x : Follower) → follower t a m head completion memory ≡ Some x → MayLeave unit x
+abbrev pub FollowerMayLeave : (layout t a : ℕ) → MsgName → Head → (completion : Bool) → (memory : List ℕ) → Type 0
+FollowerMayLeave layout t a m head completion memory =
+    (x : Follower) → follower layout t a m head completion memory ≡ Some x → MayLeave (unit (layout_of layout)) x
 
 -- the first fragment of a message that has come
 abbrev pub is_first : Arrival → Bool
@@ -159,10 +162,10 @@ abbrev pub counters_after : (count : ℕ) → Option Message → (counters : Lis
 counters_after count (Some m) counters = announced counters (announces m.head (completes_in count m.out))
 counters_after count None counters = counters
 
-abbrev pub ends_after : (unit t a count : ℕ) → Option Message → (memory : List ℕ) → (ends : List SendingEnd) → List SendingEnd
-ends_after unit t a count (Some m) memory ends =
-    with_follower unit (follower t a m.name m.head (completes_in count m.out) memory) ends
-ends_after unit t a count None memory ends = ends
+abbrev pub ends_after : (layout t a count : ℕ) → Option Message → (memory : List ℕ) → (ends : List SendingEnd) → List SendingEnd
+ends_after layout t a count (Some m) memory ends =
+    with_follower (unit (layout_of layout)) (follower layout t a m.name m.head (completes_in count m.out) memory) ends
+ends_after layout t a count None memory ends = ends
 
 -- the jobs with this one more that waits
 abbrev pub with_job : Works → Option Pending → Works
@@ -182,9 +185,9 @@ ArrivalMayLand a count (Some m) memory counters collective =
     HeadMayLand a m.head (completes_in count m.out) (length m.bytes) memory counters collective
 ArrivalMayLand a count None memory counters collective = Unit {0}
 
-abbrev pub ArrivalMayAnswer : (unit t a count : ℕ) → Option Message → (memory : List ℕ) → Type 0
-ArrivalMayAnswer unit t a count (Some m) memory = FollowerMayLeave unit t a m.name m.head (completes_in count m.out) memory
-ArrivalMayAnswer unit t a count None memory = Unit {0}
+abbrev pub ArrivalMayAnswer : (layout t a count : ℕ) → Option Message → (memory : List ℕ) → Type 0
+ArrivalMayAnswer layout t a count (Some m) memory = FollowerMayLeave layout t a m.name m.head (completes_in count m.out) memory
+ArrivalMayAnswer layout t a count None memory = Unit {0}
 
 -- task a joined the round that the message names, if one has come and it names one
 abbrev pub ArrivalJoins : (a : ℕ) → Option Message → (before after : Collective) → Type 0
@@ -202,7 +205,7 @@ pub record HasArrived (a count : ℕ) (arrival : Option Message) (before after :
   pub jobs : after.state.jobs ≡ jobs_after (length before.state.memory) count arrival before.state.jobs
   pub few : FewWait before.state.jobs → FewWait after.state.jobs
   pub joins : ArrivalJoins a arrival before.state.collective after.state.collective
-  pub senders : after.senders.items ≡ ends_after (task_unit before) before.state.number a count arrival before.state.memory before.senders.items
+  pub senders : after.senders.items ≡ ends_after before.sizes.layout before.state.number a count arrival before.state.memory before.senders.items
   pub events : new ≡ old ++ events_of count arrival
   pub none : arrival ≡ None → after ≡ before
   pub rest : after ≡ record before { senders = after.senders; state = record before.state { memory = after.state.memory; counters = after.state.counters; jobs = after.state.jobs; collective = after.state.collective } }

@@ -15,5 +15,6 @@ pub mod Outgoing
 pub mod Sends
 pub mod StandsFor
 pub mod Steps
+pub mod Still
 pub mod Unfinished
 pub mod Working

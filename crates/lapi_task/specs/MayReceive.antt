@@ -6,7 +6,7 @@ use Rattle.lapi_base.specs.declared.packet.Packet.{Packet}
 use Rattle.lapi_base.specs.declared.packet.Packet.TheVariants.{Data, Ack}
 use Rattle.lapi_base.specs.declared.rule.Rules.{Rules}
 use Rattle.lapi_base.specs.declared.script.Script.{Script}
-use Rattle.lapi_base.specs.Laws.Entries.{GoesFrom}
+use Rattle.lapi_base.specs.Laws.Entries.{GoesFrom, layout_in}
 use Rattle.lapi_base.specs.Record.Wires.{Run, IsEntry}
 use Rattle.lapi_window.specs.NumberSet.{is_covered}
 use Rattle.lapi_window.specs.RecvWindow.{is_taken}
@@ -35,12 +35,13 @@ pub record DataFits (task : Task) (from : ℕ) (p : DataPacket) (end : Receiving
 
 abbrev pub Fits : Task → (from : ℕ) → Packet → Type 0
 Fits task from (Data p) = (end : ReceivingEnd) → slice_get task.receivers.items from ≡ Some end → DataFits task from p end
-Fits task from (Ack sender receiver base bits) = (end : SendingEnd) → slice_get task.senders.items from ≡ Some end → CoversSent end base bits
+Fits task from (Ack layout sender receiver base bits) = (end : SendingEnd) → slice_get task.senders.items from ≡ Some end → CoversSent end base bits
 
--- A task may receive a packet that comes from a task that there is to this one, and fits what this one has.
+-- A task may receive a packet in its layout that comes from a task that there is to this one, and fits what this one has.
 pub record MayReceive (task : Task) (from : ℕ) (p : Packet) : Type 0 where
   pub known : from < task.sizes.tasks
   pub goes : GoesFrom from task.state.number p
+  pub layout : layout_in p ≡ task.sizes.layout
   pub fits : Fits task from p
 
 -- It may receive each entry of the wire from another task, by each record that it stands for.

@@ -17,7 +17,7 @@ use Rattle.lapi_base.specs.declared.packet.DataPacket.{DataPacket}
 
 -- what all packets of message m have in common, with number and fragment 0 and no payload
 abbrev pub outgoing : Script → MsgName → DataPacket
-outgoing script m = record { from = sender script m; to = receiver script m; seq = 0; name = m; head = head_by script m m.leg (statement script m.origin m.statement); length = message_length script m; fragment = 0; payload = [] }
+outgoing script m = record { layout = script.layout; from = sender script m; to = receiver script m; seq = 0; name = m; head = head_by script m m.leg (statement script m.origin m.statement); length = message_length script m; fragment = 0; payload = [] }
 
 -- the packet of number n with fragment j of a message with these bytes
 abbrev pub packet_of : DataPacket → (unit n j : ℕ) → (bytes : List ℕ) → Packet

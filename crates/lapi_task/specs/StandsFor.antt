@@ -78,7 +78,8 @@ pub record HasCalls (script : Script) (rules : Rules) (t : ℕ) (task : Task) : 
   pub limits : task.limits ≡ limits_of script (length rules.headers)
   pub rounds : task.rounds.items ≡ map (round_of script t) (numbers_below (length task.statements))
 
--- and its data operations that are not done, and the ends of its links, are those of the record.
+-- and its data operations that are not done, the ends of its links, and the tasks that it owes an acknowledgement, are
+-- those of the record.
 pub record StandsFor (script : Script) (rules : Rules) (t : ℕ) (task : Task) (r : Run) : Type 0 where
   pub calls : HasCalls script rules t task
   pub holds : HoldsFor script rules t task.state r.journal
@@ -87,6 +88,8 @@ pub record StandsFor (script : Script) (rules : Rules) (t : ℕ) (task : Task) (
   pub receiver_count : length task.receivers.items ≡ script.tasks
   pub senders : (b : ℕ) → b < script.tasks → SenderAt script rules r t b (slice_get task.senders.items b)
   pub receivers : (a : ℕ) → a < script.tasks → ReceiverAt script rules (r.handed a t) (slice_get task.receivers.items a)
+  pub owed_count : length task.owed.items ≡ script.tasks
+  pub owed : (a : ℕ) → a < script.tasks → slice_get task.owed.items a ≡ Some (r.owed a t)
 
 -- This holds for each record that the task stands for; it holds for one of them.
 abbrev pub ForEachRecord : Task → (Script → Rules → ℕ → Run → Type 0) → Type 0

@@ -26,15 +26,23 @@ pub struct DataCopy {
 }
 
 impl DataCopy {
-    /// The copy of the data of statement `i` of task `t`, where these addresses are known.
-    pub fn of<E: Entries>(entries: &E, t: u32, i: u32, statement: &Statement) -> DataCopy
+    /// The copy of the data of statement `i` of task `t` in a layout, where these addresses are known.
+    pub fn of<E: Entries>(
+        entries: &E,
+        layout: u32,
+        t: u32,
+        i: u32,
+        statement: &Statement,
+    ) -> DataCopy
         requires asked { E.valid entries.now }
         requires statement { ValidStatement statement.now × (operations.is_data statement.now ≡ true) }
         requires sendable { IsSendable (E.is_known entries.now) (E.given entries.now) t statement.now }
-        ensures { (script : Script) → IsCall script (E.is_known entries.now) (E.given entries.now) t i statement.now
+        ensures { (script : Script) → layout ≡ script.layout
+            → IsCall script (E.is_known entries.now) (E.given entries.now) t i statement.now
             → result ≡ copy_of script t i }
     {
         let message = DataPacket {
+            layout,
             from: t,
             to: peer(t, statement),
             seq: 0,

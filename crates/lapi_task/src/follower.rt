@@ -10,8 +10,9 @@ use lapi_base::{DataPacket, Event, Events, Head, Leg, Memory, MsgName, Payload};
 use lapi_link::Sender;
 use std::alloc::Global;
 
-/// What the packets have in common, where task `from` sends this leg of the message to task `to`.
+/// What the packets have in common, where task `from` sends this leg of the message to task `to`, in a layout.
 pub fn follower_packet(
+    layout: u32,
     from: u32,
     to: u32,
     name: MsgName,
@@ -19,9 +20,10 @@ pub fn follower_packet(
     head: Head,
     length: u32,
 ) -> DataPacket
-    ensures { result ≡ follower_packet from to name leg head length }
+    ensures { result ≡ follower_packet layout from to name leg head length }
 {
     DataPacket {
+        layout,
         from,
         to,
         seq: 0,

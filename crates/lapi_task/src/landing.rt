@@ -4,7 +4,7 @@ ghost use Rattle.lapi_base.specs.Record.HeadSays.{announces, head_pieces, asked_
 ghost use Rattle.lapi_vector.specs.Pieces.{AreWithin, total_of};
 ghost use Rattle.lapi_base.specs.Record.Values.{scattered};
 ghost use Rattle.lapi_task.specs.Answered.{kept_pieces};
-ghost use Rattle.lapi_task.specs.Landed.{IsDirect, head_memory, after_writes};
+ghost use Rattle.lapi_task.specs.Landed.{head_memory, after_writes};
 
 use crate::spans::same_spans;
 use lapi_base::{Head, HeaderOut, Memory, Span, Spans};
@@ -20,7 +20,6 @@ pub fn write(
     out: Option<HeaderOut>,
     bytes: &[u8],
 ) -> Result<(), Memory>
-    requires direct { IsDirect head.now }
     requires pieces { AreWithin (head_pieces head.now (length bytes.now)) (length memory.old) }
     requires total { is_active head.now ≡ false
         → total_of (head_pieces head.now (length bytes.now)) ≡ length bytes.now }
@@ -28,7 +27,10 @@ pub fn write(
     ensures { OnOk result (memory.new ≡ head_memory head.now out bytes.now memory.old) }
 {
     match head {
-        Head::Put { at: dest, .. } | Head::GetBack { dest, .. } | Head::RmwBack { dest, .. } => {
+        Head::Put { at: dest, .. }
+        | Head::GetBack { dest, .. }
+        | Head::RmwBack { dest, .. }
+        | Head::Echo { dest, .. } => {
             memory.write(*dest, bytes);
         }
         Head::Putv { pieces, .. } | Head::GetvBack { dest: pieces, .. } => {
@@ -50,7 +52,6 @@ pub fn write(
         | Head::Note { .. }
         | Head::Gfence { .. }
         | Head::Addr { .. } => {}
-        Head::Echo { .. } => unreachable!(),
     }
     Ok(())
 }
@@ -95,7 +96,6 @@ fn scatter(memory: &mut TaskMemory, pieces: &Spans, bytes: &[u8]) -> Result<(), 
 
 /// The counter that its landing announces, where it has a completion or none.
 pub fn announced_by(head: &Head, completion: bool) -> Option<u32>
-    requires { IsDirect head.now }
     ensures { result ≡ announces head.now completion }
 {
     match head {
@@ -106,7 +106,7 @@ pub fn announced_by(head: &Head, completion: bool) -> Option<u32>
         Head::GetBack { org, .. } | Head::GetvBack { org, .. } | Head::RmwBack { org, .. } => *org,
         Head::Am { tgt, .. } => tgt.filter(|_tgt| !completion),
         Head::Note { cmpl, .. } => Some(*cmpl),
+        Head::Echo { cmpl, .. } => *cmpl,
         Head::RmwGo { .. } | Head::Gfence { .. } | Head::Addr { .. } => None,
-        Head::Echo { .. } => unreachable!(),
     }
 }

@@ -2,7 +2,7 @@
 ghost use Rattle.std.specs.Prelude.{◌≡◌, length, option_map, OnOk};
 ghost use Rattle.lapi_handlers.specs.Handlers.{rules_of};
 ghost use Rattle.lapi_task.specs.Answered.{completion_in, job_with, user_in, completion_counter};
-ghost use Rattle.lapi_task.specs.Landed.{IsDirect, FewWait, with_job};
+ghost use Rattle.lapi_task.specs.Landed.{FewWait, with_job};
 
 use crate::landing::{announced_by, kept};
 use lapi_base::{Head, HeaderOut, Memory};
@@ -23,7 +23,6 @@ pub fn completion(handlers: &Handlers, out: Option<HeaderOut>) -> Option<u32>
 
 /// The job of that completion handler, if there is one.
 pub fn job(message: &Message, memory: &TaskMemory, completion: Option<u32>) -> Option<Pending>
-    requires { IsDirect message.now.head }
     ensures { result ≡ option_map (job_with (length memory.now) message.now.name message.now.head
         (length message.now.bytes) message.now.out) completion }
 {

@@ -32,4 +32,6 @@ pub struct Task {
     senders: Vec<Sender>,
     /// The links from each task.
     receivers: Vec<Receiver>,
+    /// Whether each task is owed an acknowledgement of what it sent, by the next poll.
+    owed: Vec<bool>,
 }

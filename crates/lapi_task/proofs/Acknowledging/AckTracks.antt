@@ -32,21 +32,21 @@ use Rattle.lapi_task.proofs.Acknowledging.UnfinishedAcks.{newly, counted, uncoun
 use Rattle.lapi_task.proofs.Acknowledging.UnfinishedLaws.{done-back}
 use Rattle.lapi_task.specs.Sends.{SendsFor}
 
-module _ (script : Script) (rules : Rules) (r : Run) (from t k x y base bits : ℕ) (task : Task) (at : IsAt script rules t task r) (known : from < script.tasks) (entry : slice_get (r.wire from t) k ≡ Some (Ack x y base bits)) (end : SendingEnd) (read : end ≡ get_or task.senders.items from end) where
+module _ (script : Script) (rules : Rules) (r : Run) (from t k l x y base bits : ℕ) (task : Task) (at : IsAt script rules t task r) (known : from < script.tasks) (entry : slice_get (r.wire from t) k ≡ Some (Ack l x y base bits)) (end : SendingEnd) (read : end ≡ get_or task.senders.items from end) where
   abbrev J : List Event
   J = r.journal
 
   abbrev then : Run
-  then = noted script rules r from t k x y base bits
+  then = noted script rules r from t k l x y base bits
 
   abbrev told : List ℕ
   told = newly_acked end base bits
 
   sends : SendsFor script rules end r t from
-  sends = (here script rules r from t k x y base bits task at known entry end read).1
+  sends = (here script rules r from t k l x y base bits task at known entry end read).1
 
   sent : (n : ℕ) → is_covered base bits n ≡ true → n < window.sent_count end.window
-  sent = covers-sent script rules r from t k x y base bits task at known entry end read
+  sent = covers-sent script rules r from t k l x y base bits task at known entry end read
 
   abbrev first : ℕ → Bool
   first = newly script t rules from J end sends.numbers.numbers sends.tags base bits sent
@@ -61,11 +61,11 @@ module _ (script : Script) (rules : Rules) (r : Run) (from t k x y base bits : �
   count-away = elsewhere script t rules from J end sends.numbers.numbers sends.tags base bits sent
 
   performs : (b : ℕ) → b ≡ from → performed script rules r (Deliver b t k) ≡ then
-  performs b same = ap (λ c. performed script rules r (Deliver c t k)) same ∙ delivers script rules t r from k ∙ delivered script rules r from t k x y base bits entry
+  performs b same = ap (λ c. performed script rules r (Deliver c t k)) same ∙ delivers script rules t r from k ∙ delivered script rules r from t k l x y base bits entry
 
-  counts-same : (i b : ℕ) → b ≡ from → numbers_that script rules r (message t i Go) (λ n. covers n (Ack x y base bits) && not (is_acked r t b n)) ≡ numbers_that script rules r (message t i Go) first
+  counts-same : (i b : ℕ) → b ≡ from → numbers_that script rules r (message t i Go) (λ n. covers n (Ack l x y base bits) && not (is_acked r t b n)) ≡ numbers_that script rules r (message t i Go) first
   unfolding is_covered
-  counts-same i b same = ap (numbers_that script rules r (message t i Go)) (by_points (λ n. covers n (Ack x y base bits) && not (is_acked r t b n)) first (λ n. ap (λ o. is_covered base bits n && not o) (ap (λ c. is_acked r t c n) same ∙ sends.numbers.acked n)))
+  counts-same i b same = ap (numbers_that script rules r (message t i Go)) (by_points (λ n. covers n (Ack l x y base bits) && not (is_acked r t b n)) first (λ n. ap (λ o. is_covered base bits n && not o) (ap (λ c. is_acked r t c n) same ∙ sends.numbers.acked n)))
 
   that-count : (i : ℕ) → receiver script (message t i Go) ≡ from → numbers_that script rules r (message t i Go) first ≡ count_in script (message t i Go) (numbered script J t from) first
   unfolding numbers_that count_in
@@ -77,11 +77,11 @@ module _ (script : Script) (rules : Rules) (r : Run) (from t k x y base bits : �
       ⊎_elim
       (λ (same : b ≡ from).
       (λ j. unacknowledged script rules (sym (performs b same) j) t i + sym (counts-same i b same ∙ that-count i same) j)
-      ∙ acks-lower script rules r at.recorded t i k x y base bits (subst (λ c. slice_get (r.wire c t) k ≡ Some (Ack x y base bits)) (sym same) entry))
+      ∙ acks-lower script rules r at.recorded t i k l x y base bits (subst (λ c. slice_get (r.wire c t) k ≡ Some (Ack l x y base bits)) (sym same) entry))
       (λ (apart : b ≡ from → ⊥).
       (λ j. unacknowledged script rules then t i + count-away i apart j)
       ∙ (let q : unacknowledged script rules then t i + 0 ≡ unacknowledged script rules then t i = omega arith in q)
-      ∙ counted-same script rules then t i (is_acked r t b) (λ n. ap (λ (ps : List Packet). has_ack ps n) (handed-other script rules r from t k x y base bits b (ne_eqb b from apart)))
+      ∙ counted-same script rules then t i (is_acked r t b) (λ n. ap (λ (ps : List Packet). has_ack ps n) (handed-other script rules r from t k l x y base bits b (ne_eqb b from apart)))
       ∙ sym (count-is script rules r t i))
       (cases_eq b from)
 

@@ -33,14 +33,14 @@ use Rattle.lapi_task.proofs.Standing.Tags.{tags-acked}
 use Rattle.lapi_task.specs.declared.unfinished.Unfinished.{Unfinished}
 use Rattle.lapi_task.specs.Unfinished.{Tracks}
 
-module _ (script : Script) (ps : List Packet) (x y base bits : ℕ) where
+module _ (script : Script) (ps : List Packet) (l x y base bits : ℕ) where
   -- Among packets that were handed over, an acknowledgement tells of no number and of no fragment,
-  same-partial : (m : MsgName) (o : Option DataPacket) → partial_by script ps m o ≡ partial_by script (Ack x y base bits ∷ ps) m o
+  same-partial : (m : MsgName) (o : Option DataPacket) → partial_by script ps m o ≡ partial_by script (Ack l x y base bits ∷ ps) m o
   unfolding has_fragment payload_of whole_by
   same-partial m None = refl
   same-partial m (Some p) = refl
 
-  receives-ack : (s : ReceivingEnd) → ReceivesFor script s ps → ReceivesFor script s (Ack x y base bits ∷ ps)
+  receives-ack : (s : ReceivingEnd) → ReceivesFor script s ps → ReceivesFor script s (Ack l x y base bits ∷ ps)
   unfolding has_number some_packet partial_of
   receives-ack s h = record {
     window = h.window;
@@ -50,29 +50,29 @@ module _ (script : Script) (ps : List Packet) (x y base bits : ℕ) where
     partials = λ m. h.partials m ∙ same-partial m (some_packet ps m);
   }
 
-  receiver-ack : (rules : Rules) (o : Option ReceivingEnd) → ReceiverAt script rules ps o → ReceiverAt script rules (Ack x y base bits ∷ ps) o
+  receiver-ack : (rules : Rules) (o : Option ReceivingEnd) → ReceiverAt script rules ps o → ReceiverAt script rules (Ack l x y base bits ∷ ps) o
   receiver-ack rules None h = absurd h
   receiver-ack rules (Some s) h = (receives-ack s h.0, h.1)
 
   -- but of what it covers.
-  acks-more : (n : ℕ) → has_ack (Ack x y base bits ∷ ps) n ≡ (is_covered base bits n || has_ack ps n)
+  acks-more : (n : ℕ) → has_ack (Ack l x y base bits ∷ ps) n ≡ (is_covered base bits n || has_ack ps n)
   unfolding has_ack is_covered
   acks-more n = refl
 
-module _ (script : Script) (rules : Rules) (r : Run) (from t k x y base bits : ℕ) where
+module _ (script : Script) (rules : Rules) (r : Run) (from t k l x y base bits : ℕ) where
   -- the record with the acknowledgement handed over
   abbrev pub noted : Run
-  noted = reply_with script rules (with_handed script rules r from t (Ack x y base bits)) Did
+  noted = reply_with script rules (with_handed script rules r from t (Ack l x y base bits)) Did
 
-  pub delivered : slice_get (r.wire from t) k ≡ Some (Ack x y base bits) → deliver script rules r from t k ≡ noted
+  pub delivered : slice_get (r.wire from t) k ≡ Some (Ack l x y base bits) → deliver script rules r from t k ≡ noted
   unfolding deliver hand_over
   delivered entry = ap (deliver_entry script rules r from t) entry
 
-  pub handed-own : noted.handed from t ≡ Ack x y base bits ∷ r.handed from t
-  handed-own = cond-true (from == from && t == t) (Ack x y base bits ∷ r.handed from t) (r.handed from t) (and_from _ _ (eqb-refl from) (eqb-refl t))
+  pub handed-own : noted.handed from t ≡ Ack l x y base bits ∷ r.handed from t
+  handed-own = cond-true (from == from && t == t) (Ack l x y base bits ∷ r.handed from t) (r.handed from t) (and_from _ _ (eqb-refl from) (eqb-refl t))
 
   pub handed-other : (b : ℕ) → (b == from) ≡ false → noted.handed b t ≡ r.handed b t
-  handed-other b apart = ap (λ c. cond (c && t == t) (Ack x y base bits ∷ r.handed b t) (r.handed b t)) apart
+  handed-other b apart = ap (λ c. cond (c && t == t) (Ack l x y base bits ∷ r.handed b t) (r.handed b t)) apart
 
   -- Its own link has what it covers acknowledged too, and other links stay.
   sends-own : (old new : SendingEnd) → IsAcked old new base bits → SendsFor script rules old r t from → SendsFor script rules new noted t from
@@ -83,7 +83,7 @@ module _ (script : Script) (rules : Rules) (r : Run) (from t k x y base bits : �
       sent = λ n. h.numbers.sent n ∙ ap (nat_lt n) (sym g.sent);
       acked = λ n.
           ap (λ (ps : List Packet). has_ack ps n) handed-own
-          ∙ acks-more script (r.handed from t) x y base bits n
+          ∙ acks-more script (r.handed from t) l x y base bits n
           ∙ ap (λ b. is_covered base bits n || b) (h.numbers.acked n)
           ∙ or_comm (is_covered base bits n) (window.is_acked old.window n)
           ∙ sym (g.acked n);
@@ -115,7 +115,7 @@ module _ (script : Script) (rules : Rules) (r : Run) (from t k x y base bits : �
   receiver-after : (a : ℕ) (o : Option ReceivingEnd) → ReceiverAt script rules (r.handed a t) o → ReceiverAt script rules (noted.handed a t) o
   receiver-after a o h =
       elim (a == from) as (λ c. (a == from) ≡ c → ReceiverAt script rules (noted.handed a t) o) [
-        | true ↦ λ e. subst (λ n. ReceiverAt script rules (r.handed n t) o → ReceiverAt script rules (noted.handed n t) o) (sym (eqb-true a from e)) (λ own. subst (λ ps. ReceiverAt script rules ps o) (sym handed-own) (receiver-ack script (r.handed from t) x y base bits rules o own)) h
+        | true ↦ λ e. subst (λ n. ReceiverAt script rules (r.handed n t) o → ReceiverAt script rules (noted.handed n t) o) (sym (eqb-true a from e)) (λ own. subst (λ ps. ReceiverAt script rules ps o) (sym handed-own) (receiver-ack script (r.handed from t) l x y base bits rules o own)) h
         | false ↦ λ e. subst (λ ps. ReceiverAt script rules ps o) (sym (handed-other a e)) h
       ] refl
 
@@ -140,6 +140,8 @@ module _ (script : Script) (rules : Rules) (r : Run) (from t k x y base bits : �
               | false ↦ λ e. subst (SenderAt script rules noted t b) (sym (get-set-other ends from b new (eqb-false b from e))) (sender-other b e (slice_get ends b) (h.senders b lt))
             ] refl;
         receivers = λ a lt. receiver-after a (slice_get task.receivers.items a) (h.receivers a lt);
+        owed_count = h.owed_count;
+        owed = h.owed;
       }
 
   same-journal : noted.journal ≡ followed r.journal []
@@ -158,7 +160,7 @@ module _ (script : Script) (rules : Rules) (r : Run) (from t k x y base bits : �
     ends = tt;
   }
 
-  module _ (task : Task) (at : IsAt script rules t task r) (known : from < script.tasks) (entry : slice_get (r.wire from t) k ≡ Some (Ack x y base bits)) (end : SendingEnd) (read : end ≡ get_or task.senders.items from end) where
+  module _ (task : Task) (at : IsAt script rules t task r) (known : from < script.tasks) (entry : slice_get (r.wire from t) k ≡ Some (Ack l x y base bits)) (end : SendingEnd) (read : end ≡ get_or task.senders.items from end) where
     pub here : (slice_get task.senders.items from ≡ Some end) × SendsFor script rules end r t from
     here =
         let ends = task.senders.items in
@@ -170,7 +172,7 @@ module _ (script : Script) (rules : Rules) (r : Run) (from t k x y base bits : �
     -- It covers numbers alone that were sent,
     pub covers-sent : (n : ℕ) → is_covered base bits n ≡ true → n < sent_count end.window
     unfolding is_covered
-    covers-sent n covered = ltb-true n (sent_count end.window) (sym (here.1.numbers.sent n) ∙ acks-cover-sent script rules r at.recorded from t k n (Ack x y base bits) entry covered)
+    covers-sent n covered = ltb-true n (sent_count end.window) (sym (here.1.numbers.sent n) ∙ acks-cover-sent script rules r at.recorded from t k n (Ack l x y base bits) entry covered)
 
     -- and so the task is told of it.
     pub acked-does : (new : SendingEnd) (u : Unfinished) → Tracks script rules t u noted → IsAcked end new base bits → (out : Outcome) → HasEffect script rules t r (deliver script rules r from t k) (with_sender task new u) out out

@@ -1,5 +1,5 @@
 -- The Joins of a call that was entered: what a task has while they are copied, one after another.
-use Rattle.std.proofs.Common.{◌≡◌, ℕ, zero, suc, ◌+◌, ◌<◌, ◌≤◌, ◌==◌, true, false, List, [], ◌∷◌, ◌++◌, length, Option, Some, None, refl, sym, ap, ◌∙◌, subst, ⊎_elim, arith, append_assoc, append-nil}
+use Rattle.std.proofs.Common.{◌≡◌, ℕ, zero, suc, ◌+◌, ◌<◌, ◌≤◌, ◌==◌, Bool, true, false, List, [], ◌∷◌, ◌++◌, length, Option, Some, None, refl, sym, ap, ◌∙◌, subst, ⊎_elim, arith, append_assoc, append-nil}
 use Rattle.std.specs.Prelude.{slice_get, slice_index, slice_set, get_or}
 use Rattle.std.specs.List.{AllByRecursion}
 use Rattle.std.proofs.Math.ListN.{length-set}
@@ -45,7 +45,7 @@ use Rattle.lapi_task.proofs.Copying.CallsStay.{calls-kept}
 use Rattle.lapi_task.proofs.Copying.CopyFirst.{first-is, uncopied-then, no-statement, found}
 use Rattle.lapi_task.proofs.Copying.CopyLaws.{unit-is}
 use Rattle.lapi_task.proofs.Copying.CopyLists.{copies, copies-append, copies-keep, copies-carry, ends-in, followed-append, followed-none, followed-one, last_join, joins-more, joins-none}
-use Rattle.lapi_task.proofs.Following.Followers.{may-leave}
+use Rattle.lapi_task.proofs.Following.Leaving.{may-leave}
 use Rattle.lapi_task.proofs.Working.JobsStay.{jobs-stay}
 use Rattle.lapi_task.proofs.Copying.MessageCopies.{copied-ends}
 use Rattle.lapi_task.proofs.Joining.RoundsStay.{rounds-stay}
@@ -270,6 +270,7 @@ module _ (script : Script) (rules : Rules) (t i : ℕ) where
         let left = ap (λ (x : Task). x.state.uncopied.items) h.others ∙ now.popped.list in
         let unfinished : task.unfinished ≡ now.before.unfinished = ap (λ (x : Task). x.unfinished) h.others ∙ ap (λ (x : Task). x.unfinished) now.popped.others in
         let receivers : task.receivers.items ≡ now.before.receivers.items = ap (λ (x : Task). x.receivers.items) h.others ∙ ap (λ (x : Task). x.receivers.items) now.popped.others in
+        let owed : task.owed.items ≡ now.before.owed.items = ap (λ (x : Task). x.owed.items) h.others ∙ ap (λ (x : Task). x.owed.items) now.popped.others in
         record {
           added = h.added ∙ ap (λ es. old ++ es) (sym copies-are);
           left = left;
@@ -281,6 +282,8 @@ module _ (script : Script) (rules : Rules) (t i : ℕ) where
             receiver_count = ap length receivers ∙ stood.receiver_count;
             senders = h.senders;
             receivers = λ a l. subst (λ (xs : List _). ReceiverAt script rules (r.handed a t) (slice_get xs a)) (sym receivers) (stood.receivers a l);
+            owed_count = ap length owed ∙ stood.owed_count;
+            owed = λ a l. ap (λ (xs : List Bool). slice_get xs a) owed ∙ stood.owed a l;
           });
         }
 
@@ -303,6 +306,9 @@ module _ (script : Script) (rules : Rules) (t i : ℕ) where
     pub unit-here : task_unit task ≡ unit_of script
     unit-here = unit-is script rules t task m.calls
 
+    layout-here : task.sizes.layout ≡ script.layout
+    layout-here = ap (λ (x : _). x.layout) m.calls.sizes
+
     pub some-statement : (o : Option Statement) → o ≡ slice_get task.statements i → o ≡ None → ⊥
     some-statement o made is = no-statement script t i task.statements m.calls.statements m.within o made is
 
@@ -314,12 +320,12 @@ module _ (script : Script) (rules : Rules) (t i : ℕ) where
       found-join = ap has_join same ∙ m.join
 
       -- so the packet that is made is the record's,
-      pub join-made : (round : ℕ) (head : Head) (packet : DataPacket) → round ≡ get_or task.rounds.items i round → IsJoinHead round s head → packet ≡ follower_packet task.state.number d (message task.state.number i (Join d)) (Join d) head 0 → packet ≡ outgoing script (message t i (Join d))
+      pub join-made : (round : ℕ) (head : Head) (packet : DataPacket) → round ≡ get_or task.rounds.items i round → IsJoinHead round s head → packet ≡ follower_packet task.sizes.layout task.state.number d (message task.state.number i (Join d)) (Join d) head 0 → packet ≡ outgoing script (message t i (Join d))
       unfolding message_length
       join-made round head packet read made is =
           let n = message t i (Join d) in
           let heads : head ≡ head_by script n (Join d) (statement script t i) = made script n d (read ∙ round-is round) ∙ ap (head_by script n (Join d)) same in
-          is ∙ (λ k. record { from = m.number k; to = d; seq = 0; name = message (m.number k) i (Join d); head = heads k; length = 0; fragment = 0; payload = [] })
+          is ∙ (λ k. record { layout = layout-here k; from = m.number k; to = d; seq = 0; name = message (m.number k) i (Join d); head = heads k; length = 0; fragment = 0; payload = [] })
 
     -- and may leave.
     pub join-leaves : MayLeave (unit_of script) (join_of script t i d)

@@ -1,5 +1,5 @@
 -- The copy of a statement's data: what its task and its record have then.
-use Rattle.std.proofs.Common.{◌≡◌, ℕ, ◌+◌, ◌*◌, ◌<◌, ◌≤◌, ◌==◌, Bool, true, false, cond, not, ◌&&◌, List, [], ◌∷◌, ◌++◌, map, length, set, Option, Some, None, refl, sym, ap, ◌∙◌, subst, arith, inl}
+use Rattle.std.proofs.Common.{◌≡◌, ℕ, ◌+◌, ◌*◌, ◌<◌, ◌≤◌, ◌==◌, Bool, true, false, cond, not, ◌&&◌, List, [], ◌∷◌, ◌++◌, map, length, set, Option, Some, None, refl, sym, ap, ◌∙◌, subst, arith}
 use Rattle.std.specs.Prelude.{slice_get, slice_index, slice_set}
 use Rattle.std.specs.List.{AllByRecursion, flat_map}
 use Rattle.std.proofs.lemmas.Bool.{cond-true}
@@ -17,7 +17,8 @@ use Rattle.lapi_base.specs.declared.message.MsgName.{MsgName}
 use Rattle.lapi_base.specs.Record.Below.{below}
 use Rattle.lapi_base.specs.Record.Counters.{count, reads, tells, is_counter}
 use Rattle.lapi_base.specs.Laws.Entries.{carried}
-use Rattle.lapi_base.specs.Packet.Layout.{layout_of, unit, unit_of}
+use Rattle.lapi_base.specs.declared.layout.TheConstants.{PAYLOAD_ROOM}
+use Rattle.lapi_base.specs.Packet.Layout.{layout_of, unit, unit_of, longest_of}
 use Rattle.lapi_base.specs.Record.Names.{message, name_eq, happened, Issued, Copied}
 use Rattle.lapi_base.specs.Record.Operations.{numbers_below, statement, statements, is_data, has_back, has_join, target, message_length, fragment_count, address, spans, origin_pieces, org_counter}
 use Rattle.lapi_base.specs.Record.Packets.{data_packet}
@@ -30,6 +31,7 @@ use Rattle.lapi_base.specs.Record.Atomic.{Atomic}
 use Rattle.lapi_base.specs.Packet.Spelling.{HasSpelling}
 use Rattle.lapi_base.specs.Record.Values.{values, memory_bytes, gathered, at_origin}
 use Rattle.lapi_base.specs.Packet.PacketBytes as written
+use Rattle.lapi_base.proofs.LayoutLaws.{longest-fragments}
 use Rattle.lapi_base.proofs.ListLaws.{all-map}
 use Rattle.lapi_base.proofs.NameLaws.{happened-head, happened-other, name_eq-refl}
 use Rattle.lapi_base.proofs.TestLaws.{eqb-refl}
@@ -42,7 +44,6 @@ use Rattle.lapi_link.specs.Sender.{SendingEnd}
 use Rattle.lapi_memory.specs.TaskMemory.{bytes_at}
 use Rattle.lapi_parts.proofs.Accepted.{Accepted, LiesWithin, copied-accepted}
 use Rattle.lapi_parts.proofs.CarriedLengths.{carried-length}
-use Rattle.lapi_parts.proofs.FirstLayout.{first-unit, first-longest}
 use Rattle.lapi_parts.proofs.SmallBytes.{statement-valid}
 use Rattle.lapi_parts.proofs.SpelledPackets.{message-spelled}
 use Rattle.lapi_reassembly.specs.Partial.{IsUnit}
@@ -62,6 +63,7 @@ use Rattle.lapi_task.proofs.Copying.CopySendable.{may-send}
 use Rattle.lapi_task.proofs.Joining.KnownRounds.{knows_round, address_given, are-given, passed-complete}
 use Rattle.lapi_task.proofs.Joining.RoundsStay.{rounds-stay}
 use Rattle.lapi_task.proofs.Copying.UncopiedLaws.{waiting-data}
+use Rattle.lapi_task.proofs.Copying.Units.{unit-sizes}
 use Rattle.lapi_task.proofs.Working.JobsStay.{jobs-stay}
 use Rattle.lapi_task.proofs.Copying.MessageCopies.{packet-is, count-is, copied-ends}
 use Rattle.lapi_task.proofs.Receiving.ReceiveCounts.{announced-length, announced-at}
@@ -127,6 +129,8 @@ record StandsBut (script : Script) (rules : Rules) (t : ℕ) (task : Task) (r : 
   pub receiver_count : length task.receivers.items ≡ script.tasks
   pub senders : (b : ℕ) → b < script.tasks → SenderAt script rules r t b (slice_get task.senders.items b)
   pub receivers : (a : ℕ) → a < script.tasks → ReceiverAt script rules (r.handed a t) (slice_get task.receivers.items a)
+  pub owed_count : length task.owed.items ≡ script.tasks
+  pub owed : (a : ℕ) → a < script.tasks → slice_get task.owed.items a ≡ Some (r.owed a t)
 
 module _ (script : Script) (rules : Rules) (t : ℕ) (task : Task) (r : Run) (i : ℕ) (rest : List ℕ) (h : CopiesNext script rules t task r i rest) (plain : has_join (statement script t i) ≡ false) where
   abbrev go : MsgName
@@ -155,8 +159,9 @@ module _ (script : Script) (rules : Rules) (t : ℕ) (task : Task) (r : Run) (i 
   unrefused : Accepted script rules (target script t i) (statement script t i)
   unrefused = copied-accepted script rules L go atomic (happened-head (Copy go) r.journal)
 
-  short : message_length script go ≤ 16384
-  short = subst (λ n. message_length script go ≤ n) (first-longest script h.stands.calls.valid) (copied-short script rules L go atomic (happened-head (Copy go) r.journal))
+  short : message_length script go ≤ 64 * unit_of script
+  unfolding unit_of longest_of
+  short = subst (λ n. message_length script go ≤ n) (longest-fragments (layout_of script.layout)) (copied-short script rules L go atomic (happened-head (Copy go) r.journal))
 
   -- and it may be sent.
   abbrev known : Collective
@@ -203,13 +208,11 @@ module _ (script : Script) (rules : Rules) (t : ℕ) (task : Task) (r : Run) (i 
 
   copyable-then : IsCopyable (task_unit task) task copy
   copyable-then =
-      let unit256 = first-unit script h.stands.calls.valid in
-      let few = short in
       record {
         target = subst (λ n. target script t i < n) (sym h.stands.sender_count) unrefused.target;
         within = pieces-within script (target script t i) (length task.state.memory) (has_back (statement script t i)) (origin_pieces (statement script t i)) (ap length h.stands.holds.memory ∙ memory-length script rules r.journal t) unrefused.from;
-        size = subst (λ (u : ℕ). IsUnit u × (u ≤ 256)) (sym unit-here) (inl unit256, (let e : unit_of script ≤ 256 = omega (arith, unit256) in e));
-        long = (ap length carries ∙ carried-length script rules L go atomic (happened-head (Copy go) r.journal), subst (λ (u : ℕ). message_length script go ≤ 64 * u) (sym unit-here) (omega (arith, unit256, few)));
+        size = subst (λ (u : ℕ). IsUnit u × (u ≤ PAYLOAD_ROOM)) (sym unit-here) (unit-sizes script);
+        long = (ap length carries ∙ carried-length script rules L go atomic (happened-head (Copy go) r.journal), subst (λ (u : ℕ). message_length script go ≤ 64 * u) (sym unit-here) short);
         counter = λ c at. subst (λ n. c < n) (sym h.stands.holds.counter_count) (counter-named script (has_back (statement script t i)) (org_counter (statement script t i)) c unrefused.org at);
         spelled =
             subst (λ (u : ℕ). AreSpelled u copy.message (source task.state.memory copy)) (sym unit-here)
@@ -262,6 +265,7 @@ module _ (script : Script) (rules : Rules) (t : ℕ) (task : Task) (r : Run) (i 
       let ends = ap (λ (x : Task). x.senders.items) p.others in
       let senders : after.senders.items ≡ set task.senders.items to g.sender = g.senders ∙ ap (λ (xs : List SendingEnd). set xs to g.sender) ends in
       let receivers : after.receivers.items ≡ task.receivers.items = ap (λ (x : Task). x.receivers.items) g.rest ∙ ap (λ (x : Task). x.receivers.items) p.others in
+      let owed : after.owed.items ≡ task.owed.items = ap (λ (x : Task). x.owed.items) g.rest ∙ ap (λ (x : Task). x.owed.items) p.others in
       record {
         calls =
             calls-kept script rules t task after
@@ -279,6 +283,8 @@ module _ (script : Script) (rules : Rules) (t : ℕ) (task : Task) (r : Run) (i 
             ∙ (λ k. with_message (unit-then k) copy.message (source (p.others k).state.memory copy) s))
             h.stands.senders;
         receivers = λ a l. subst (λ (xs : List _). ReceiverAt script rules (r.handed a t) (slice_get xs a)) (sym receivers) (h.stands.receivers a l);
+        owed_count = ap length owed ∙ h.stands.owed_count;
+        owed = λ a l. ap (λ (xs : List Bool). slice_get xs a) owed ∙ h.stands.owed a l;
       }
 
   -- after its fragments were counted
@@ -295,6 +301,8 @@ module _ (script : Script) (rules : Rules) (t : ℕ) (task : Task) (r : Run) (i 
         receiver_count = s.receiver_count;
         senders = s.senders;
         receivers = s.receivers;
+        owed_count = s.owed_count;
+        owed = s.owed;
       }
 
   -- ---- the task whose list lacks the number
@@ -305,6 +313,9 @@ module _ (script : Script) (rules : Rules) (t : ℕ) (task : Task) (r : Run) (i 
 
     pub popped-asked : length popped.state.collective.tables.rounds ≡ MOST_ROUNDS
     popped-asked = ap (λ (x : Task). length x.state.collective.tables.rounds) p.others ∙ h.stands.holds.rounds.tables.size
+
+    popped-layout : popped.sizes.layout ≡ script.layout
+    popped-layout = ap (λ (x : Task). x.sizes.layout) p.others ∙ ap (λ (x : _). x.layout) h.stands.calls.sizes
 
     popped-statements : popped.statements ≡ statements script t
     popped-statements = ap (λ (x : Task). x.statements) p.others ∙ h.stands.calls.statements
@@ -328,9 +339,9 @@ module _ (script : Script) (rules : Rules) (t : ℕ) (task : Task) (r : Run) (i 
           (subst (IsSendable (knows_round known) (address_given known) t) (sym same) is-sendable))
 
       -- and its copy is the record's.
-      pub found-copy : (c : DataCopy) → ((script : Script) → IsCall script (knows_round popped.state.collective) (address_given popped.state.collective) popped.state.number i s → c ≡ copy_of script popped.state.number i) → c ≡ copy_of script t i
+      pub found-copy : (c : DataCopy) → ((script : Script) → popped.sizes.layout ≡ script.layout → IsCall script (knows_round popped.state.collective) (address_given popped.state.collective) popped.state.number i s → c ≡ copy_of script popped.state.number i) → c ≡ copy_of script t i
       found-copy c made =
-          made script (record {
+          made script popped-layout (record {
             is_statement = same ∙ ap (λ a. statement script a i) (sym popped-number);
             are_given = subst (λ (x : Task). AreGiven script (knows_round x.state.collective) (address_given x.state.collective)) (sym p.others) given;
           })

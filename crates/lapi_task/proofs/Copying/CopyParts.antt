@@ -19,12 +19,12 @@ use Rattle.lapi_task.specs.Copies.{copy_of}
 use Rattle.lapi_task.specs.Outgoing.{outgoing}
 
 module _ (script : Script) (t i : ℕ) (s : Statement) (same : s ≡ statement script t i) where
-  abbrev made : (to len : ℕ) → Head → (payload : List ℕ) → DataPacket
-  made to len head payload = record { from = t; to = to; seq = 0; name = message t i Go; head = head; length = len; fragment = 0; payload = payload }
+  abbrev made : (layout to len : ℕ) → Head → (payload : List ℕ) → DataPacket
+  made layout to len head payload = record { layout = layout; from = t; to = to; seq = 0; name = message t i Go; head = head; length = len; fragment = 0; payload = payload }
 
-  pub message-made : (to len : ℕ) (head : Head) (payload : List ℕ) → to ≡ peer_of t s → len ≡ length_by Go s → head ≡ head_by script (message t i Go) Go s → payload ≡ [] → made to len head payload ≡ outgoing script (message t i Go)
+  pub message-made : (layout to len : ℕ) (head : Head) (payload : List ℕ) → layout ≡ script.layout → to ≡ peer_of t s → len ≡ length_by Go s → head ≡ head_by script (message t i Go) Go s → payload ≡ [] → made layout to len head payload ≡ outgoing script (message t i Go)
   unfolding message_length
-  message-made to len head payload a b c d = λ k. made ((a ∙ ap (peer_of t) same) k) ((b ∙ ap (length_by Go) same) k) ((c ∙ ap (head_by script (message t i Go) Go) same) k) (d k)
+  message-made layout to len head payload own a b c d = λ k. made (own k) ((a ∙ ap (peer_of t) same) k) ((b ∙ ap (length_by Go) same) k) ((c ∙ ap (head_by script (message t i Go) Go) same) k) (d k)
 
   copy-made : (m : DataPacket) (source : List Span) (counter : Option ℕ) (b : Bool) → m ≡ outgoing script (message t i Go) → b ≡ has_back s → source ≡ cond b [] (spans script (target script t i) (origin_pieces s)) → counter ≡ cond b None (org_counter s) → (let c : DataCopy = record { message = m; source = source; counter = counter } in c) ≡ copy_of script t i
   copy-made m source counter b is back from org = λ k. record {

@@ -14,12 +14,14 @@ use Rattle.lapi_base.specs.declared.rule.Rules.{Rules}
 use Rattle.lapi_base.specs.declared.event.Event.{Event}
 use Rattle.lapi_base.specs.declared.event.Event.TheVariants.{Issue, Refuse, Enter, Pass, Copy, Head, Land, Begin, End}
 use Rattle.lapi_base.specs.declared.message.Leg.TheVariants.{Go}
+use Rattle.lapi_base.specs.Packet.Layout.{layout_of, longest_of}
 use Rattle.lapi_base.specs.Record.Atomic.{Atomic, Keeps}
 use Rattle.lapi_base.specs.Record.Handlers.{user_header}
 use Rattle.lapi_base.specs.Record.Names.{Issued, Passed, key_of, message, happened}
 use Rattle.lapi_base.specs.Record.Operations.{statement, address, target, target_pieces, message_length, is_am, table_rounds}
 use Rattle.lapi_base.specs.Record.Refusals.{refusal_by, refusal_of, is_known, round_passed, option_any}
 use Rattle.lapi_base.specs.Record.Valid.{ValidScript}
+use Rattle.lapi_base.proofs.LayoutLaws.{longest-most}
 use Rattle.lapi_base.proofs.ListLaws.{all-weaker}
 use Rattle.lapi_base.proofs.NameLaws.{happened-nil, happened-head, happened-later, happened-cases}
 use Rattle.lapi_calls.specs.Calls.{AreTold, IsSendable}
@@ -27,7 +29,6 @@ use Rattle.lapi_calls.specs.Entries.{is_told, address_by, AreGiven}
 use Rattle.lapi_laws.proofs.Backward.{Atomic-head, Atomic-tail}
 use Rattle.lapi_laws.proofs.Shorts.{copied-short, none-tests}
 use Rattle.lapi_parts.proofs.Accepted.{LiesWithin, copied-accepted}
-use Rattle.lapi_parts.proofs.FirstLayout.{first-longest}
 
 -- a user header that a header handler may be given is short
 header-short : (s : Statement) → (is_am s ≡ true → length (user_header s) ≤ 64) → length (user_header s) ≤ 64
@@ -91,7 +92,7 @@ module _ (script : Script) (rules : Rules) where
 
     -- So it may be sent as it is copied, by whoever knows each round that the task has passed.
     pub may-send : (t i : ℕ) (J : List Event) → ValidScript script → Atomic script rules (Copy (message t i Go) ∷ J) → happened (Issued t i) J ≡ true → ((round : ℕ) → round_passed script J t round ≡ true → known round ≡ true) → IsSendable known given t (statement script t i)
-    unfolding message_length
+    unfolding message_length longest_of
     may-send t i J valid atomic issued passed =
         let go = message t i Go in
         let d = target script t i in
@@ -102,7 +103,7 @@ module _ (script : Script) (rules : Rules) where
         record {
           told = told;
           places = places-fit d ps valid.memory.1 told acc.to;
-          short = (let short = copied-short script rules (Copy go ∷ J) go atomic is-copied in let most = first-longest script valid in omega (arith, short, most));
+          short = (let short = copied-short script rules (Copy go ∷ J) go atomic is-copied in let most = longest-most (layout_of script.layout) in omega (arith, short, most));
           header = header-short (statement script t i) (λ is. (acc.header is).0);
         }
       where

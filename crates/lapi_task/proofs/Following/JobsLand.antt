@@ -114,7 +114,7 @@ module _ (script : Script) (rules : Rules) (t : ℕ) where
       let own = jobs-landed m J0 jobs o then (told ∙ sym (mapped (completion_in count out))) (job-is (completion_in count out) refl) few (jobs-followed (called first m h) J jobs (called-leaves first m h) g) in
       subst (HasJobs script rules t (with_job jobs o)) (sym whole)
       (jobs-followed after (Land m ∷ J0) (with_job jobs o)
-      (subst (AllByRecursion (LeavesJobs script rules t)) (sym (follows-is 0 0 m (completes_in count out) [] h)) (copies-leave _)) own)
+      (subst (AllByRecursion (LeavesJobs script rules t)) (sym (follows-is 0 0 0 m (completes_in count out) [] h)) (copies-leave _)) own)
     where
       mapped : (c : Option ℕ) → is_some (option_map (job_with size m h (length bytes) out) c) ≡ is_some c
       mapped None = refl

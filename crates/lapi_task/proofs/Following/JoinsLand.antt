@@ -277,7 +277,7 @@ module _ (script : Script) (rules : Rules) (t : ℕ) where
       let whole : followed J (called first m h ++ Land m ∷ es) ≡ followed (Land m ∷ J0) es = followed-append (called first m h) (Land m ∷ es) J in
       let then : Atomic script rules (Land m ∷ J0) = before-followed script rules t es (Land m ∷ J0) (subst (Atomic script rules) whole atomic) in
       subst (HasRounds script t after) (sym whole)
-      (rounds-followed es (Land m ∷ J0) after (subst (AllByRecursion LeavesRounds) (sym (follows-is 0 0 m (completes_in count out) [] h)) (copies-leave _))
+      (rounds-followed es (Land m ∷ J0) after (subst (AllByRecursion LeavesRounds) (sym (follows-is 0 0 0 m (completes_in count out) [] h)) (copies-leave _))
       (landing-joins h a m J0 before after then j g (rounds-followed (called first m h) J before (called-leaves first (is_active h) m) s)))
 
   -- ---- before the landing

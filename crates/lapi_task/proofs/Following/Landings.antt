@@ -17,7 +17,7 @@ use Rattle.lapi_base.specs.Record.Values.{Write, values, gathered, scattered, by
 use Rattle.lapi_base.specs.Laws.Receiving.{SpansAreInMemory}
 use Rattle.lapi_memory.specs.TaskMemory.{bytes_at}
 use Rattle.lapi_task.specs.Answered.{kept_pieces}
-use Rattle.lapi_task.specs.Landed.{IsDirect, head_writes, after_writes}
+use Rattle.lapi_task.specs.Landed.{head_writes, after_writes}
 use Rattle.lapi_task.proofs.Stepping.StepMemories.{read-over, written-over, memory-length}
 
 -- each write lies within a memory of this size
@@ -47,12 +47,12 @@ module _ (script : Script) (rules : Rules) (J : List Event) (t : ℕ) where
       ∙ ap (λ (xs : List ℕ). map (λ k. f (p.at + k)) (numbers_below p.len) ++ xs) rest
 
   -- the writes of a head are those of the record, where an active message is kept in its buffer
-  pub writes-are : (m : MsgName) (h : Head) (out : Option HeaderOut) (bytes : List ℕ) → IsDirect h → SpansAreInMemory script (asked_pieces h) → (is_active h ≡ true → buffer script rules m ≡ kept_pieces script.memory (length bytes) out) → head_writes h out bytes (memory_bytes script rules J t) ≡ lands script rules (values script rules J).memory t m h (length bytes) bytes
+  pub writes-are : (m : MsgName) (h : Head) (out : Option HeaderOut) (bytes : List ℕ) → SpansAreInMemory script (asked_pieces h) → (is_active h ≡ true → buffer script rules m ≡ kept_pieces script.memory (length bytes) out) → head_writes h out bytes (memory_bytes script rules J t) ≡ lands script rules (values script rules J).memory t m h (length bytes) bytes
   unfolding scattered word_bytes
-  writes-are m (heads.RmwGo op at in1 in2 prev org) out bytes k there keeps =
+  writes-are m (heads.RmwGo op at in1 in2 prev org) out bytes there keeps =
       let word = λ (old : List ℕ). word_bytes (rmw_word op (number_of old) in1 in2) in
       ap (λ (old : List ℕ). (at, word old) ∷ []) (sym (append-nil (bytes_at (memory_bytes script rules J t) at 4)) ∙ picked-is (one_span at 4) there)
-  writes-are m (heads.Am handler tgt cmpl header) out bytes k there keeps =
+  writes-are m (heads.Am handler tgt cmpl header) out bytes there keeps =
       ap (λ n. scattered (kept_pieces n (length bytes) out) bytes) (memory-length script rules J t)
       ∙ ap (λ pieces. scattered pieces bytes) (sym (keeps refl))
-  writes-are m _ out bytes k there keeps = refl
+  writes-are m _ out bytes there keeps = refl

@@ -55,9 +55,9 @@ module _ (script : Script) (rules : Rules) (t : ℕ) where
     landing-tracks count false m h bytes out memory a atomic own = tracks
     landing-tracks count true m h bytes out memory a atomic own =
         let completion = completes_in count out in
-        let o = follower t a m h completion memory in
-        let is : followed (Land m ∷ r.journal) (follows h completion m) ≡ followed (Land m ∷ r.journal) (copies o) = ap (followed (Land m ∷ r.journal)) (follows-is t a m completion memory h) in
-        let mild : AllByRecursion IsMild (copies o) = subst (AllByRecursion IsMild) (follows-is t a m completion memory h) (come-mild count false true m h bytes out).1 in
+        let o = follower script.layout t a m h completion memory in
+        let is : followed (Land m ∷ r.journal) (follows h completion m) ≡ followed (Land m ∷ r.journal) (copies o) = ap (followed (Land m ∷ r.journal)) (follows-is script.layout t a m completion memory h) in
+        let mild : AllByRecursion IsMild (copies o) = subst (AllByRecursion IsMild) (follows-is script.layout t a m completion memory h) (come-mild count false true m h bytes out).1 in
         subst (λ J. Tracks script rules t (record u { undone = flags_closed m u.undone }) (record r { journal = J })) (sym is)
         (followed-tracks m own o mild (subst (Atomic script rules) is atomic))
 

@@ -12,7 +12,7 @@ use Rattle.lapi_base.specs.declared.packet.Packet.TheVariants.{Data, Ack}
 use Rattle.lapi_base.specs.declared.packet.DataPacket.{DataPacket}
 use Rattle.lapi_base.specs.Record.Arrived.{has_some, has_fragment, whole_by, is_whole, count_of}
 use Rattle.lapi_base.specs.Laws.Entries.{carried}
-use Rattle.lapi_base.specs.Packet.Layout.{unit_of}
+use Rattle.lapi_base.specs.Packet.Layout.{layout_of, unit_of, longest_of}
 use Rattle.lapi_base.specs.Record.Operations.{message_length}
 use Rattle.lapi_base.specs.Record.Packets.{data_packet}
 use Rattle.lapi_base.specs.Laws.Receiving.{FitsScript, IsThereInPart}
@@ -29,14 +29,14 @@ use Rattle.lapi_parts.proofs.InReach.{packets-in-reach}
 use Rattle.lapi_parts.proofs.Receivable.{packets-fit, heads-agree, new-open, new-room}
 use Rattle.lapi_parts.proofs.Records.{record-sound}
 use Rattle.lapi_base.specs.Record.Valid.{ValidScript, ValidRules}
-use Rattle.lapi_parts.proofs.FirstLayout.{first-unit, first-longest}
 use Rattle.lapi_base.proofs.BelowLaws.{every_below-at}
+use Rattle.lapi_base.proofs.LayoutLaws.{longest-fragments}
 use Rattle.lapi_base.proofs.ListLaws.{all-get}
 use Rattle.lapi_base.proofs.PacketNumbers.{some-there}
 
 payload_in : Packet → List ℕ
 payload_in (Data p) = p.payload
-payload_in (Ack from to base bits) = []
+payload_in (Ack layout from to base bits) = []
 
 module _ (script : Script) (rules : Rules) where
   payload-is : (J : List Event) (p : DataPacket) → Exact script rules J (Data p) → p.payload ≡ take (unit_of script) (drop (unit_of script * p.fragment) (carried script rules J p.name))
@@ -51,8 +51,9 @@ module _ (script : Script) (rules : Rules) where
       ∙ ap (λ (j : ℕ). take (unit_of script) (drop (unit_of script * j) (carried script rules J p.name))) fragment
       ∙ sym (payload-is J p x)
 
-  fits-size : ValidScript script → (n : ℕ) → n ≤ 16384 → n ≤ 64 * unit_of script
-  fits-size valid n l = let unit = first-unit script valid in omega (arith, l, unit)
+  fits-size : (n : ℕ) → n ≤ longest_of script → n ≤ 64 * unit_of script
+  unfolding unit_of longest_of
+  fits-size n l = let longest = longest-fragments (layout_of script.layout) in omega (arith, l, longest)
 
   -- a message with a fragment missing isn't complete
   is-open : (ps : List Packet) (m : MsgName) (len j : ℕ) → j < count_of script len → has_fragment ps m j ≡ false → is_complete script ps m len ≡ false
@@ -87,7 +88,7 @@ module _ (script : Script) (rules : Rules) where
       record {
         number = fits.number;
         reach = packets-in-reach script rules r is a b k p at;
-        size = fits-size valid p.length (subst (λ (n : ℕ). n ≤ 16384) (sym (length-is script rules J p own)) (subst (λ (n : ℕ). message_length script p.name ≤ n) (first-longest script valid) (copied-short script rules J p.name sound.atomic copied)));
+        size = fits-size p.length (subst (λ (n : ℕ). n ≤ longest_of script) (sym (length-is script rules J p own)) (copied-short script rules J p.name sound.atomic copied));
         fragment = fits.fragment;
         payload = fits.payload;
         heads = λ j q there name. heads-agree script rules r is a b k j p q at there name;

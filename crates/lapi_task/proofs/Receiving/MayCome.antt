@@ -1,5 +1,5 @@
 -- What comes of a packet that fits its task, by what the task has.
-use Rattle.std.proofs.Common.{◌≡◌, ℕ, ◌+◌, ◌<◌, ◌≤◌, ◌==◌, ◌||◌, ◌++◌, Bool, true, false, not, List, length, get_or, Option, Some, None, IfSome, refl, sym, ap, ◌∙◌, subst, arith}
+use Rattle.std.proofs.Common.{◌≡◌, ℕ, ◌+◌, ◌*◌, ◌<◌, ◌≤◌, ◌==◌, ◌||◌, ◌++◌, Bool, true, false, not, List, length, get_or, Option, Some, None, IfSome, refl, sym, ap, ◌∙◌, subst, arith}
 use Rattle.std.specs.Prelude.{slice_get, slice_set}
 use Rattle.std.proofs.lemmas.Bool.{and_from, eqb-true}
 use Rattle.std.proofs.lemmas.List.{length-set, append-nil}
@@ -18,28 +18,28 @@ use Rattle.lapi_reassembly.specs.Partial.{IsMessageOf, is_whole, message}
 use Rattle.lapi_link.specs.declared.arrival.Arrival.{Arrival}
 use Rattle.lapi_link.specs.declared.arrival.Arrival.TheVariants.{Whole, Repeat, First, More, FirstWhole}
 use Rattle.lapi_link.specs.Receiver.{ReceivingEnd, TakesOnce, came, gathered_with, whole_message}
-use Rattle.lapi_parts.proofs.FirstLayout.{first-window}
 use Rattle.lapi_task.specs.declared.task.Task.{Task}
 use Rattle.lapi_task.specs.Acknowledging.{MayAnswer}
 use Rattle.lapi_task.specs.Answered.{completes_in}
 use Rattle.lapi_task.specs.HasEffect.{IsAtSome}
-use Rattle.lapi_task.specs.Landed.{MayCall, HeadMayLand, MayLeave, FollowerMayLeave, ArrivalMayLand, ArrivalMayAnswer, HasCome, landed, called, is_first, kept_now}
+use Rattle.lapi_task.specs.Landed.{MayCall, HeadMayLand, FollowerMayLeave, ArrivalMayLand, ArrivalMayAnswer, HasCome, landed, called, is_first, kept_now}
 use Rattle.lapi_task.specs.MayReceive.{DataFits, is_last}
-use Rattle.lapi_task.specs.StandsFor.{ReceiverAt, task_unit}
+use Rattle.lapi_task.specs.StandsFor.{ReceiverAt}
 use Rattle.lapi_task.specs.Unfinished.{IsOfStatement}
 use Rattle.std.proofs.lemmas.List.Elements.{recursion_from_All}
 use Rattle.lapi_base.specs.declared.span.Span.{Span}
+use Rattle.lapi_base.specs.Packet.Format.{byte_count}
+use Rattle.lapi_base.specs.Packet.Layout.{is_version, layout_of, bits_size, window_of}
 use Rattle.lapi_base.specs.Packet.Spelling.{HasSpelling}
 use Rattle.lapi_base.specs.Record.HeadSays.{asked_pieces}
 use Rattle.lapi_base.specs.Record.Operations.{numbers_below}
 use Rattle.lapi_base.specs.Record.Valid.{IsByte}
 use Rattle.lapi_base.specs.Record.Values.{values, memory_bytes}
+use Rattle.lapi_base.proofs.LayoutLaws.{window-bits}
 use Rattle.lapi_base.proofs.ListLaws.{all-map, all-any}
-use Rattle.lapi_parts.proofs.FirstLayout.{first-unit}
 use Rattle.lapi_parts.proofs.SmallBytes.{AllBytes, values-small}
 use Rattle.lapi_vector.specs.Pieces.{AreWithin}
-use Rattle.lapi_task.proofs.Copying.CopyLaws.{unit-is}
-use Rattle.lapi_task.proofs.Following.KeptHeads.{says-of-messages}
+use Rattle.lapi_task.proofs.Following.KeptHeads.{Bears, says-of-messages}
 use Rattle.lapi_task.proofs.Following.SpelledFollowers.{go-of, leaves}
 
 -- what is read at a place that there is
@@ -93,22 +93,22 @@ module _ (task : Task) (a : ℕ) (p : DataPacket) (end : ReceivingEnd) (fits : D
       some (Some m) h = h
 
   -- what follows may leave,
-  module _ (leave : (c : Bool) → AreWithin (asked_pieces p.head) (length task.state.memory) → FollowerMayLeave (task_unit task) task.state.number a p.name p.head c task.state.memory) where
+  module _ (leave : (c : Bool) → AreWithin (asked_pieces p.head) (length task.state.memory) → FollowerMayLeave task.sizes.layout task.state.number a p.name p.head c task.state.memory) where
     abbrev FollowsNow : (count : ℕ) → Message → Type 0
-    FollowsNow count m = FollowerMayLeave (task_unit task) task.state.number a m.name m.head (completes_in count m.out) task.state.memory
+    FollowsNow count m = FollowerMayLeave task.sizes.layout task.state.number a m.name m.head (completes_in count m.out) task.state.memory
 
     follows-now : (count : ℕ) (m : Message) (out : Option HeaderOut) → whole_message own.arrival ≡ Some m → FollowsNow count (record m { out = out })
     follows-now count m out e =
         let c = completes_in count out in
         let is : IsMessageOf p.name p.head p.length m = if-of (whole_message own.arrival) m (IsMessageOf p.name p.head p.length) e own.message in
         let given = leave c (fits.lands (last-came end own.mid p own.arrival own.once m e) c).asked in
-        subst (λ (x : MsgName). FollowerMayLeave (task_unit task) task.state.number a x m.head c task.state.memory) (sym is.name)
-        (subst (λ (h : Head). FollowerMayLeave (task_unit task) task.state.number a p.name h c task.state.memory) (sym is.head) given)
+        subst (λ (x : MsgName). FollowerMayLeave task.sizes.layout task.state.number a x m.head c task.state.memory) (sym is.name)
+        (subst (λ (h : Head). FollowerMayLeave task.sizes.layout task.state.number a p.name h c task.state.memory) (sym is.head) given)
 
-    pub may-answer-now : (count : ℕ) → ArrivalMayAnswer (task_unit task) task.state.number a count came-whole task.state.memory
+    pub may-answer-now : (count : ℕ) → ArrivalMayAnswer task.sizes.layout task.state.number a count came-whole task.state.memory
     may-answer-now count = some came-whole (subst (λ o. IfSome o (FollowsNow count)) (sym own.whole) (by-arrival (FollowsNow count) now own.arrival (follows-now count)))
       where
-        some : (o : Option Message) → IfSome o (FollowsNow count) → ArrivalMayAnswer (task_unit task) task.state.number a count o task.state.memory
+        some : (o : Option Message) → IfSome o (FollowsNow count) → ArrivalMayAnswer task.sizes.layout task.state.number a count o task.state.memory
         some None h = tt
         some (Some m) h = h
 
@@ -172,7 +172,7 @@ pub may-call : (p : DataPacket) → HasSpelling (Data p) → MayCall p
 may-call p spelled =
     let says = says-of-messages (Data p) spelled.0 spelled.1 in
     let origin = says.2 in
-    record { origin = omega (arith, origin); length = λ _. says.3 }
+    record { origin = omega (arith, origin); length = says.3 }
 
 module _ (task : Task) (at : IsAtSome task) (a : ℕ) (known : a < task.sizes.tasks) where
   tasks-are : task.sizes.tasks ≡ at.0.tasks
@@ -187,17 +187,30 @@ module _ (task : Task) (at : IsAtSome task) (a : ℕ) (known : a < task.sizes.ta
   pub sender-there : a < length task.senders.items
   sender-there = let l = known-task in let e = at.4.stands.sender_count in omega (arith, l, e)
 
-  window-is : (end : ReceivingEnd) → slice_get task.receivers.items a ≡ Some end → end.window.window ≤ 32
+  pub owed-there : a < length task.owed.items
+  owed-there = let l = known-task in let e = at.4.stands.owed_count in omega (arith, l, e)
+
+  -- it speaks the script's layout
+  layout-is : task.sizes.layout ≡ at.0.layout
+  layout-is = ap (λ (z : _). z.layout) at.4.stands.calls.sizes
+
+  known-layout : is_version task.sizes.layout ≡ true
+  known-layout = ap is_version layout-is ∙ at.4.stands.calls.valid.layout
+
+  -- so many bits has an acknowledgement in a layout
+  abbrev bits_in : (layout : ℕ) → ℕ
+  bits_in layout = 8 * byte_count (bits_size (layout_of layout))
+
+  window-is : (end : ReceivingEnd) → slice_get task.receivers.items a ≡ Some end → end.window.window ≡ bits_in task.sizes.layout
+  unfolding window_of
   window-is end there =
       let receives = subst (ReceiverAt at.0 at.1 (at.3.handed a at.2)) there (at.4.stands.receivers a known-task) in
-      let e = receives.0.window in
-      let w = first-window at.0 at.4.stands.calls.valid in
-      omega (arith, e, w)
+      receives.0.window ∙ window-bits (layout_of at.0.layout) ∙ ap bits_in (sym layout-is)
 
   -- What follows the landing of a packet that has a spelling may leave.
-  pub follows-spelled : (p : DataPacket) → HasSpelling (Data p) → p.from ≡ a → (c : Bool) → AreWithin (asked_pieces p.head) (length task.state.memory) → FollowerMayLeave (task_unit task) task.state.number a p.name p.head c task.state.memory
+  pub follows-spelled : (p : DataPacket) → HasSpelling (Data p) → p.from ≡ a → p.layout ≡ task.sizes.layout → (c : Bool) → AreWithin (asked_pieces p.head) (length task.state.memory) → FollowerMayLeave task.sizes.layout task.state.number a p.name p.head c task.state.memory
   unfolding memory_bytes
-  follows-spelled p spelled from c within = λ x e.
+  follows-spelled p spelled from spoken c within = λ x e.
       let l = known-task in
       let tasks : at.0.tasks ≤ 8 = at.4.stands.calls.valid.tasks.1 in
       let own : task.state.number ≡ at.2 = at.4.stands.holds.number in
@@ -205,13 +218,13 @@ module _ (task : Task) (at : IsAtSome task) (a : ℕ) (known : a < task.sizes.ta
       let says = says-of-messages (Data p) spelled.0 spelled.1 in
       let place-small = (values-small at.0 at.1 at.4.stands.calls.valid at.3.journal).memory in
       let small : AllBytes task.state.memory = subst AllBytes (sym at.4.stands.holds.memory) (all-map (λ _. Unit {0}) IsByte (λ i. (values at.0 at.1 at.3.journal).memory at.2 i) (numbers_below at.0.memory) (all-any (numbers_below at.0.memory)) (λ i _. place-small at.2 i)) in
-      let unit : task_unit task ≡ 256 = unit-is at.0 at.1 at.2 task at.4.stands.calls ∙ first-unit at.0 at.4.stands.calls.valid in
-      subst (λ u. MayLeave u x) (sym unit)
-      (leaves task.state.number a (omega (arith, own, place, tasks)) (omega (arith, l, tasks)) p.name (says.1 (go-of p.name.leg p.head says.4 task.state.number a p.name c task.state.memory x e) ∙ from) says.0 task.state.memory small p.head c says.4 (recursion_from_All (λ (s : Span). s.at + s.len ≤ length task.state.memory) (asked_pieces p.head) within) x e)
+      let layout = task.sizes.layout in
+      let bears : Bears (layout_of layout) p.name.leg p.head = subst (λ n. Bears (layout_of n) p.name.leg p.head) spoken says.4 in
+      leaves layout known-layout task.state.number a (omega (arith, own, place, tasks)) (omega (arith, l, tasks)) p.name (says.1 (go-of (layout_of layout) p.name.leg p.head bears layout task.state.number a p.name c task.state.memory x e) ∙ from) says.0 task.state.memory small p.head c bears (recursion_from_All (λ (s : Span). s.at + s.len ≤ length task.state.memory) (asked_pieces p.head) within) x e
 
   -- The task may answer once it took a packet.
-  pub may-answer : (then : Task) (old new : ReceivingEnd) → slice_get task.receivers.items a ≡ Some old → new.window.window ≡ old.window.window → then.receivers.items ≡ slice_set task.receivers.items a new → then.state.number ≡ task.state.number → MayAnswer then a
-  may-answer then old new there wide receivers number =
+  pub may-answer : (then : Task) (old new : ReceivingEnd) → slice_get task.receivers.items a ≡ Some old → new.window.window ≡ old.window.window → then.receivers.items ≡ slice_set task.receivers.items a new → then.state.number ≡ task.state.number → then.sizes.layout ≡ task.sizes.layout → MayAnswer then a
+  may-answer then old new there wide receivers number layout =
       let l = known-task in
       let tasks : at.0.tasks ≤ 8 = at.4.stands.calls.valid.tasks.1 in
       let own : task.state.number ≡ at.2 = at.4.stands.holds.number in
@@ -220,11 +233,12 @@ module _ (task : Task) (at : IsAtSome task) (a : ℕ) (known : a < task.sizes.ta
       let here = receiver-there in
       let few = window-is old there in
       record {
+        version = ap is_version layout ∙ known-layout;
         own = omega (arith, number, own, place, tasks);
         other = omega (arith, l, tasks);
         there = omega (arith, size, here);
         window = λ end found.
             let same : new ≡ end = some-same new end (sym (ap (λ xs. slice_get xs a) receivers ∙ get-set task.receivers.items a old new there) ∙ found) in
-            let e = ap (λ (x : ReceivingEnd). x.window.window) same in
-            omega (arith, few, wide, e);
+            let size : end.window.window ≡ bits_in then.sizes.layout = ap (λ (x : ReceivingEnd). x.window.window) (sym same) ∙ wide ∙ few ∙ ap bits_in (sym layout) in
+            subst (λ n. end.window.window ≤ n) size (let q : end.window.window ≤ end.window.window = omega arith in q);
       }

@@ -33,7 +33,7 @@ use Rattle.lapi_parts.proofs.Deliveries.{deliveries-write, deliveries-announce}
 use Rattle.lapi_parts.proofs.WholeMessages.{assembled-bytes}
 use Rattle.lapi_task.specs.declared.state.State.{State}
 use Rattle.lapi_reassembly.specs.declared.message.Message.{Message}
-use Rattle.lapi_task.specs.Landed.{IsDirect, FewWait, ArrivalJoins, called, head_writes, memory_after, counters_after, jobs_after, events_of}
+use Rattle.lapi_task.specs.Landed.{FewWait, ArrivalJoins, called, head_writes, memory_after, counters_after, jobs_after, events_of}
 use Rattle.lapi_task.specs.Answered.{answer_to, completion_in, completes_in, kept_pieces, job_with}
 use Rattle.lapi_task.specs.HasJobs.{pending, HasJobs}
 use Rattle.lapi_jobs.specs.Jobs.{Works}
@@ -44,7 +44,7 @@ use Rattle.lapi_task.proofs.Following.JoinsLand.{head-joins, rounds-come}
 use Rattle.lapi_task.proofs.Stepping.StepMemories.{memory-length}
 use Rattle.lapi_task.proofs.Receiving.ReceiveCounts.{announced-length, announced-at}
 use Rattle.lapi_task.proofs.Receiving.ReceiveEvents.{come, came_bytes, is_all, is_opening, come-mild, mild-all, same-messages}
-use Rattle.lapi_task.proofs.Receiving.ReceiveKinds.{Comes, IsThere, there-is, direct-is}
+use Rattle.lapi_task.proofs.Receiving.ReceiveKinds.{Comes, IsThere, there-is}
 use Rattle.lapi_task.proofs.Copying.UncopiedLaws.{uncopied-same}
 use Rattle.lapi_task.proofs.Following.Landings.{WritesWithin, writes-over, scattered-within, writes-are}
 
@@ -83,14 +83,14 @@ module _ (script : Script) (rules : Rules) (t : ℕ) where
   writes-within memory (heads.Am handler tgt cmpl header) out bytes size there = subst (λ n. WritesWithin script.memory (scattered (kept_pieces n (length bytes) out) bytes)) (sym size) (scattered-within script (kept_pieces script.memory (length bytes) out) bytes (kept-within (length bytes) out))
   writes-within memory h out bytes size there = scattered-within script (head_pieces h (length bytes)) bytes there.pieces
 
-  memory-come : (whole : Bool) (m : MsgName) (h : Head) (n : ℕ) (bytes : List ℕ) (out : Option HeaderOut) (J K : List Event) → IsDirect h → IsThere script rules h n → (whole ≡ true → length bytes ≡ n) → (is_active h ≡ true → buffer script rules m ≡ kept_pieces script.memory n out) → WritesAs whole m h n bytes J K → memory_after (come whole m h bytes out) (memory_bytes script rules J t) ≡ memory_bytes script rules K t
+  memory-come : (whole : Bool) (m : MsgName) (h : Head) (n : ℕ) (bytes : List ℕ) (out : Option HeaderOut) (J K : List Event) → IsThere script rules h n → (whole ≡ true → length bytes ≡ n) → (is_active h ≡ true → buffer script rules m ≡ kept_pieces script.memory n out) → WritesAs whole m h n bytes J K → memory_after (come whole m h bytes out) (memory_bytes script rules J t) ≡ memory_bytes script rules K t
   unfolding memory_bytes
-  memory-come false m h n bytes out J K k there size keeps w = over-same (place J) (place K) script.memory (λ x. sym (w x))
-  memory-come true m h n bytes out J K k there size keeps w =
+  memory-come false m h n bytes out J K there size keeps w = over-same (place J) (place K) script.memory (λ x. sym (w x))
+  memory-come true m h n bytes out J K there size keeps w =
       let memory = memory_bytes script rules J t in
       let own : IsThere script rules h (length bytes) = subst (IsThere script rules h) (sym (size refl)) there in
       let ws = head_writes h out bytes memory in
-      let same : ws ≡ lands script rules (values script rules J).memory t m h n bytes = writes-are script rules J t m h out bytes k own.asked (λ on. keeps on ∙ ap (λ len. kept_pieces script.memory len out) (sym (size refl))) ∙ ap (λ len. lands script rules (values script rules J).memory t m h len bytes) (size refl) in
+      let same : ws ≡ lands script rules (values script rules J).memory t m h n bytes = writes-are script rules J t m h out bytes own.asked (λ on. keeps on ∙ ap (λ len. kept_pieces script.memory len out) (sym (size refl))) ∙ ap (λ len. lands script rules (values script rules J).memory t m h len bytes) (size refl) in
       writes-over (place J) script.memory ws (writes-within memory h out bytes (memory-length script rules J t) own)
       ∙ over-same (λ x. byte_after ws x (place J x)) (place K) script.memory (λ x. ap (λ (us : List Write). byte_after us x (place J x)) same ∙ sym (w x))
 
@@ -161,7 +161,6 @@ module _ (script : Script) (rules : Rules) (t : ℕ) where
       let told = is-told script rules r is a t k p entry in
       let completion = has_completion script rules p.name.origin p.name.statement in
       let same = mild-all script rules t (events_now r a p) J (come-mild handlers_now first whole p.name p.head bytes out) in
-      let direct = direct-is p.head p.length c.kind in
       let to : (performed script rules r (Deliver a t k)).journal ≡ K = ap (λ (x : Run). x.journal) (delivers r a k) ∙ journal in
       let writes : WritesAs whole p.name p.head p.length bytes J K = λ x. ap (λ L. place L x) (sym to) ∙ deliveries-write script rules r is a t k x p entry in
       let tells : Announces whole completion p.head J K = λ d. ap (λ L. count script rules L t d) (sym to) ∙ deliveries-announce script rules r is a t k d p entry in
@@ -181,7 +180,7 @@ module _ (script : Script) (rules : Rules) (t : ℕ) where
         memory =
             g.memory
             ∙ ap (memory_after (lands_now r a p)) h.memory
-            ∙ memory-come whole p.name p.head p.length bytes out J K direct (there-is script rules p.head p.length c.kind c.fits.head) long told.keeps writes;
+            ∙ memory-come whole p.name p.head p.length bytes out J K (there-is script rules p.head p.length c.kind c.fits.head) long told.keeps writes;
         counter_count = ap length g.counters ∙ counters-length handlers_now whole p.name p.head bytes out before.counters ∙ h.counter_count;
         counters = λ d l. ap (λ xs. slice_index xs d) g.counters ∙ counters-come handlers_now whole completion p.name p.head bytes out before.counters J K told.completes tells d (let n = h.counter_count in omega (arith, l, n)) (h.counters d l);
         uncopied = ap (λ (x : State). x.uncopied.items) g.rest ∙ h.uncopied ∙ below-same (length (statements script t)) (is_uncopied script J t) (is_uncopied script K t) (λ i _. uncopied-same script t J K i (same-messages script rules t J K i same));

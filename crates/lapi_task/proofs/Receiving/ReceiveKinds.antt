@@ -1,5 +1,5 @@
 -- The packets that come to a task: what their heads may be, and that their places are there.
-use Rattle.std.proofs.Common.{◌≡◌, ℕ, Bool, true, false, refl, sym, ◌∙◌, subst, arith}
+use Rattle.std.proofs.Common.{◌≡◌, ℕ, Bool, true, false, refl, sym, subst, arith}
 use Rattle.std.specs.Prelude.{slice_get, Some}
 use Rattle.std.proofs.lemmas.Bool.{false≢true}
 use Rattle.lapi_base.specs.declared.script.Script.{Script}
@@ -22,12 +22,10 @@ use Rattle.lapi_base.specs.Record.Wires.{Run}
 use Rattle.lapi_base.specs.Record.WorldView.{IsRecord}
 use Rattle.lapi_base.specs.Laws.Receiving.{FitsScript, HeadFits, NamesCounter, SpansAreInMemory, bytes_in}
 use Rattle.lapi_parts.proofs.Deliveries.{Facts, facts}
-use Rattle.lapi_parts.proofs.MessageHeads.{no-answers}
 use Rattle.lapi_parts.proofs.Receivable.{packets-fit}
-use Rattle.lapi_task.specs.Landed.{IsDirect}
 use Rattle.lapi_task.proofs.Following.FollowerParts.{one-total}
 
--- The head of a message that is no answer of a completion handler, and the message's length where the head says nothing of it.
+-- The length of a message, where its head says it.
 abbrev pub IsKind : Head → (len : ℕ) → Type 0
 IsKind (heads.Put at tgt cmpl) len = Unit {0}
 IsKind (heads.Putv tgt cmpl pieces) len = Unit {0}
@@ -41,11 +39,7 @@ IsKind (heads.RmwGo op at in1 in2 prev org) len = len ≡ 0
 IsKind (heads.Note op cmpl) len = len ≡ 0
 IsKind (heads.Gfence round) len = len ≡ 0
 IsKind (heads.Addr round address) len = len ≡ 0
-IsKind (heads.Echo dest cmpl) len = ⊥
-
-pub direct-is : (h : Head) (len : ℕ) → IsKind h len → IsDirect h
-direct-is (heads.Echo dest cmpl) len k = k
-direct-is _ len k = tt
+IsKind (heads.Echo dest cmpl) len = len ≡ 4
 
 module _ (script : Script) (rules : Rules) where
   -- Its places, the places that it asks for and its counter are there.
@@ -68,7 +62,7 @@ module _ (script : Script) (rules : Rules) where
   there-is (heads.Am handler tgt cmpl header) len k f = record { pieces = tt; total = λ e. absurd (false≢true (sym e)); asked = tt; counter = f.1 }
   there-is (heads.Gfence round) len k f = record { pieces = tt; total = λ _. sym k; asked = tt; counter = tt }
   there-is (heads.Addr round address) len k f = record { pieces = tt; total = λ _. sym k; asked = tt; counter = tt }
-  there-is (heads.Echo dest cmpl) len k f = absurd k
+  there-is (heads.Echo dest cmpl) len k f = record { pieces = ((let l = f.0.0 in omega (arith, l, k)), tt); total = λ _. sym (one-total (record { at = dest; len = len })); asked = tt; counter = f.1 }
 
   -- a counter that its landing announces is there, with a completion or without
   pub counter-later : (h : Head) (completion : Bool) → NamesCounter script (announces h false) → NamesCounter script (announces h completion)
@@ -76,21 +70,21 @@ module _ (script : Script) (rules : Rules) where
   counter-later (heads.Am handler tgt cmpl header) false f = f
   counter-later _ completion f = f
 
-  kind-by : (answers : Bool) (m : MsgName) (leg : Leg) (s : Statement) → has_leg script answers m.origin leg s ≡ true → answers ≡ false → IsKind (head_by script m leg s) (length_by leg s)
-  kind-by ans m Go (statements.Put task to from len tgt org cmpl) g none = tt
-  kind-by ans m Go (statements.Get task from to len tgt org) g none = refl
-  kind-by ans m Go (statements.Putv task to from tgt org cmpl) g none = tt
-  kind-by ans m Go (statements.Getv task from to tgt org) g none = refl
-  kind-by ans m Go (statements.Rmw task op at in1 in2 prev org) g none = refl
-  kind-by ans m Go (statements.Am task handler header from len tgt org cmpl) g none = tt
-  kind-by ans m Back (statements.Get task from to len tgt org) g none = tt
-  kind-by ans m Back (statements.Getv task from to tgt org) g none = tt
-  kind-by ans m Back (statements.Rmw task op at in1 in2 prev org) g none = refl
-  kind-by ans m Note s g none = refl
-  kind-by ans m Echo s g none = absurd (false≢true (sym none ∙ g))
-  kind-by ans m (Join d) statements.Gfence g none = refl
-  kind-by ans m (Join d) (statements.Addr at) g none = refl
-  kind-by ans m _ s g none = absurd (false≢true g)
+  kind-by : (answers : Bool) (m : MsgName) (leg : Leg) (s : Statement) → has_leg script answers m.origin leg s ≡ true → IsKind (head_by script m leg s) (length_by leg s)
+  kind-by ans m Go (statements.Put task to from len tgt org cmpl) g = tt
+  kind-by ans m Go (statements.Get task from to len tgt org) g = refl
+  kind-by ans m Go (statements.Putv task to from tgt org cmpl) g = tt
+  kind-by ans m Go (statements.Getv task from to tgt org) g = refl
+  kind-by ans m Go (statements.Rmw task op at in1 in2 prev org) g = refl
+  kind-by ans m Go (statements.Am task handler header from len tgt org cmpl) g = tt
+  kind-by ans m Back (statements.Get task from to len tgt org) g = tt
+  kind-by ans m Back (statements.Getv task from to tgt org) g = tt
+  kind-by ans m Back (statements.Rmw task op at in1 in2 prev org) g = refl
+  kind-by ans m Note s g = refl
+  kind-by ans m Echo s g = refl
+  kind-by ans m (Join d) statements.Gfence g = refl
+  kind-by ans m (Join d) (statements.Addr at) g = refl
+  kind-by ans m _ s g = absurd (false≢true g)
 
   -- A packet that comes: what the record says of it, and its head.
   pub record Comes (r : Run) (a t : ℕ) (p : DataPacket) : Type 0 where
@@ -104,7 +98,7 @@ module _ (script : Script) (rules : Rules) where
       let f = facts script rules r is a t k p at in
       let m = p.name in
       let s = statement script m.origin m.statement in
-      let kind = kind-by (answers script rules m.origin m.statement) m m.leg s f.leg (no-answers script rules valid ok m) in
+      let kind = kind-by (answers script rules m.origin m.statement) m m.leg s f.leg in
       record {
         facts = f;
         kind = subst (λ (h : Head). IsKind h p.length) (sym f.head) (subst (IsKind (head_by script m m.leg s)) (sym f.size) kind);

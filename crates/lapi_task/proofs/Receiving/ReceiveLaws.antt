@@ -1,5 +1,5 @@
 -- What the delivery of a data packet makes of its task.
-use Rattle.std.proofs.Common.{◌≡◌, ℕ, ◌<◌, ◌==◌, Bool, true, false, cond, ◌&&◌, ◌||◌, not, List, [], ◌∷◌, ◌++◌, map, length, slice_set, Option, Some, None, refl, sym, ap, ◌∙◌, subst, ⊎_elim, append_assoc}
+use Rattle.std.proofs.Common.{◌≡◌, ℕ, ◌<◌, ◌==◌, Bool, true, false, cond, ◌&&◌, ◌||◌, not, List, [], ◌∷◌, ◌++◌, map, length, set, slice_set, Option, Some, None, refl, sym, ap, ◌∙◌, subst, ⊎_elim, append_assoc, arith}
 use Rattle.std.specs.Prelude.{slice_get}
 use Rattle.std.specs.List.{list_any}
 use Rattle.std.specs.Option.{option_or}
@@ -16,6 +16,7 @@ use Rattle.lapi_base.specs.declared.handler.HeaderOut.{HeaderOut}
 use Rattle.lapi_base.specs.declared.packet.Packet.{Packet}
 use Rattle.lapi_base.specs.declared.packet.Packet.TheVariants.{Data}
 use Rattle.lapi_base.specs.declared.packet.DataPacket.{DataPacket}
+use Rattle.lapi_base.specs.declared.wire.WireEntry.{WireEntry}
 use Rattle.lapi_base.specs.declared.reply.Reply.TheVariants.{Did}
 use Rattle.lapi_base.specs.Record.Arrived.{ack_of, has_some}
 use Rattle.lapi_base.specs.Record.Atomic.{Atomic}
@@ -25,9 +26,7 @@ use Rattle.lapi_base.specs.declared.statement.Statement.{Statement}
 use Rattle.lapi_base.specs.Record.Operations.{numbers_below}
 use Rattle.lapi_base.specs.Record.Refusals.{round_of}
 use Rattle.lapi_base.specs.Record.Wires.{Run, is_number, has_number, has_ack, is_delivered}
-use Rattle.lapi_base.specs.Record.Acts.{followed, hand_over, deliver_entry, deliver}
-use Rattle.lapi_base.specs.Record.Valid.{ValidScript}
-use Rattle.lapi_base.specs.declared.layout.TheConstants.{LONGEST_ACTIVE}
+use Rattle.lapi_base.specs.Record.Acts.{followed, at_once, hand_over, deliver_entry, deliver}
 use Rattle.lapi_base.specs.Packet.PacketBytes as written
 use Rattle.lapi_base.proofs.ListLaws.{get-set, get-set-other, some-same}
 use Rattle.lapi_base.proofs.TestLaws.{eqb-refl}
@@ -43,29 +42,28 @@ use Rattle.lapi_task.specs.declared.outcome.Outcome.{Outcome}
 use Rattle.lapi_task.specs.declared.task.Task.{Task}
 use Rattle.lapi_task.specs.Acknowledging.{ReceivesAt, HasTaken, answer}
 use Rattle.lapi_task.specs.HasEffect.{IsAt, HasEffect, bytes_to}
-use Rattle.lapi_task.specs.Landed.{IsDirect, Follower, follower, HeadMayLand, called, is_first, kept_now, ends_after, events_of, HasArrived, HasCome, landed}
+use Rattle.lapi_task.specs.Landed.{Follower, follower, HeadMayLand, called, is_first, kept_now, ends_after, events_of, HasArrived, HasCome, landed}
 use Rattle.lapi_task.specs.MayReceive.{DataFits}
 use Rattle.lapi_task.specs.Answered.{KeepsAnswers, completes_in}
 use Rattle.lapi_task.specs.declared.state.State.{State}
 use Rattle.lapi_task.specs.HasRounds.{MayJoin}
-use Rattle.lapi_task.specs.StandsFor.{task_unit}
-use Rattle.lapi_task.proofs.Copying.CopyLaws.{unit-is}
 use Rattle.lapi_task.proofs.Receiving.ReceiveHolds.{Lands}
-use Rattle.lapi_base.specs.Packet.Layout.{layout_of, unit, unit_of, longest_active_of, longest_active as most_active}
+use Rattle.lapi_base.specs.Packet.Layout.{layout_of, waits_for_poll, holds_back}
 use Rattle.lapi_task.specs.StandsFor.{SenderAt, ReceiverAt}
 use Rattle.lapi_task.proofs.Receiving.ArrivingFits.{arriving-fits}
 use Rattle.lapi_task.proofs.Following.HeaderAnswers.{is-told}
 use Rattle.lapi_task.proofs.Receiving.ReceiveEvents.{come, come-is, come-told, come-events, first-is, is_opening, came_bytes}
 use Rattle.lapi_task.proofs.Receiving.ReceiveHolds.{holds-arrived, answer_now, handlers_now, lands_now, events_now}
-use Rattle.lapi_task.proofs.Receiving.ReceiveKinds.{Comes, comes as what-comes, there-is, direct-is}
-use Rattle.lapi_task.proofs.Following.Followers.{Follows, follower-is}
+use Rattle.lapi_task.proofs.Receiving.ReceiveKinds.{Comes, comes as what-comes, there-is}
+use Rattle.lapi_task.proofs.Following.Followers.{follower-is}
+use Rattle.lapi_task.proofs.Following.Leaving.{Follows}
 use Rattle.lapi_task.proofs.Receiving.ReceiveSuits.{suits-head}
 use Rattle.lapi_task.proofs.Receiving.ReceiveLinks.{told, Settled, ends-come, ends-length}
-use Rattle.lapi_task.proofs.Sending.SenderLaws.{bytes-here, bytes-there}
+use Rattle.lapi_task.proofs.Acknowledging.OwedFlags.{flags_then, flags-length, owed-more}
+use Rattle.lapi_task.proofs.Sending.SenderLaws.{bytes-here, bytes-there, entries-known}
 use Rattle.lapi_task.proofs.Following.JoinsLand.{head-joins, joins-may}
 use Rattle.lapi_task.proofs.Standing.KeptAnswers.{kept-by, kept-before, still-kept}
 use Rattle.lapi_task.proofs.Stepping.StepMemories.{memory-length}
-use Rattle.lapi_parts.proofs.FirstLayout.{holds-nothing, told-at-once}
 use Rattle.lapi_task.specs.declared.unfinished.Unfinished.{Unfinished}
 use Rattle.lapi_task.specs.Unfinished.{flags_landed, Tracks}
 use Rattle.lapi_task.proofs.Receiving.ArrivingData.{IsOwnAnswer, own-answer, tracks-come}
@@ -79,6 +77,7 @@ pub record KeepsRest (before after : Task) : Type 0 where
   pub state : after.state ≡ before.state
   pub unfinished : after.unfinished ≡ before.unfinished
   pub senders : after.senders.items ≡ before.senders.items
+  pub owed : after.owed.items ≡ before.owed.items
 
 -- what the end of the link from task a did with the packet, and what came of it
 abbrev pub Takes : (a : ℕ) → DataPacket → (now : Option HeaderOut) → (came : Option Message) → (events events_then : List Event) → (before after : List ReceivingEnd) → Type 0
@@ -103,9 +102,9 @@ module _ (script : Script) (rules : Rules) where
   abbrev pub handed_on : Run → (a t : ℕ) → DataPacket → Packet → Run
   handed_on r a t p q = record {
     replies = r.replies ++ Did ∷ [];
-    wire = λ x y. cond (x == t && y == a) (r.wire x y ++ q ∷ []) (r.wire x y);
+    wire = λ x y. cond (x == t && y == a) (r.wire x y ++ at_once script rules q) (r.wire x y);
     handed = λ x y. cond (x == a && y == t) (Data p ∷ r.handed x y) (r.handed x y);
-    owed = r.owed;
+    owed = λ x y. (holds_back script && (x == a && y == t)) || r.owed x y;
     journal = r.journal;
   }
 
@@ -117,6 +116,10 @@ module _ (script : Script) (rules : Rules) where
   unfolding has_number
   number-more xs q n e = list_any-append (is_number n) xs (q ∷ []) ∙ ap (λ b. list_any (is_number n) xs || (b || false)) e ∙ or-none (list_any (is_number n) xs)
 
+  number-kept : (xs : List Packet) (q : Packet) (n : ℕ) → is_number n q ≡ false → has_number (xs ++ at_once script rules q) n ≡ has_number xs n
+  unfolding at_once
+  number-kept xs q n e = cond_both (holds_back script) [] (q ∷ []) (λ told. has_number (xs ++ told) n ≡ has_number xs n) (λ _. ap (λ ys. has_number ys n) (append-nil xs)) (λ _. number-more xs q n e)
+
   ack-more : (p : DataPacket) (xs : List Packet) (n : ℕ) → has_ack (Data p ∷ xs) n ≡ has_ack xs n
   unfolding has_ack
   ack-more p xs n = refl
@@ -125,21 +128,30 @@ module _ (script : Script) (rules : Rules) where
   settled r a t p ps b =
       let q = ack_of script ps a t in
       record {
-        sent = λ n. cond_both (t == t && b == a) (r.wire t b ++ q ∷ []) (r.wire t b) (λ xs. has_number xs n ≡ has_number (r.wire t b) n) (λ _. number-more (r.wire t b) q n (silent ps a t n)) (λ _. refl);
+        sent = λ n. cond_both (t == t && b == a) (r.wire t b ++ at_once script rules q) (r.wire t b) (λ xs. has_number xs n ≡ has_number (r.wire t b) n) (λ _. number-kept (r.wire t b) q n (silent ps a t n)) (λ _. refl);
         acked = λ n. cond_both (b == a && t == t) (Data p ∷ r.handed b t) (r.handed b t) (λ xs. has_ack xs n ≡ has_ack (r.handed b t) n) (λ _. ack-more p (r.handed b t) n) (λ _. refl);
       }
 
-  wires : (r : Run) (a t : ℕ) (p : DataPacket) (q : Packet) (b : ℕ) → map written.packet ((handed_on r a t p q).wire t b) ≡ map written.packet (r.wire t b) ++ bytes_to b (entries_to a (written.packet q ∷ []))
+  -- what is told at once, as entries of the wire to task a
+  abbrev told_entries : (a : ℕ) → Packet → List WireEntry
+  told_entries a q = entries_to a (map written.packet (at_once script rules q))
+
+  told-is : (a : ℕ) (q : Packet) → told_entries a q ≡ cond (waits_for_poll (layout_of script.layout)) [] (record { to = a; bytes = written.packet q } ∷ [])
+  unfolding at_once holds_back
+  told-is a q = cond_both (waits_for_poll (layout_of script.layout)) [] (q ∷ []) (λ told. entries_to a (map written.packet told) ≡ cond (waits_for_poll (layout_of script.layout)) [] (record { to = a; bytes = written.packet q } ∷ [])) (λ e. sym (cond-true _ _ _ e)) (λ e. sym (cond-false _ _ _ e))
+
+  wires : (r : Run) (a t : ℕ) (p : DataPacket) (q : Packet) (b : ℕ) → map written.packet ((handed_on r a t p q).wire t b) ≡ map written.packet (r.wire t b) ++ bytes_to b (told_entries a q)
   wires r a t p q b =
       let old = r.wire t b in
-      let bytes = written.packet q ∷ [] in
+      let told = at_once script rules q in
+      let bytes = map written.packet told in
       ⊎_elim
       (λ (same : b ≡ a).
-      ap (map written.packet) (cond-true (t == t && b == a) (old ++ q ∷ []) old (and_from (t == t) (b == a) (eqb-refl t) (subst (λ x. (b == x) ≡ true) same (eqb-refl b))))
-      ∙ map-append written.packet old (q ∷ [])
+      ap (map written.packet) (cond-true (t == t && b == a) (old ++ told) old (and_from (t == t) (b == a) (eqb-refl t) (subst (λ x. (b == x) ≡ true) same (eqb-refl b))))
+      ∙ map-append written.packet old told
       ∙ ap (λ xs. map written.packet old ++ xs) (sym (ap (λ x. bytes_to b (entries_to x bytes)) (sym same) ∙ bytes-here b bytes)))
       (λ (apart : b ≡ a → ⊥).
-      ap (map written.packet) (cond-false (t == t && b == a) (old ++ q ∷ []) old (and_right (t == t) (b == a) (ne_eqb b a apart)))
+      ap (map written.packet) (cond-false (t == t && b == a) (old ++ told) old (and_right (t == t) (b == a) (ne_eqb b a apart)))
       ∙ sym (append-nil (map written.packet old))
       ∙ ap (λ xs. map written.packet old ++ xs) (sym (bytes-there a b bytes (ne_eqb a b (λ e. apart (sym e))))))
       (cases_eq b a)
@@ -159,10 +171,6 @@ module _ (script : Script) (rules : Rules) where
 
   -- ---- a delivery
 
-  first-active : ValidScript script → longest_active_of script ≡ LONGEST_ACTIVE
-  unfolding longest_active_of
-  first-active valid = ap (λ n. most_active (layout_of n)) valid.layout
-
   module _ (t : ℕ) (r : Run) (task : Task) (at : IsAt script rules t task r) (a k : ℕ) (known_task : a < script.tasks) (p : DataPacket) (entry : slice_get (r.wire a t) k ≡ Some (Data p)) where
     abbrev arrives : Option Message
     arrives = lands_now script rules t r a p
@@ -175,9 +183,6 @@ module _ (script : Script) (rules : Rules) where
 
     packet-comes : Comes script rules r a t p
     packet-comes = what-comes script rules at.stands.calls.valid at.stands.calls.rules_valid r a t k p at.recorded entry
-
-    direct : IsDirect p.head
-    direct = direct-is p.head p.length packet-comes.kind
 
     fits : MayArrive script (r.handed a t) p
     fits = arriving-fits script rules at.stands.calls.valid at.stands.calls.rules_valid r a t k p at.recorded entry
@@ -194,29 +199,20 @@ module _ (script : Script) (rules : Rules) where
         let q = next-acks-told script rules r at.recorded a t k p entry in
         let answers = is-told script rules r at.recorded a t k p entry in
         let es = ap (λ es. cond (is_delivered r a t p.seq) [] es) (arrivals-told script rules r at.recorded a t k p entry) ∙ come-events script rules (r.handed a t) p (answer_now script rules t p) (handlers_now script rules t) answers.completes (is_delivered r a t p.seq) in
-        let held = holds-nothing script at.stands.calls.valid in
-        let once = λ (told : Packet). told-at-once script rules at.stands.calls.valid told in
-        ap (deliver_entry script rules r a t) entry
-        ∙ (λ i. record {
-          replies = r.replies ++ Did ∷ [];
-          wire = λ x y. cond (x == t && y == a) (r.wire x y ++ once (q i) i) (r.wire x y);
-          handed = λ x y. cond (x == a && y == t) (Data p ∷ r.handed x y) (r.handed x y);
-          owed = λ x y. (held i && (x == a && y == t)) || r.owed x y;
-          journal = followed r.journal (es i);
-        })
+        ap (deliver_entry script rules r a t) entry ∙ (λ i. told script rules (handed_on r a t p (q i)) (followed r.journal (es i)))
 
     atomic : Atomic script rules then
     atomic = subst (λ (x : Run). Atomic script rules x.journal) delivered (deliver-sound script rules r a t k (record-sound script rules r at.recorded)).atomic
 
-    unit-then : (mid : Task) → KeepsRest task mid → task_unit mid ≡ unit_of script
-    unit-then mid g = ap (λ (z : _). unit (layout_of z.layout)) g.sizes ∙ unit-is script rules t task at.stands.calls
+    layout-then : (mid : Task) → KeepsRest task mid → mid.sizes.layout ≡ script.layout
+    layout-then mid g = ap (λ (z : _). z.layout) (g.sizes ∙ at.stands.calls.sizes)
 
     -- what follows is the record's
     memory-there : task.state.memory ≡ memory_bytes script rules r.journal t
     memory-there = at.stands.holds.memory
 
-    follows-then : completes script rules r a t p ≡ true → (x : Follower) → follower t a p.name p.head (completes_in (handlers_now script rules t) (answer_now script rules t p)) task.state.memory ≡ Some x → Follows script rules (Land p.name ∷ followed r.journal (called (is_opening (r.handed a t) p) p.name p.head)) t a x
-    follows-then whole x e = follower-is script rules r a t k p at.recorded entry packet-comes whole x (ap (follower t a p.name p.head (completes_in (handlers_now script rules t) (answer_now script rules t p))) (sym memory-there) ∙ e)
+    follows-then : completes script rules r a t p ≡ true → (x : Follower) → follower script.layout t a p.name p.head (completes_in (handlers_now script rules t) (answer_now script rules t p)) task.state.memory ≡ Some x → Follows script rules (Land p.name ∷ followed r.journal (called (is_opening (r.handed a t) p) p.name p.head)) t a x
+    follows-then whole x e = follower-is script rules r a t k p at.recorded entry packet-comes whole x (ap (follower script.layout t a p.name p.head (completes_in (handlers_now script rules t) (answer_now script rules t p))) (sym memory-there) ∙ e)
 
     -- its origin may join the round that it names
     joins : completes script rules r a t p ≡ true → MayJoin a p.head task.state.collective
@@ -237,7 +233,7 @@ module _ (script : Script) (rules : Rules) where
     may-land : completes script rules r a t p ≡ true → (later : Bool) → HeadMayLand a p.head later p.length task.state.memory task.state.counters task.state.collective
     may-land whole later =
         let h = at.stands.holds in
-        suits-head script rules a p.head later p.length task.state.memory task.state.counters task.state.collective direct (there-is script rules p.head p.length packet-comes.kind packet-comes.fits.head) (ap length h.memory ∙ memory-length script rules r.journal t) h.counter_count (joins whole)
+        suits-head script rules a p.head later p.length task.state.memory task.state.counters task.state.collective (there-is script rules p.head p.length packet-comes.kind packet-comes.fits.head) (ap length h.memory ∙ memory-length script rules r.journal t) h.counter_count (joins whole)
 
     -- the packet fits what the task has
     module _ (may-take : WhatArrivesMayBeTaken) (whole-is : WholeIsComplete) where
@@ -259,7 +255,7 @@ module _ (script : Script) (rules : Rules) where
     with_unfinished after u = record after { unfinished = u }
 
     pub has-taken-still : (after : Task) (u : Unfinished) → HasTaken script t after a (Data p ∷ r.handed a t) → HasTaken script t (with_unfinished after u) a (Data p ∷ r.handed a t)
-    has-taken-still after u h = record { valid = h.valid; number = h.number; known = h.known; from_known = h.from_known; receiver = h.receiver }
+    has-taken-still after u h = record { valid = h.valid; layout = h.layout; number = h.number; known = h.known; from_known = h.from_known; receiver = h.receiver }
 
     -- what the end of its link did with it
     module _ (mid : Task) (g : KeepsRest task mid) (now : Option HeaderOut) (came : Option Message) (before during : List Event) (took : Takes a p now came before during task.receivers.items mid.receivers.items) where
@@ -289,6 +285,7 @@ module _ (script : Script) (rules : Rules) where
           let same = ap (λ (x : Task). x.receivers.items) h.rest ∙ own.ends in
           record {
             valid = at.stands.calls.valid;
+            layout = ap (λ (x : Task). x.sizes.layout) h.rest ∙ layout-then mid g;
             number = ap (λ (x : Task). x.state.number) h.rest ∙ ap (λ (x : State). x.number) g.state ∙ at.stands.holds.number;
             known = at.known;
             from_known = known_task;
@@ -313,8 +310,13 @@ module _ (script : Script) (rules : Rules) where
             (own.keeps.own ∙ ap (λ x. option_or (kept_now own.arrival x) (answer_of own.mid p.name)) answered)
             own.keeps.others
 
-        pub arrived-does : (after : Task) (u : Unfinished) (old new : Outcome) → u ≡ record after.unfinished { undone = flags_landed came after.unfinished.undone } → before ≡ old.events → HasArrived a (handlers_now script rules t) came mid after during new.events → new.entries ≡ old.entries ++ answer script (Data p ∷ r.handed a t) a t ∷ [] → HasEffect script rules t r (deliver script rules r a t k) (with_unfinished after u) old new
-        arrived-does after u old new closed began h added =
+        -- the task with what it owes then
+        abbrev pub with_owed : Task → Task → Task
+        with_owed after done = record after { owed = done.owed }
+
+        pub arrived-does : (after : Task) (u : Unfinished) (done : Task) (old new : Outcome) → u ≡ record after.unfinished { undone = flags_landed came after.unfinished.undone } → before ≡ old.events → HasArrived a (handlers_now script rules t) came mid after during new.events → done ≡ with_owed (with_unfinished after u) done → done.owed.items ≡ cond (waits_for_poll (layout_of after.sizes.layout)) (set after.owed.items a true) after.owed.items → new.entries ≡ old.entries ++ cond (waits_for_poll (layout_of script.layout)) [] (answer script (Data p ∷ r.handed a t) a t ∷ []) → HasEffect script rules t r (deliver script rules r a t k) done old new
+        unfolding holds_back
+        arrived-does after u done old new closed began h rest owing added =
             let ps = Data p ∷ r.handed a t in
             let q = ack_of script ps a t in
             let count = handlers_now script rules t in
@@ -325,14 +327,18 @@ module _ (script : Script) (rules : Rules) where
             let c = packet-comes in
             let s = at.stands in
             let mine : HasArrived a count arrives mid after during new.events = subst (λ x. HasArrived a count x mid after during new.events) came-now h in
-            let ends : after.senders.items ≡ ends_after (unit_of script) t a count arrives task.state.memory task.senders.items = mine.senders ∙ (λ i. ends_after (unit-then mid g i) ((ap (λ (x : State). x.number) g.state ∙ s.holds.number) i) a count arrives (g.state i).memory (g.senders i)) in
+            let ends : after.senders.items ≡ ends_after script.layout t a count arrives task.state.memory task.senders.items = mine.senders ∙ (λ i. ends_after (layout-then mid g i) ((ap (λ (x : State). x.number) g.state ∙ s.holds.number) i) a count arrives (g.state i).memory (g.senders i)) in
             let lands : Lands a count arrives task.state after.state = subst (λ (x : State). Lands a count arrives x after.state) g.state (record { memory = mine.memory; counters = mine.counters; jobs = mine.jobs; few = mine.few; joins = mine.joins; rest = ap (λ (x : Task). x.state) mine.rest }) in
             let receivers = ap (λ (x : Task). x.receivers.items) mine.rest ∙ own.ends in
             let undone = unfinished-same count after new.events h in
-            subst (λ y. HasEffect script rules t r y (with_unfinished after u) old new) (sym delivered)
+            let layout : after.sizes.layout ≡ script.layout = ap (λ (y : Task). y.sizes.layout) mine.rest ∙ layout-then mid g in
+            let flags : after.owed.items ≡ task.owed.items = ap (λ (y : Task). y.owed.items) mine.rest ∙ g.owed in
+            let owed : done.owed.items ≡ flags_then task.owed.items a (waits_for_poll (layout_of script.layout)) = owing ∙ (λ i. cond (waits_for_poll (layout_of (layout i))) (set (flags i) a true) (flags i)) in
+            subst (λ (z : Task). HasEffect script rules t r (deliver script rules r a t k) z old new) (sym rest)
+            (subst (λ y. HasEffect script rules t r y (with_owed (with_unfinished after u) done) old new) (sym delivered)
             (record {
               events = happens;
-              entries = answer script ps a t ∷ [];
+              entries = told_entries a q;
               stands = record {
                 calls = record {
                   valid = s.calls.valid;
@@ -347,10 +353,12 @@ module _ (script : Script) (rules : Rules) where
                 holds = holds-arrived script rules t r a k p at.recorded entry c (ap (λ (y : Run). y.journal) delivered) atomic task.state after.state s.holds lands;
                 unfinished = subst (λ (x : Unfinished). Tracks script rules t x next_run) (sym (closed ∙ (λ i. record { undone = flags_landed (came-now i) (undone i).undone; left = (undone i).left })))
                     (tracks-come script rules t r task.unfinished s.unfinished count first whole p.name p.head bytes out task.state.memory a next_run refl (λ b n. (settled r a t p ps b).acked n) atomic own-answers);
-                sender_count = ap length ends ∙ ends-length script rules (unit_of script) t a count whole p.name p.head bytes out task.state.memory task.senders.items ∙ s.sender_count;
+                sender_count = ap length ends ∙ ends-length script rules script.layout t a count whole p.name p.head bytes out task.state.memory task.senders.items ∙ s.sender_count;
                 receiver_count = ap length receivers ∙ length-set task.receivers.items a own.end ∙ s.receiver_count;
                 senders = λ b l. subst (λ xs. SenderAt script rules next_run t b (slice_get xs b)) (sym ends) (ends-come script rules r (handed_on r a t p q) a t task.senders.items (λ y. settled r a t p ps y) known_task s.senders count first whole p.name p.head bytes out task.state.memory follows-then atomic b l);
                 receivers = handed-ends r a t p q task.receivers.items after.receivers.items end-there.0 own.end end-there.1 receivers (stands-end, keeps-end) s.receivers;
+                owed_count = ap length owed ∙ flags-length task.owed.items a (waits_for_poll (layout_of script.layout)) ∙ s.owed_count;
+                owed = λ x l. ap (λ xs. slice_get xs x) owed ∙ owed-more task.owed.items a (let l = known_task in let size = s.owed_count in omega (arith, l, size)) (waits_for_poll (layout_of script.layout)) t (λ y. r.owed y t) x (s.owed x l);
               };
               journal = refl;
               events_added =
@@ -359,6 +367,6 @@ module _ (script : Script) (rules : Rules) where
                   ∙ ap (λ b. (old.events ++ called b p.name p.head) ++ events_of count arrives) (ap is_first arrival-told ∙ first-is script (r.handed a t) p (answer_of end-there.0 p.name))
                   ∙ append_assoc old.events (called first p.name p.head) (events_of count arrives);
               put = λ b l. wires r a t p q b;
-              entries_added = added;
-              ends = (known_task, tt);
-            })
+              entries_added = added ∙ ap (λ es. old.entries ++ es) (sym (told-is a q));
+              ends = entries-known script.tasks a (map written.packet (at_once script rules q)) known_task;
+            }))

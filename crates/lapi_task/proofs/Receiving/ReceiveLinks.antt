@@ -11,7 +11,7 @@ use Rattle.lapi_base.specs.declared.head.Head.{Head}
 use Rattle.lapi_base.specs.declared.message.MsgName.{MsgName}
 use Rattle.lapi_base.specs.declared.packet.DataPacket.{DataPacket}
 use Rattle.lapi_base.specs.Record.Atomic.{Atomic}
-use Rattle.lapi_base.specs.Packet.Layout.{unit_of}
+use Rattle.lapi_base.specs.Packet.Layout.{layout_of, unit, unit_of}
 use Rattle.lapi_base.specs.Record.HeadSays.{is_active, follows}
 use Rattle.lapi_base.specs.Record.Operations.{sender, receiver}
 use Rattle.lapi_base.specs.Record.Wires.{Run, numbered, is_sent, is_acked}
@@ -29,7 +29,7 @@ use Rattle.lapi_task.specs.StandsFor.{SenderAt}
 use Rattle.lapi_task.proofs.Standing.Tags.{tags-same}
 use Rattle.lapi_task.proofs.Sending.Packets.{packet-same}
 use Rattle.lapi_task.proofs.Receiving.ReceiveEvents.{come, followed-append}
-use Rattle.lapi_task.proofs.Following.Followers.{Follows}
+use Rattle.lapi_task.proofs.Following.Leaving.{Follows}
 use Rattle.lapi_task.proofs.Following.FollowerParts.{copies, follows-is}
 
 module _ (script : Script) (rules : Rules) where
@@ -144,17 +144,17 @@ module _ (script : Script) (rules : Rules) where
         stays-on r.journal J (Land m ∷ J) t b (stays-called (first && is_active h) m r.journal t b (Atomic-tail script rules (Land m) J atomic)) (stays-land m J t b atomic)
 
     pub ends-come : (count : ℕ) (first whole : Bool) (m : MsgName) (h : Head) (bytes : List ℕ) (out : Option HeaderOut) (memory : List ℕ) →
-        (whole ≡ true → (x : Follower) → follower t a m h (completes_in count out) memory ≡ Some x → Follows script rules (Land m ∷ followed r.journal (called first m h)) t a x) →
-        let arrival = come whole m h bytes out in let K = followed r.journal (called first m h ++ events_of count arrival) in Atomic script rules K → (b : ℕ) → b < script.tasks → SenderAt script rules (told w K) t b (slice_get (ends_after (unit_of script) t a count arrival memory ends) b)
-    unfolding followed
+        (whole ≡ true → (x : Follower) → follower script.layout t a m h (completes_in count out) memory ≡ Some x → Follows script rules (Land m ∷ followed r.journal (called first m h)) t a x) →
+        let arrival = come whole m h bytes out in let K = followed r.journal (called first m h ++ events_of count arrival) in Atomic script rules K → (b : ℕ) → b < script.tasks → SenderAt script rules (told w K) t b (slice_get (ends_after script.layout t a count arrival memory ends) b)
+    unfolding followed unit_of
     ends-come count first false m h bytes out memory f atomic =
         let same : followed r.journal (called first m h) ≡ followed r.journal (called first m h ++ []) = ap (followed r.journal) (sym (append-nil (called first m h))) in
         subst (λ K. Ends K ends) same (ends-same (followed r.journal (called first m h)) (λ b. stays-called (first && is_active h) m r.journal t b (subst (Atomic script rules) (sym same) atomic)))
     ends-come count first true m h bytes out memory f atomic =
         let later = completes_in count out in
-        let o = follower t a m h later memory in
+        let o = follower script.layout t a m h later memory in
         let J = followed r.journal (called first m h) in
-        let same : followed r.journal (called first m h ++ Land m ∷ follows h later m) ≡ followed (Land m ∷ J) (copies o) = followed-append (called first m h) (Land m ∷ follows h later m) r.journal ∙ ap (followed (Land m ∷ J)) (follows-is t a m later memory h) in
+        let same : followed r.journal (called first m h ++ Land m ∷ follows h later m) ≡ followed (Land m ∷ J) (copies o) = followed-append (called first m h) (Land m ∷ follows h later m) r.journal ∙ ap (followed (Land m ∷ J)) (follows-is script.layout t a m later memory h) in
         subst (λ K. Ends K (with_follower (unit_of script) o ends)) (sym same) (ends-followed (Land m ∷ J) (stays-landed first m h) o (f refl) (subst (Atomic script rules) same atomic))
 
   with-follower-length : (unit : ℕ) (x : Follower) (o : Option SendingEnd) (ends : List SendingEnd) → length (with_follower_at unit x o ends) ≡ length ends
@@ -165,6 +165,6 @@ module _ (script : Script) (rules : Rules) where
   followed-length unit None ends = refl
   followed-length unit (Some x) ends = with-follower-length unit x (slice_get ends x.packet.to) ends
 
-  pub ends-length : (unit t a count : ℕ) (whole : Bool) (m : MsgName) (h : Head) (bytes : List ℕ) (out : Option HeaderOut) (memory : List ℕ) (ends : List SendingEnd) → length (ends_after unit t a count (come whole m h bytes out) memory ends) ≡ length ends
-  ends-length unit t a count false m h bytes out memory ends = refl
-  ends-length unit t a count true m h bytes out memory ends = followed-length unit (follower t a m h (completes_in count out) memory) ends
+  pub ends-length : (layout t a count : ℕ) (whole : Bool) (m : MsgName) (h : Head) (bytes : List ℕ) (out : Option HeaderOut) (memory : List ℕ) (ends : List SendingEnd) → length (ends_after layout t a count (come whole m h bytes out) memory ends) ≡ length ends
+  ends-length layout t a count false m h bytes out memory ends = refl
+  ends-length layout t a count true m h bytes out memory ends = followed-length (unit (layout_of layout)) (follower layout t a m h (completes_in count out) memory) ends

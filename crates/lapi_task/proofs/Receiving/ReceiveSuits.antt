@@ -10,7 +10,7 @@ use Rattle.lapi_base.specs.Record.HeadSays.{announces, head_pieces, asked_pieces
 use Rattle.lapi_vector.specs.Pieces.{AreWithin}
 use Rattle.lapi_task.specs.declared.collective.Collective.{Collective}
 use Rattle.lapi_task.specs.HasRounds.{MayJoin}
-use Rattle.lapi_task.specs.Landed.{IsDirect, HeadMayLand}
+use Rattle.lapi_task.specs.Landed.{HeadMayLand}
 use Rattle.lapi_task.proofs.Following.FollowerParts.{total-is}
 use Rattle.lapi_task.proofs.Receiving.ReceiveKinds.{IsThere, counter-later}
 
@@ -23,9 +23,8 @@ module _ (script : Script) (rules : Rules) where
   pieces-there pieces memory e h = subst (AreWithin pieces) (sym e) (All-from_recursion (λ (p : Span). p.at + p.len ≤ script.memory) pieces h)
 
   -- A message whose places are there may land.
-  pub suits-head : (a : ℕ) (h : Head) (completion : Bool) (len : ℕ) (memory counters : List ℕ) (collective : Collective) → IsDirect h → IsThere script rules h len → length memory ≡ script.memory → length counters ≡ script.counters → MayJoin a h collective → HeadMayLand a h completion len memory counters collective
-  suits-head a h completion len memory counters collective direct there places known joins = record {
-    direct = direct;
+  pub suits-head : (a : ℕ) (h : Head) (completion : Bool) (len : ℕ) (memory counters : List ℕ) (collective : Collective) → IsThere script rules h len → length memory ≡ script.memory → length counters ≡ script.counters → MayJoin a h collective → HeadMayLand a h completion len memory counters collective
+  suits-head a h completion len memory counters collective there places known joins = record {
     pieces = pieces-there (head_pieces h len) memory places there.pieces;
     total = λ off. total-is (head_pieces h len) ∙ there.total off;
     asked = pieces-there (asked_pieces h) memory places there.asked;

@@ -1,8 +1,8 @@
 -- What a poll sends on the links of its task.
-use Rattle.std.proofs.Common.{◌≡◌, ◌≢◌, ℕ, zero, suc, ◌+◌, ◌-◌, ◌<◌, ◌≤◌, ◌==◌, Bool, true, false, cond, ◌||◌, List, [], ◌∷◌, ◌++◌, map, length, take, drop, set, Option, Some, None, refl, sym, ap, ◌∙◌, subst, ⊎_elim, arith, add-one}
+use Rattle.std.proofs.Common.{◌≡◌, ◌≢◌, ℕ, zero, suc, ◌+◌, ◌-◌, ◌<◌, ◌≤◌, ◌==◌, Bool, true, false, cond, ◌&&◌, ◌||◌, not, List, [], ◌∷◌, ◌++◌, map, length, take, drop, set, Option, Some, None, refl, sym, ap, ◌∙◌, subst, ⊎_elim, arith, append_assoc, add-one}
 use Rattle.std.specs.Prelude.{slice_get, option_map, nat_lt}
 use Rattle.std.specs.List.{flat_map, list_any}
-use Rattle.std.proofs.lemmas.Bool.{cond-true, cond-false, cases_lt, cases_eq, lt-ltb, le-ltb, eq-eqb, ne_eqb, or_right}
+use Rattle.std.proofs.lemmas.Bool.{cond-true, cond-false, cases_lt, cases_eq, lt-ltb, le-ltb, eq-eqb, ne_eqb, and_left, or_right}
 use Rattle.std.proofs.lemmas.List.{length-append, length-take-le, length-drop, map-append}
 use Rattle.std.proofs.lemmas.List.Folds.{list_any-append}
 use Rattle.std.proofs.Math.ListN.{length-set}
@@ -11,11 +11,12 @@ use Rattle.lapi_base.specs.declared.rule.Rules.{Rules}
 use Rattle.lapi_base.specs.declared.event.Event.{Event}
 use Rattle.lapi_base.specs.declared.message.MsgName.{MsgName}
 use Rattle.lapi_base.specs.declared.packet.Packet.{Packet}
+use Rattle.lapi_base.specs.declared.wire.WireEntry.{WireEntry}
 use Rattle.lapi_base.specs.Record.Below.{below, least_missing}
 use Rattle.lapi_base.specs.Packet.Layout.{window_of}
 use Rattle.lapi_base.specs.Record.Operations.{numbers_below}
 use Rattle.lapi_base.specs.Record.Packets.{data_packet}
-use Rattle.lapi_base.specs.Record.Wires.{Run, numbered, base, to_send, packets, is_number, has_number, is_acked}
+use Rattle.lapi_base.specs.Record.Wires.{Run, numbered, base, to_send, packets, owed_ack, is_number, has_number, is_acked}
 use Rattle.lapi_base.specs.Record.Acts.{poll, copy_each, ready}
 use Rattle.lapi_base.specs.Record.Wires as on_wires
 use Rattle.lapi_base.specs.Laws.Locality.{copied, polled}
@@ -33,13 +34,15 @@ use Rattle.lapi_task.specs.HasEffect.{HasEffect}
 use Rattle.lapi_task.specs.Sends.{packet_at, spelled, SendsFor, of_end, entries_of}
 use Rattle.lapi_task.specs.StandsFor.{SenderAt, ReceiverAt, HoldsFor, StandsFor}
 use Rattle.lapi_task.proofs.Copying.CallsStay.{calls-kept}
-use Rattle.lapi_task.proofs.Sending.SenderLaws.{bytes-of-end, entries-within}
+use Rattle.lapi_task.specs.Acknowledging.{owed_below}
+use Rattle.lapi_task.specs.Alone.{is_owed}
+use Rattle.lapi_task.proofs.Sending.Paying.{IsPaid, told_bytes, bytes-paid, owed-told, owed-within}
+use Rattle.lapi_task.proofs.Sending.SenderLaws.{bytes-append, bytes-of-end, entries-within}
 use Rattle.lapi_task.proofs.Standing.StillLaws.{room}
-use Rattle.lapi_base.specs.Record.Valid.{ValidScript}
-use Rattle.lapi_base.proofs.ListLaws.{flat_map-push, get-after, get-before, get-set, get-set-other, get-some}
+use Rattle.lapi_base.proofs.ListLaws.{all-append, flat_map-push, get-after, get-before, get-set, get-set-other, get-some}
 use Rattle.lapi_base.proofs.TestLaws.{eqb-refl}
 use Rattle.lapi_base.proofs.UptoLaws.{numbers_below-more}
-use Rattle.lapi_parts.proofs.FirstLayout.{sends-data}
+use Rattle.lapi_laws.proofs.SentWindow.{sends-number}
 use Rattle.lapi_task.proofs.Standing.Tags.{tags-sent}
 use Rattle.lapi_task.specs.Unfinished.{Tracks}
 use Rattle.lapi_task.proofs.Acknowledging.UnfinishedLaws.{tracks-told}
@@ -140,7 +143,7 @@ module _ (script : Script) (rules : Rules) (J : List Event) (a b : ℕ) where
 
 -- ---- one link
 
-module _ (script : Script) (rules : Rules) (valid : ValidScript script) (t : ℕ) (r : Run) (recorded : IsRecord script rules r) where
+module _ (script : Script) (rules : Rules) (t : ℕ) (r : Run) (recorded : IsRecord script rules r) where
   abbrev pub J : List Event
   J = copied script rules r t
 
@@ -170,14 +173,17 @@ module _ (script : Script) (rules : Rules) (valid : ValidScript script) (t : ℕ
         polls-next script rules r recorded J t b low h.numbers.sent
         ∙ ap (λ n. map (λ i. low + i) (numbers_below n)) (room (length (numbered script J t b)) s.window.numbers (base script then_ t b) (base_of s.window) (window_of script) s.window.window low (length s.waiting) (sym h.numbers.numbers) base-is h.numbers.size h.whole)
 
-    pub polled-spelled : map written.packet (polled script rules r t b) ≡ packets_now s
-    polled-spelled = ap (map written.packet) (sends-data script rules valid r recorded J t b) ∙ ap (λ ns. map written.packet (packets script rules J t b ns)) fresh-is ∙ packets-waiting script rules J t b low s.waiting h.waiting count count-fits
+    -- the new numbers, and then what is owed
+    pub polled-spelled : map written.packet (polled script rules r t b) ≡ packets_now s ++ map written.packet (owed_ack script rules r b t)
+    polled-spelled =
+        map-append written.packet (packets script rules J t b (to_send script rules r J t b)) (owed_ack script rules r b t)
+        ∙ ap (λ xs. xs ++ map written.packet (owed_ack script rules r b t)) (ap (λ ns. map written.packet (packets script rules J t b ns)) fresh-is ∙ packets-waiting script rules J t b low s.waiting h.waiting count count-fits)
 
     sent-now : (n : ℕ) → has_number (r.wire t b ++ polled script rules r t b) n ≡ nat_lt n (low + count)
     unfolding has_number
     sent-now n =
         list_any-append (is_number n) (r.wire t b) (polled script rules r t b)
-        ∙ ap (λ ps. list_any (is_number n) (r.wire t b) || list_any (is_number n) ps) (sends-data script rules valid r recorded J t b)
+        ∙ ap (λ x. list_any (is_number n) (r.wire t b) || x) (sends-number script rules r J t b n)
         ∙ (λ i. h.numbers.sent n i || list_any (is_number n) (packets script rules J t b (fresh-is i)))
         ∙ numbers-waiting script rules J t b low s.waiting h.waiting count n count-fits
 
@@ -238,35 +244,52 @@ one-sent b first now s after h at same = record {
   size = length-set now b after ∙ h.size;
 }
 
-module _ (script : Script) (rules : Rules) (valid : ValidScript script) (t : ℕ) (r : Run) (recorded : IsRecord script rules r) where
-  sender-polled : (b : ℕ) (o : Option SendingEnd) → SenderAt script rules (then_ script rules valid t r recorded) t b o → SenderAt script rules (poll script rules r t) t b (option_map sent_now o)
+module _ (script : Script) (rules : Rules) (t : ℕ) (r : Run) (recorded : IsRecord script rules r) where
+  sender-polled : (b : ℕ) (o : Option SendingEnd) → SenderAt script rules (then_ script rules t r recorded) t b o → SenderAt script rules (poll script rules r t) t b (option_map sent_now o)
   sender-polled b None h = absurd h
-  sender-polled b (Some s) h = sends-polled script rules valid t r recorded b s h
+  sender-polled b (Some s) h = sends-polled script rules t r recorded b s h
 
-  wire-polled : (b : ℕ) (o : Option SendingEnd) → SenderAt script rules (then_ script rules valid t r recorded) t b o → map written.packet ((poll script rules r t).wire t b) ≡ map written.packet (r.wire t b) ++ of_end packets_now o
+  wire-polled : (b : ℕ) (o : Option SendingEnd) → SenderAt script rules (then_ script rules t r recorded) t b o → map written.packet ((poll script rules r t).wire t b) ≡ map written.packet (r.wire t b) ++ (of_end packets_now o ++ map written.packet (owed_ack script rules r b t))
   wire-polled b None h = absurd h
-  wire-polled b (Some s) h = ap (map written.packet) (wire-after script rules valid t r recorded b) ∙ map-append written.packet (r.wire t b) (polled script rules r t b) ∙ ap (λ xs. map written.packet (r.wire t b) ++ xs) (polled-spelled script rules valid t r recorded b s h)
+  wire-polled b (Some s) h = ap (map written.packet) (wire-after script rules t r recorded b) ∙ map-append written.packet (r.wire t b) (polled script rules r t b) ∙ ap (λ xs. map written.packet (r.wire t b) ++ xs) (polled-spelled script rules t r recorded b s h)
 
-  -- what stands after a poll
-  pub poll-does : (task after : Task) (old new : Outcome) (es : List Event) → t < script.tasks → AllCopied script rules t r task old.events es → new.events ≡ es → AllSent script.tasks task.senders.items after.senders.items → after ≡ record task { senders = after.senders } → new.entries ≡ old.entries ++ entries_of packets_now task.senders.items script.tasks → HasEffect script rules t r (poll script rules r t) after old new
+  -- nothing is owed after it
+  paid-flag : (flags : List Bool) (a : ℕ) (before : Bool) → a < length flags → is_owed (slice_get flags a) ≡ false → slice_get flags a ≡ Some (not (t == t) && before)
+  paid-flag flags a before l none =
+      let own = get-some flags a l in
+      own.1 ∙ ap Some (sym (ap is_owed own.1) ∙ none ∙ sym (and_left (not (t == t)) before (ap not (eqb-refl t))))
+
+  -- What stands after a poll: all was copied, then its links sent, and then all was paid that the task owed.
+  pub poll-does : (task sent after : Task) (old new : Outcome) (events : List Event) (entries : List WireEntry) → t < script.tasks → AllCopied script rules t r task old.events events → new.events ≡ events → AllSent script.tasks task.senders.items sent.senders.items → sent ≡ record task { senders = sent.senders } → entries ≡ old.entries ++ entries_of packets_now task.senders.items script.tasks → IsPaid script.tasks sent after entries new.entries → HasEffect script rules t r (poll script rules r t) after old new
   unfolding poll
-  poll-does task after old new es lt h same sends rest put =
-      let stands : StandsFor script rules t task (then_ script rules valid t r recorded) = subst (λ (K : List Event). StandsFor script rules t task (record r { journal = K })) h.copied h.stands in
+  poll-does task sent after old new events entries lt h same sends links put pay =
+      let stands : StandsFor script rules t task (then_ script rules t r recorded) = subst (λ (K : List Event). StandsFor script rules t task (record r { journal = K })) h.copied h.stands in
+      let rest : after ≡ record task { senders = sent.senders; owed = after.owed } = pay.rest ∙ ap (λ (x : Task). record x { owed = after.owed }) links in
+      let ends = ap (λ (x : Task). x.senders.items) pay.rest in
+      let size : length after.owed.items ≡ script.tasks = pay.count ∙ ap (λ (x : Task). length x.owed.items) links ∙ stands.owed_count in
+      let known = λ (e : WireEntry). e.to < script.tasks in
+      let sending = entries_of packets_now task.senders.items script.tasks in
+      let answers = owed_below sent script.tasks in
       record {
         events = h.events;
-        entries = entries_of packets_now task.senders.items script.tasks;
+        entries = sending ++ answers;
         stands = record {
           calls = calls-kept script rules t task after (ap (λ (x : Task). x.sizes) rest) (ap (λ (x : Task). x.statements) rest) (ap (λ (x : Task). x.limits) rest) (ap (λ (x : Task). x.rounds.items) rest) stands.calls;
           holds = subst (λ (x : State). HoldsFor script rules t x (copy_each r.journal (ready script r.journal t))) (sym (ap (λ (x : Task). x.state) rest)) stands.holds;
-          unfinished = subst (λ (x : Task). Tracks script rules t x.unfinished (poll script rules r t)) (sym rest) (tracks-told script rules t task.unfinished (then_ script rules valid t r recorded) (poll script rules r t) refl (λ b n. refl) stands.unfinished);
-          sender_count = sends.size ∙ stands.sender_count;
+          unfinished = subst (λ (x : Task). Tracks script rules t x.unfinished (poll script rules r t)) (sym rest) (tracks-told script rules t task.unfinished (then_ script rules t r recorded) (poll script rules r t) refl (λ b n. refl) stands.unfinished);
+          sender_count = ap (λ (xs : List SendingEnd). length xs) ends ∙ sends.size ∙ stands.sender_count;
           receiver_count = ap (λ (x : Task). length x.receivers.items) rest ∙ stands.receiver_count;
-          senders = λ b l. subst (SenderAt script rules (poll script rules r t) t b) (sym (sends.done b l)) (sender-polled b (slice_get task.senders.items b) (stands.senders b l));
+          senders = λ b l. subst (SenderAt script rules (poll script rules r t) t b) (sym (ap (λ (xs : List SendingEnd). slice_get xs b) ends ∙ sends.done b l)) (sender-polled b (slice_get task.senders.items b) (stands.senders b l));
           receivers = λ a l. subst (λ (x : Task). ReceiverAt script rules (r.handed a t) (slice_get x.receivers.items a)) (sym rest) (stands.receivers a l);
+          owed_count = size;
+          owed = λ a l. paid-flag after.owed.items a (r.owed a t) (subst (λ n. a < n) (sym size) l) (pay.paid a);
         };
         journal = sym h.copied;
         events_added = same ∙ h.added;
-        put = λ b l. wire-polled b (slice_get task.senders.items b) (stands.senders b l) ∙ ap (λ xs. map written.packet (r.wire t b) ++ xs) (sym (bytes-of-end packets_now task.senders.items b script.tasks l));
-        entries_added = put;
-        ends = entries-within packets_now task.senders.items script.tasks script.tasks (omega arith);
+        put = λ b l.
+            let told = bytes-paid sent b script.tasks l ∙ ap (λ (x : Task). told_bytes x b) links ∙ owed-told script rules t r recorded (copy_each r.journal (ready script r.journal t)) task stands b l in
+            wire-polled b (slice_get task.senders.items b) (stands.senders b l)
+            ∙ ap (λ xs. map written.packet (r.wire t b) ++ xs) (sym (bytes-append b sending answers ∙ (λ i. bytes-of-end packets_now task.senders.items b script.tasks l i ++ told i)));
+        entries_added = pay.entries ∙ ap (λ es. es ++ answers) put ∙ append_assoc old.entries sending answers;
+        ends = all-append known sending answers (entries-within packets_now task.senders.items script.tasks script.tasks (omega arith)) (owed-within sent script.tasks script.tasks (omega arith));
       }

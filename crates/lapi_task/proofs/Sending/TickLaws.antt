@@ -125,6 +125,8 @@ module _ (script : Script) (rules : Rules) where
       receiver_count = h.receiver_count;
       senders = λ b lt. sender-after b (slice_get task.senders.items b) (h.senders b lt);
       receivers = h.receivers;
+      owed_count = h.owed_count;
+      owed = h.owed;
     }
 
     pub tick-does : (task : Task) (old new : Outcome) → StandsFor script rules t task r → new.events ≡ old.events → new.entries ≡ old.entries ++ entries_of kept task.senders.items (length task.senders.items) → HasEffect script rules t r (tick script rules r t) task old new

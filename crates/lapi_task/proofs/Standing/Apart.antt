@@ -157,6 +157,8 @@ module _ (script : Script) (rules : Rules) (t : ℕ) where
       receiver_count = h.receiver_count;
       senders = λ b lt. sender-same b (slice_get task.senders.items b) (h.senders b lt);
       receivers = λ a lt. subst (λ (ps : List Packet). ReceiverAt script rules ps (slice_get task.receivers.items a)) (same.handed a) (h.receivers a lt);
+      owed_count = h.owed_count;
+      owed = λ a lt. h.owed a lt ∙ ap Some (same.owed a);
     }
 
 pub stays-apart : TasksStayApart

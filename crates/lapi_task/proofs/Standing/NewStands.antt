@@ -1,5 +1,5 @@
 -- A task before its first statement.
-use Rattle.std.proofs.Common.{◌≡◌, ℕ, zero, suc, ◌<◌, ◌^◌, ◌==◌, false, cond, List, replicate, [], length, Option, Some, None, refl, sym, ap, ◌∙◌, subst, arith}
+use Rattle.std.proofs.Common.{◌≡◌, ℕ, zero, suc, ◌<◌, ◌^◌, ◌==◌, Bool, false, cond, List, replicate, [], length, Option, Some, None, refl, sym, ap, ◌∙◌, subst, arith}
 use Rattle.std.specs.Prelude.{slice_get, slice_index, nat_lt}
 use Rattle.std.specs.List.{AllByRecursion}
 use Rattle.std.proofs.lemmas.Bool.{and_right, cond_both, le-ltb, false≢true}
@@ -40,6 +40,7 @@ pub record IsNew (script : Script) (rules : Rules) (t : ℕ) (task : Task) : Typ
   pub unfinished : (task.unfinished.undone ≡ replicate (length (statements script t)) false) × (task.unfinished.left ≡ replicate (length (statements script t)) 0)
   pub senders : (length task.senders.items ≡ script.tasks) × AllByRecursion (IsNewSender (window_of script)) task.senders.items
   pub receivers : (length task.receivers.items ≡ script.tasks) × AllByRecursion (IsNewReceiver (window_of script) (unit_of script)) task.receivers.items
+  pub owed : task.owed.items ≡ replicate script.tasks false
 
 module _ (script : Script) (rules : Rules) where
   nothing-uncopied : (t k : ℕ) → is_uncopied script [] t k ≡ false
@@ -103,6 +104,11 @@ module _ (script : Script) (rules : Rules) where
     tags = tags-new script (window_of script) s a b h;
   }
 
+  none-owed : (n a : ℕ) → a < n → slice_get (replicate n false) a ≡ Some false
+  none-owed zero a l = absurd (omega arith)
+  none-owed (suc n) zero l = refl
+  none-owed (suc n) (suc a) l = none-owed n a (let q : a < n = omega arith in q)
+
   none-open : (n i : ℕ) → is_open (replicate n false) i ≡ false
   none-open zero i = refl
   none-open (suc n) zero = refl
@@ -130,4 +136,6 @@ module _ (script : Script) (rules : Rules) where
         let x = get-some task.receivers.items a (let n = h.receivers.0 in omega (arith, l, n)) in
         let fresh = all-get (IsNewReceiver (window_of script) (unit_of script)) task.receivers.items a x.0 h.receivers.1 x.1 script refl refl in
         subst (ReceiverAt script rules []) (sym x.1) (fresh, new-kept script rules x.0 fresh);
+    owed_count = ap length h.owed ∙ length-replicate script.tasks false;
+    owed = λ a l. ap (λ (flags : List Bool). slice_get flags a) h.owed ∙ none-owed script.tasks a l;
   }

@@ -1,7 +1,8 @@
--- A task is still where it has nothing to copy and its links are settled.
+-- A task is still where it has nothing to copy, what it sent is acknowledged, and it owes nothing.
 use Rattle.std.proofs.Common.{◌≡◌, ℕ, zero, suc, ◌+◌, ◌-◌, ◌<◌, ◌==◌, Bool, true, false, ◌&&◌, ◌||◌, not, List, [], ◌∷◌, ◌++◌, length, map, min, Option, Some, refl, sym, ap, ◌∙◌, subst, ⊎_elim, inl, inr, arith}
 use Rattle.std.specs.Prelude.{slice_get}
 use Rattle.std.specs.List.{AllByRecursion, flat_map, list_all, list_any}
+use Rattle.std.proofs.Math.Bool.{beq}
 use Rattle.std.proofs.lemmas.Bool.{false≢true, and_left, and_right, and_cases, cases_Bool, ltb-true, eqb-true, not-true, not-false}
 use Rattle.std.proofs.lemmas.List.Folds.{list_all-append}
 use Rattle.std.proofs.lemmas.Option.{slice_get_within}
@@ -12,7 +13,7 @@ use Rattle.lapi_base.specs.declared.message.MsgName.{MsgName}
 use Rattle.lapi_base.specs.declared.packet.Packet.{Packet}
 use Rattle.lapi_base.specs.declared.packet.Packet.TheVariants.{Data, Ack}
 use Rattle.lapi_base.specs.Record.Below.{below, every_below, least_missing}
-use Rattle.lapi_base.specs.Record.Final.{is_empty, is_idle, is_settled, is_told}
+use Rattle.lapi_base.specs.Record.Final.{is_empty, is_idle, is_told}
 use Rattle.lapi_base.specs.Packet.Layout.{window_of}
 use Rattle.lapi_base.specs.Record.Names.{Copied, happened}
 use Rattle.lapi_base.specs.Record.Operations.{numbers_below}
@@ -28,16 +29,15 @@ use Rattle.lapi_window.specs.SendWindow as window
 use Rattle.lapi_task.specs.declared.state.State.{State}
 use Rattle.lapi_task.specs.declared.task.Task.{Task}
 use Rattle.lapi_task.specs.HasEffect.{IsAt}
-use Rattle.lapi_base.specs.Record.Valid.{ValidScript}
 use Rattle.lapi_jobs.specs.Jobs.{count_running}
 use Rattle.lapi_task.specs.HasJobs.{is_free}
 use Rattle.lapi_task.specs.Sends.{SendsFor}
 use Rattle.lapi_task.specs.StandsFor.{is_uncopied, SenderAt, HoldsFor}
+use Rattle.lapi_task.specs.Still.{is_heard, is_still}
 use Rattle.lapi_task.proofs.Working.JobCounts.{some, none-below, jobs-none}
 use Rattle.lapi_base.proofs.BelowLaws.{every_below-at, every_below-from}
-use Rattle.lapi_base.proofs.ListLaws.{all-get, any-all, any-get, get-some, list_all-at, list_all-each, flat_map-push}
+use Rattle.lapi_base.proofs.ListLaws.{all-get, any-all, any-get, get-some, list_all-at, list_all-each, flat_map-push, some-same}
 use Rattle.lapi_base.proofs.TestLaws.{eqb-refl, same_tests}
-use Rattle.lapi_parts.proofs.FirstLayout.{none-owed}
 
 -- Lists and numbers below a bound.
 all-from : {X : Type 0} (P : X → Type 0) (xs : List X) → ((k : ℕ) (x : X) → slice_get xs k ≡ Some x → P x) → AllByRecursion P xs
@@ -67,6 +67,12 @@ blank-upto f (suc n) = blank-push f (numbers_below n) n ∙ sym (some n)
 pub room : (n m low low' size size' sent waits : ℕ) → n ≡ m → low ≡ low' → size' ≡ size → sent + waits ≡ m → min n (low + size) - sent ≡ min waits (low' + size' - sent)
 room n m low low' size size' sent waits a b c d = omega arith
 
+-- no flag is set where none is found
+pub none-set : (flags : List Bool) → not (list_any (λ flag. beq flag true) flags) ≡ list_all not flags
+none-set [] = refl
+none-set (true ∷ flags) = refl
+none-set (false ∷ flags) = none-set flags
+
 -- the test that an end of a link makes
 abbrev pub settled : SendingEnd → Bool
 settled s = length (unacked s.window) == 0 && sendable s == 0
@@ -77,7 +83,7 @@ module _ (script : Script) (rules : Rules) (r : Run) (a b : ℕ) (s : SendingEnd
 
   told-number : (n : ℕ) (p : Packet) → is_number n p ≡ true → is_told script rules r a b p ≡ true → is_acked r a b n ≡ true
   told-number n (Data p) e t = subst (λ k. is_acked r a b k ≡ true) (eqb-true p.seq n e) t
-  told-number n (Ack from to least bits) e t = absurd (false≢true e)
+  told-number n (Ack layout from to least bits) e t = absurd (false≢true e)
 
   none-left : list_all (is_told script rules r a b) (r.wire a b) ≡ true → (n : ℕ) → not (left n) ≡ true
   unfolding has_number left
@@ -91,7 +97,7 @@ module _ (script : Script) (rules : Rules) (r : Run) (a b : ℕ) (s : SendingEnd
 
   told-each : ((n : ℕ) → n < s.window.numbers → not (left n) ≡ true) → (k : ℕ) (p : Packet) → slice_get (r.wire a b) k ≡ Some p → is_told script rules r a b p ≡ true
   unfolding has_number left
-  told-each none k (Ack from to least bits) at = refl
+  told-each none k (Ack layout from to least bits) at = refl
   told-each none k (Data p) at =
       let sent : window.is_sent s.window p.seq ≡ true = sym (h.numbers.sent p.seq) ∙ any-get (is_number p.seq) (r.wire a b) k (Data p) at (eqb-refl p.seq) in
       let early = ltb-true p.seq (sent_count s.window) sent in
@@ -122,19 +128,12 @@ module _ (script : Script) (rules : Rules) (r : Run) (a b : ℕ) (s : SendingEnd
       ∙ blank-upto (λ i. sent + i) (min (length (numbered script r.journal a b)) (base script r a b + window_of script) - sent)
       ∙ ap (λ n. n == 0) (room (length (numbered script r.journal a b)) s.window.numbers (base script r a b) (base_of s.window) (window_of script) s.window.window sent (length s.waiting) (sym h.numbers.numbers) base-is h.numbers.size h.whole)
 
-  pub settled-is : ValidScript script → IsRecord script rules r → settled s ≡ is_settled script rules r a b
-  unfolding is_settled
-  settled-is valid is =
+  pub heard-is : IsRecord script rules r → settled s ≡ is_heard script rules r a b
+  heard-is is =
       ap (λ x. x && sendable s == 0) (sym told-is)
       ∙ ap (λ x. list_all (is_told script rules r a b) (r.wire a b) && x) (sym (fresh-is is))
-      ∙ sym (and-yes (list_all (is_told script rules r a b) (r.wire a b) && is_empty (to_send script rules r r.journal a b)))
-      ∙ ap (λ o. list_all (is_told script rules r a b) (r.wire a b) && is_empty (to_send script rules r r.journal a b) && not o) (sym (none-owed script rules valid r is a b))
-    where
-      and-yes : (x : Bool) → (x && true) ≡ x
-      and-yes true = refl
-      and-yes false = refl
 
-module _ (script : Script) (rules : Rules) (p : ValidScript script) where
+module _ (script : Script) (rules : Rules) where
   -- All messages of a statement are copied where none of them waits.
   all-none : (f : MsgName → Bool) (ms : List MsgName) → list_all f ms ≡ not (list_any (λ m. not (f m)) ms)
   all-none f [] = refl
@@ -162,16 +161,23 @@ module _ (script : Script) (rules : Rules) (p : ValidScript script) where
   sender-there : (r : Run) (t b : ℕ) (o : Option SendingEnd) (s : SendingEnd) → SenderAt script rules r t b o → o ≡ Some s → SendsFor script rules s r t b
   sender-there r t b o s h e = subst (SenderAt script rules r t b) e h
 
-  pub links-settled : (t : ℕ) (task : Task) (r : Run) → IsAt script rules t task r → list_all settled task.senders.items ≡ every_below script.tasks (is_settled script rules r t)
-  links-settled t task r at =
+  links-heard : (t : ℕ) (task : Task) (r : Run) → IsAt script rules t task r → list_all settled task.senders.items ≡ every_below script.tasks (is_heard script rules r t)
+  links-heard t task r at =
       let ends = task.senders.items in
       let stands = at.stands in
-      all-at settled (is_settled script rules r t) ends (λ b s there.
+      all-at settled (is_heard script rules r t) ends (λ b s there.
       let known : b < script.tasks = subst (λ n. b < n) stands.sender_count (slice_get_within ends b s there) in
-      settled-is script rules r t b s (sender-there r t b (slice_get ends b) s (stands.senders b known) there) p at.recorded)
-      ∙ ap (λ n. every_below n (is_settled script rules r t)) stands.sender_count
+      heard-is script rules r t b s (sender-there r t b (slice_get ends b) s (stands.senders b known) there) at.recorded)
+      ∙ ap (λ n. every_below n (is_heard script rules r t)) stands.sender_count
 
-  pub still-is : (t : ℕ) (task : Task) (r : Run) → IsAt script rules t task r → (is_free task.state && list_all settled task.senders.items) ≡ (is_idle script rules r t && every_below script.tasks (is_settled script rules r t))
-  still-is t task r at =
-      ap (λ x. x && list_all settled task.senders.items) (sym (idle-is t task.state r at.stands.holds))
-      ∙ ap (λ x. is_idle script rules r t && x) (links-settled t task r at)
+  none-owed : (t : ℕ) (task : Task) (r : Run) → IsAt script rules t task r → list_all not task.owed.items ≡ every_below script.tasks (λ a. not (r.owed a t))
+  none-owed t task r at =
+      let flags = task.owed.items in
+      let stands = at.stands in
+      all-at not (λ a. not (r.owed a t)) flags (λ a owed there.
+      let known : a < script.tasks = subst (λ n. a < n) stands.owed_count (slice_get_within flags a owed there) in
+      ap not (some-same owed (r.owed a t) (sym there ∙ stands.owed a known)))
+      ∙ ap (λ n. every_below n (λ a. not (r.owed a t))) stands.owed_count
+
+  pub still-is : (t : ℕ) (task : Task) (r : Run) → IsAt script rules t task r → (is_free task.state && list_all settled task.senders.items && list_all not task.owed.items) ≡ is_still script rules r t
+  still-is t task r at = λ i. sym (idle-is t task.state r at.stands.holds) i && links-heard t task r at i && none-owed t task r at i

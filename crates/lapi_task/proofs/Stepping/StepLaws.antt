@@ -122,6 +122,8 @@ module _ (script : Script) (rules : Rules) where
       receiver_count = h.receiver_count;
       senders = λ b l. sender-on r e t b (slice_get before.senders.items b) q (h.senders b l);
       receivers = h.receivers;
+      owed_count = h.owed_count;
+      owed = h.owed;
     };
     journal = refl;
     events_added = g;
@@ -139,6 +141,8 @@ module _ (script : Script) (rules : Rules) where
     receiver_count = h.receiver_count;
     senders = λ b l. sender-reply b (slice_get task.senders.items b) (h.senders b l);
     receivers = h.receivers;
+    owed_count = h.owed_count;
+    owed = h.owed;
   }
     where
       sender-reply : (b : ℕ) (o : Option SendingEnd) → SenderAt script rules r t b o → SenderAt script rules (reply_with script rules r reply) t b o

@@ -2,7 +2,7 @@
 use Rattle.std.proofs.Common.{◌≡◌, ◌⊎◌, ℕ, ◌+◌, ◌<◌, ◌≤◌, ◌==◌, true, false, cond, ◌&&◌, List, [], ◌∷◌, ◌++◌, length, map, Option, Some, None, refl, sym, ap, ◌∙◌, subst, ⊎_elim, inl, inr, arith, add-zero}
 use Rattle.std.specs.Prelude.{slice_get, option_map, unwrap_or, is_some, nat_le, nat_lt}
 use Rattle.std.specs.List.{AllByRecursion}
-use Rattle.std.proofs.lemmas.Bool.{false≢true, cond-true, and_parts, leb-true, ltb-true}
+use Rattle.std.proofs.lemmas.Bool.{false≢true, cond-true, and_parts, leb-true, ltb-true, ltb-false}
 use Rattle.std.proofs.lemmas.List.{append-nil}
 use Rattle.lapi_base.specs.declared.layout.TheConstants.{LONGEST_ACTIVE}
 use Rattle.lapi_base.specs.declared.script.Script.{Script}
@@ -10,25 +10,29 @@ use Rattle.lapi_base.specs.declared.rule.Rules.{Rules}
 use Rattle.lapi_base.specs.declared.span.Span.{Span}
 use Rattle.lapi_base.specs.declared.event.Event.{Event}
 use Rattle.lapi_base.specs.declared.event.Event.TheVariants.{Begin}
+use Rattle.lapi_base.specs.declared.message.Leg.{Leg}
 use Rattle.lapi_base.specs.declared.message.Leg.TheVariants.{Go}
 use Rattle.lapi_base.specs.declared.message.MsgName.{MsgName}
 use Rattle.lapi_base.specs.declared.reply.Reply.TheVariants.{Did, Idle, Busy}
+use Rattle.lapi_base.specs.declared.statement.Statement.{Statement}
+use Rattle.lapi_base.specs.declared.statement.Statement.TheVariants.{Am}
 use Rattle.lapi_base.specs.Laws.Working.{IsWaiting}
+use Rattle.lapi_base.specs.Packet.Layout.{layout_of, longest_active, longest_active_of}
 use Rattle.lapi_base.specs.Record.Acts.{begin, begin_at, begin_first, reply_with, followed}
 use Rattle.lapi_base.specs.Record.Counters.{count, tells}
 use Rattle.lapi_base.specs.Record.Handlers.{buffer, completion, has_completion, user, header_out, kept_place, kept_choice}
 use Rattle.lapi_base.specs.Record.Jobs.{is_job, queue, runs}
 use Rattle.lapi_base.specs.Record.Names.{message, leg_eq, name_eq}
-use Rattle.lapi_base.specs.Record.Operations.{numbers_below, message_length, receiver, is_am, statement}
+use Rattle.lapi_base.specs.Record.Operations.{numbers_below, length_by, message_length, target, receiver, is_am, statement}
 use Rattle.lapi_base.specs.Record.Values.{values, memory_bytes, gathered}
 use Rattle.lapi_base.specs.Record.Wires.{Run}
+use Rattle.lapi_base.proofs.LayoutLaws.{longest_active_by}
 use Rattle.lapi_base.proofs.NameLaws.{name_eq-refl, leg_eq-true}
 use Rattle.lapi_base.proofs.UptoLaws.{length-over}
 use Rattle.lapi_jobs.specs.declared.pending.Pending.{Pending}
 use Rattle.lapi_jobs.specs.Jobs.{Works, run_by, with_run}
-use Rattle.lapi_laws.proofs.Shorts.{copied-short}
 use Rattle.lapi_laws.proofs.Sound.{landed-copied}
-use Rattle.lapi_parts.proofs.FirstLayout.{first-longest}
+use Rattle.lapi_parts.proofs.Accepted.{Accepted, copied-accepted}
 use Rattle.lapi_parts.proofs.QueuedJobs.{queued-waiting}
 use Rattle.lapi_parts.proofs.Records.{record-sound}
 use Rattle.lapi_task.specs.declared.outcome.Outcome.{Outcome}
@@ -127,6 +131,24 @@ module _ (script : Script) (rules : Rules) where
       let go : message m.origin m.statement Go ≡ m = λ i. record { origin = m.origin; statement = m.statement; leg = sym (leg_eq-true m.leg Go both.0) i } in
       subst (λ (k : MsgName). is_some (completion script rules k) ≡ true) go some.1
 
+  -- the message of a job is an active one, and so is short
+  active-short : (d : ℕ) (s : Statement) → is_am s ≡ true → Accepted script rules d s → length_by Go s ≤ LONGEST_ACTIVE
+  unfolding longest_active_of
+  active-short d (Am task handler header from len tgt org cmpl) am h =
+      let l : len ≤ longest_active (layout_of script.layout) = ltb-false (longest_active (layout_of script.layout)) len h.short in
+      let most = longest_active_by script.layout in
+      omega (arith, l, most)
+  active-short d _ am h = absurd (false≢true am)
+
+  job-short : (t : ℕ) (m : MsgName) → is_job script rules t m ≡ true → Accepted script rules (target script m.origin m.statement) (statement script m.origin m.statement) → message_length script m ≤ LONGEST_ACTIVE
+  unfolding is_job has_completion message_length
+  job-short t m job h =
+      let both = and_parts (leg_eq m.leg Go) (has_completion script rules m.origin m.statement && receiver script m == t) job in
+      let own = and_parts (has_completion script rules m.origin m.statement) (receiver script m == t) both.1 in
+      let some = and_parts (is_am (statement script m.origin m.statement)) _ own.0 in
+      subst (λ (leg : Leg). length_by leg (statement script m.origin m.statement) ≤ LONGEST_ACTIVE) (sym (leg_eq-true m.leg Go both.0))
+      (active-short (target script m.origin m.statement) (statement script m.origin m.statement) some.0 h)
+
   choice-known : (m : MsgName) (n : ℕ) → completion script rules m ≡ Some n → n < length rules.completions
   unfolding completion
   choice-known m n e = kept-known (length rules.completions) (header_out script rules m).completion n e
@@ -203,9 +225,7 @@ module _ (script : Script) (rules : Rules) where
       short =
           let sound = record-sound script rules r at.recorded in
           let copied = landed-copied script rules J first.m sound.atomic waiting.1 in
-          let most = copied-short script rules J first.m sound.atomic copied in
-          let longest = first-longest script at.stands.calls.valid in
-          omega (arith, most, longest)
+          job-short t first.m waiting.0 (copied-accepted script rules J first.m sound.atomic copied)
 
       pub buffer-there : (span : Span) → job.buffer ≡ Some span → span.at + span.len ≤ length before.state.memory
       buffer-there span e =

@@ -1,4 +1,4 @@
--- What the begin and the end of a job, and a notice, leave of what a task did and of its links.
+-- What the begin and the end of a job, and what follows it, leave of what a task did and of its links.
 use Rattle.std.proofs.Common.{◌≡◌, ℕ, ◌<◌, ◌≤◌, ◌==◌, false, ◌&&◌, List, ◌∷◌, length, Option, Some, None, refl, sym, ap, ◌∙◌, subst}
 use Rattle.std.specs.Prelude.{slice_get, slice_index}
 use Rattle.std.proofs.lemmas.Bool.{and_right}
@@ -6,7 +6,7 @@ use Rattle.lapi_base.specs.declared.script.Script.{Script}
 use Rattle.lapi_base.specs.declared.rule.Rules.{Rules}
 use Rattle.lapi_base.specs.declared.event.Event.{Event}
 use Rattle.lapi_base.specs.declared.event.Event.TheVariants.{Copy, Begin, End}
-use Rattle.lapi_base.specs.declared.message.Leg.TheVariants.{Go, Back, Note, Join}
+use Rattle.lapi_base.specs.declared.message.Leg.TheVariants.{Go, Back, Join}
 use Rattle.lapi_base.specs.declared.message.MsgName.{MsgName}
 use Rattle.lapi_base.specs.Record.Counters.{count, reads}
 use Rattle.lapi_base.specs.Record.Names.{message, leg_eq, name_eq, key_of, key_eq, Issued, Landed}
@@ -25,14 +25,15 @@ use Rattle.lapi_task.specs.StandsFor.{is_uncopied, SenderAt, HoldsFor, StandsFor
 use Rattle.lapi_task.proofs.Joining.RoundsStay.{JoinsNone, rounds-stay}
 use Rattle.lapi_task.proofs.Stepping.StepLaws.{IsQuiet}
 use Rattle.lapi_task.proofs.Standing.Tags.{tags-same}
+use Rattle.lapi_task.proofs.Receiving.ReceiveEvents.{is_polled, polled-apart}
 use Rattle.lapi_task.proofs.Copying.UncopiedLaws.{LeavesMessages, uncopied-stays}
 use Rattle.lapi_task.proofs.Acknowledging.UnfinishedLaws.{tracks-stay, quiet-stays}
 
--- the begin or the end of a job, or the copy of a notice
+-- the begin or the end of a job, or a copy that no poll makes
 abbrev pub IsWork : Event → Type 0
 IsWork (Begin m t w) = Unit {0}
 IsWork (End m t w) = Unit {0}
-IsWork (Copy m) = m.leg ≡ Note
+IsWork (Copy m) = is_polled m.leg ≡ false
 IsWork _ = ⊥
 
 module _ (script : Script) (rules : Rules) (t : ℕ) where
@@ -55,8 +56,8 @@ module _ (script : Script) (rules : Rules) (t : ℕ) where
     copied = λ i. record {
       issued = refl;
       entered = refl;
-      data_copied = and_right (t == m.origin && i == m.statement) (leg_eq Go m.leg) (ap (leg_eq Go) h);
-      joins_copied = λ d. and_right (t == m.origin && i == m.statement) (leg_eq (Join d) m.leg) (ap (leg_eq (Join d)) h);
+      data_copied = and_right (t == m.origin && i == m.statement) (leg_eq Go m.leg) (polled-apart Go m.leg refl h);
+      joins_copied = λ d. and_right (t == m.origin && i == m.statement) (leg_eq (Join d) m.leg) (polled-apart (Join d) m.leg refl h);
     };
     joins = record { entered = λ i. refl; landed = λ d j. refl };
     reads = refl;
@@ -126,4 +127,6 @@ module _ (script : Script) (rules : Rules) (t : ℕ) where
     receiver_count = h.receiver_count;
     senders = λ b l. sender-quiet r e b (slice_get before.senders.items b) q (h.senders b l);
     receivers = h.receivers;
+    owed_count = h.owed_count;
+    owed = h.owed;
   }

@@ -57,7 +57,9 @@ impl Task {
         let Some(statement) = statement_at(&self.statements, i) else {
             unreachable!()
         };
-        let copy = DataCopy::of(&self.state.collective, self.state.number, i, statement);
+        let layout = self.sizes.layout;
+        let number = self.state.number;
+        let copy = DataCopy::of(&self.state.collective, layout, number, i, statement);
         let name = copy.message.name;
         let count = fragment_count(self.sizes.unit(), copy.message.length);
         self.copy(alloc, copy)?;
@@ -122,7 +124,8 @@ impl Task {
             statement: i,
             leg: Leg::Join(d),
         };
-        let packet = follower_packet(number, d, name, name.leg, head, 0);
+        let layout = self.sizes.layout;
+        let packet = follower_packet(layout, number, d, name, name.leg, head, 0);
         send(
             alloc,
             &mut self.senders,

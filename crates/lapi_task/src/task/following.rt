@@ -6,8 +6,9 @@ ghost use Rattle.lapi_base.specs.declared.layout.TheConstants.{PAYLOAD_ROOM};
 ghost use Rattle.lapi_base.specs.Record.HeadSays.{noted, answered, follows, back_head, asked_pieces};
 ghost use Rattle.lapi_memory.specs.TaskMemory.{IsWithin};
 ghost use Rattle.lapi_vector.specs.Pieces.{AreWithin};
-ghost use Rattle.lapi_task.specs.Landed.{Follower, IsDirect, MayLeave, note_of, back_of, follower, with_follower};
+ghost use Rattle.lapi_task.specs.Landed.{Follower, MayLeave, note_of, back_of, echo_of, follower, with_follower};
 ghost use Rattle.lapi_task.specs.StandsFor.{task_unit};
+ghost use Rattle.lapi_task.specs.Working.{echoed};
 
 use crate::follower::{follower_packet, send};
 use crate::spans::same_spans;
@@ -30,12 +31,13 @@ impl Task {
         events: &mut Events,
     ) -> Result<(), Memory>
         requires link { (from < length self.old.senders.items) × (task_unit self.old ≤ PAYLOAD_ROOM) }
-        requires head { IsDirect head.now × AreWithin (asked_pieces head.now) (length self.old.state.memory) }
+        requires asked { AreWithin (asked_pieces head.now) (length self.old.state.memory) }
         requires allowed { (x : Follower)
-            → follower self.old.state.number from name head.now completion self.old.state.memory ≡ Some x
+            → follower self.old.sizes.layout self.old.state.number from name head.now completion
+            self.old.state.memory ≡ Some x
             → MayLeave (task_unit self.old) x }
         ensures senders { OnOk result (self.new.senders.items ≡ with_follower (task_unit self.old)
-            (follower self.old.state.number from name head.now completion self.old.state.memory)
+            (follower self.old.sizes.layout self.old.state.number from name head.now completion self.old.state.memory)
             self.old.senders.items) }
         ensures events { OnOk result (events.new ≡ events.old ++ follows head.now completion name) }
         ensures rest { self.new ≡ record self.old { senders = self.new.senders } }
@@ -55,8 +57,8 @@ impl Task {
             | Head::RmwBack { .. }
             | Head::Note { .. }
             | Head::Gfence { .. }
-            | Head::Addr { .. } => Ok(()),
-            Head::Echo { .. } => unreachable!(),
+            | Head::Addr { .. }
+            | Head::Echo { .. } => Ok(()),
         }
     }
 
@@ -73,10 +75,11 @@ impl Task {
         requires head { (is_some (back_head head.now) ≡ true)
             × AreWithin (asked_pieces head.now) (length self.old.state.memory) }
         requires allowed { (back : TheHead) → back_head head.now ≡ Some back → MayLeave (task_unit self.old)
-            (back_of self.old.state.number from name (asked_pieces head.now) self.old.state.memory back) }
+            (back_of self.old.sizes.layout self.old.state.number from name (asked_pieces head.now)
+            self.old.state.memory back) }
         ensures senders { OnOk result (self.new.senders.items ≡ with_follower (task_unit self.old)
-            (option_map (back_of self.old.state.number from name (asked_pieces head.now) self.old.state.memory)
-            (back_head head.now)) self.old.senders.items) }
+            (option_map (back_of self.old.sizes.layout self.old.state.number from name (asked_pieces head.now)
+            self.old.state.memory) (back_head head.now)) self.old.senders.items) }
         ensures events { OnOk result (events.new ≡ events.old ++ answered name) }
         ensures rest { self.new ≡ record self.old { senders = self.new.senders } }
     {
@@ -125,10 +128,11 @@ impl Task {
         events: &mut Events,
     ) -> Result<(), Memory>
         requires link { (from < length self.old.senders.items) × (task_unit self.old ≤ PAYLOAD_ROOM) }
-        requires allowed { (c : ℕ) → cmpl ≡ Some c
-            → MayLeave (task_unit self.old) (note_of self.old.state.number from name (Note op c)) }
+        requires allowed { (c : ℕ) → cmpl ≡ Some c → MayLeave (task_unit self.old)
+            (note_of self.old.sizes.layout self.old.state.number from name (Note op c)) }
         ensures senders { OnOk result (self.new.senders.items ≡ with_follower (task_unit self.old)
-            (option_map (λ c. note_of self.old.state.number from name (Note op c)) cmpl) self.old.senders.items) }
+            (option_map (λ c. note_of self.old.sizes.layout self.old.state.number from name (Note op c)) cmpl)
+            self.old.senders.items) }
         ensures events { OnOk result (events.new ≡ events.old ++ noted name cmpl) }
         ensures rest { self.new ≡ record self.old { senders = self.new.senders } }
     {
@@ -136,13 +140,49 @@ impl Task {
             return Ok(());
         };
         let head = Head::Note { op, cmpl };
-        let packet = follower_packet(self.state.number, from, name, Leg::Note, head, 0);
+        let layout = self.sizes.layout;
+        let packet = follower_packet(layout, self.state.number, from, name, Leg::Note, head, 0);
         send(
             alloc,
             &mut self.senders,
             self.sizes.unit(),
             packet,
             &[],
+            events,
+        )
+    }
+
+    /// Answers the origin of a message with the word that its completion handler has for it.
+    #[tactic(auto, unfolding(lapi_base::specs::Record::Handlers::word_bytes))]
+    pub(super) fn echo(
+        &mut self,
+        alloc: Global,
+        name: MsgName,
+        dest: u32,
+        value: u32,
+        cmpl: Option<u32>,
+        events: &mut Events,
+    ) -> Result<(), Memory>
+        requires link { (name.origin < length self.old.senders.items) × (task_unit self.old ≤ PAYLOAD_ROOM) }
+        requires allowed { MayLeave (task_unit self.old)
+            (echo_of self.old.sizes.layout self.old.state.number name.origin name dest value cmpl) }
+        ensures senders { OnOk result (self.new.senders.items ≡ with_follower (task_unit self.old)
+            (Some (echo_of self.old.sizes.layout self.old.state.number name.origin name dest value cmpl))
+            self.old.senders.items) }
+        ensures events { OnOk result (events.new ≡ events.old ++ echoed name) }
+        ensures rest { self.new ≡ record self.old { senders = self.new.senders } }
+    {
+        let head = Head::Echo { dest, cmpl };
+        let layout = self.sizes.layout;
+        let origin = name.origin;
+        let packet = follower_packet(layout, self.state.number, origin, name, Leg::Echo, head, 4);
+        let word = value.to_be_bytes();
+        send(
+            alloc,
+            &mut self.senders,
+            self.sizes.unit(),
+            packet,
+            &word,
             events,
         )
     }
@@ -160,15 +200,24 @@ impl Task {
         requires link { (from < length self.old.senders.items) × (task_unit self.old ≤ PAYLOAD_ROOM) }
         requires within { IsWithin self.old.state.memory span.at span.len }
         requires allowed { MayLeave (task_unit self.old)
-            (back_of self.old.state.number from name (span ∷ []) self.old.state.memory head) }
+            (back_of self.old.sizes.layout self.old.state.number from name (span ∷ []) self.old.state.memory head) }
         ensures senders { OnOk result (self.new.senders.items ≡ with_follower (task_unit self.old)
-            (Some (back_of self.old.state.number from name (span ∷ []) self.old.state.memory head))
-            self.old.senders.items) }
+            (Some (back_of self.old.sizes.layout self.old.state.number from name (span ∷ [])
+            self.old.state.memory head)) self.old.senders.items) }
         ensures events { OnOk result (events.new ≡ events.old ++ answered name) }
         ensures rest { self.new ≡ record self.old { senders = self.new.senders } }
     {
         let bytes = self.state.memory.read(&span);
-        let packet = follower_packet(self.state.number, from, name, Leg::Back, head, span.len);
+        let layout = self.sizes.layout;
+        let packet = follower_packet(
+            layout,
+            self.state.number,
+            from,
+            name,
+            Leg::Back,
+            head,
+            span.len,
+        );
         send(
             alloc,
             &mut self.senders,
@@ -193,10 +242,11 @@ impl Task {
         requires link { (from < length self.old.senders.items) × (task_unit self.old ≤ PAYLOAD_ROOM) }
         requires within { AreWithin pieces.now (length self.old.state.memory) }
         requires allowed { MayLeave (task_unit self.old)
-            (back_of self.old.state.number from name pieces.now self.old.state.memory (GetvBack org dest.now)) }
+            (back_of self.old.sizes.layout self.old.state.number from name pieces.now self.old.state.memory
+            (GetvBack org dest.now)) }
         ensures senders { OnOk result (self.new.senders.items ≡ with_follower (task_unit self.old)
-            (Some (back_of self.old.state.number from name pieces.now self.old.state.memory (GetvBack org dest.now)))
-            self.old.senders.items) }
+            (Some (back_of self.old.sizes.layout self.old.state.number from name pieces.now self.old.state.memory
+            (GetvBack org dest.now))) self.old.senders.items) }
         ensures events { OnOk result (events.new ≡ events.old ++ answered name) }
         ensures rest { self.new ≡ record self.old { senders = self.new.senders } }
     {
@@ -208,7 +258,16 @@ impl Task {
         let bytes = pieces.gather(alloc, &self.state.memory)?;
         let bytes = bytes.as_slice();
         let length = bytes.len() as u32;
-        let packet = follower_packet(self.state.number, from, name, Leg::Back, head, length);
+        let layout = self.sizes.layout;
+        let packet = follower_packet(
+            layout,
+            self.state.number,
+            from,
+            name,
+            Leg::Back,
+            head,
+            length,
+        );
         send(
             alloc,
             &mut self.senders,

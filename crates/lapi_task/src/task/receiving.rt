@@ -95,7 +95,7 @@ impl Task {
         )?;
         self.take_effect(alloc, from, &message, handlers, &mut out.events)?;
         self.unfinished.arrived(&message);
-        self.acknowledge(alloc, from, &mut out.entries)
+        self.tell(alloc, from, &mut out.entries)
     }
 
     /// What came whole from task `from` takes effect, if a message did.
@@ -110,7 +110,7 @@ impl Task {
         requires link { (from < length self.old.senders.items) × (task_unit self.old ≤ PAYLOAD_ROOM) }
         requires allowed { ArrivalMayLand from (length (rules_of handlers.now).completions) message.now
             self.old.state.memory self.old.state.counters self.old.state.collective }
-        requires follows { ArrivalMayAnswer (task_unit self.old) self.old.state.number from
+        requires follows { ArrivalMayAnswer self.old.sizes.layout self.old.state.number from
             (length (rules_of handlers.now).completions) message.now self.old.state.memory }
         ensures { OnOk result (HasArrived from (length (rules_of handlers.now).completions) message.now self.old
             self.new events.old events.new) }
@@ -133,7 +133,7 @@ impl Task {
         requires link { (from < length self.old.senders.items) × (task_unit self.old ≤ PAYLOAD_ROOM) }
         requires allowed { ArrivalMayLand from (length (rules_of handlers.now).completions) (Some message.now)
             self.old.state.memory self.old.state.counters self.old.state.collective }
-        requires follows { ArrivalMayAnswer (task_unit self.old) self.old.state.number from
+        requires follows { ArrivalMayAnswer self.old.sizes.layout self.old.state.number from
             (length (rules_of handlers.now).completions) (Some message.now) self.old.state.memory }
         ensures { OnOk result (HasArrived from (length (rules_of handlers.now).completions) (Some message.now) self.old
             self.new events.old events.new) }

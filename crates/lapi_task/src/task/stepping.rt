@@ -1,5 +1,5 @@
 //! How a task begins, and how it performs its statements.
-ghost use Rattle.std.specs.Prelude.{◌≡◌, ℕ, ◌<◌, ◌≤◌, ◌∷◌, [], ◌++◌, IfOk, OnOk, length};
+ghost use Rattle.std.specs.Prelude.{◌≡◌, ℕ, ◌<◌, ◌≤◌, ◌∷◌, [], ◌++◌, false, replicate, IfOk, OnOk, length};
 ghost use Rattle.std.specs.List.{AllByRecursion};
 ghost use Rattle.lapi_base.specs.declared.script.Script.{Script as TheScript};
 ghost use Rattle.lapi_base.specs.declared.rule.Rules.{Rules};
@@ -40,6 +40,7 @@ impl Task {
         let unfinished = Unfinished::new(alloc, statements.as_slice().len() as u32)?;
         let senders = senders(alloc, script)?;
         let receivers = receivers(alloc, script)?;
+        let owed = none_owed(alloc, script.tasks)?;
         Ok(Task {
             sizes,
             limits,
@@ -49,6 +50,7 @@ impl Task {
             unfinished,
             senders,
             receivers,
+            owed,
         })
     }
 
@@ -99,6 +101,17 @@ fn statements(alloc: Global, script: &Script, task: u32) -> Result<Statements, M
         Some(list) => list.copy(alloc),
         None => Ok(Statements::new(alloc)),
     }
+}
+
+/// That no task is owed an acknowledgement.
+fn none_owed(alloc: Global, tasks: u32) -> Result<Vec<bool>, Memory>
+    ensures { IfOk result (λ made. made.items ≡ replicate tasks false) }
+{
+    let mut owed = Vec::new(alloc);
+    for _task in 0..tasks {
+        owed.push(false)?;
+    }
+    Ok(owed)
 }
 
 /// The sending ends of the links to each task.

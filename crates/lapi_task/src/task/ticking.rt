@@ -1,12 +1,11 @@
 //! What a task sends again, and whether it has nothing to send and nothing to wait for.
-ghost use Rattle.std.specs.Prelude.{◌≡◌, ℕ, ◌&&◌, OnOk};
+ghost use Rattle.std.specs.Prelude.{◌≡◌, ℕ, OnOk};
 ghost use Rattle.lapi_base.specs.declared.rule.Rules.{Rules};
 ghost use Rattle.lapi_base.specs.declared.script.Script.{Script};
-ghost use Rattle.lapi_base.specs.Record.Below.{every_below};
-ghost use Rattle.lapi_base.specs.Record.Final.{is_idle, is_settled};
 ghost use Rattle.lapi_base.specs.Record.Wires.{Run};
 ghost use Rattle.lapi_base.specs.Record.Acts.{tick};
 ghost use Rattle.lapi_task.specs.HasEffect.{IsAt, IsAtSome, Performs};
+ghost use Rattle.lapi_task.specs.Still.{is_still};
 
 use crate::outcome::Outcome;
 use crate::task::Task;
@@ -25,11 +24,13 @@ impl Task {
         Ok(())
     }
 
-    /// Whether all that was sent is acknowledged, no job waits or runs, and a poll would add nothing.
+    /// Whether all that was sent is acknowledged, no job waits or runs, nothing is owed, and a poll would add nothing.
     pub fn still(&self) -> bool
         ensures { (script : Script) (rules : Rules) (t : ℕ) (r : Run) → IsAt script rules t self.now r
-            → result ≡ (is_idle script rules r t && every_below script.tasks (is_settled script rules r t)) }
+            → result ≡ is_still script rules r t }
     {
-        self.state.is_free() && self.senders.iter().all(|sender| sender.is_settled())
+        self.state.is_free()
+            && self.senders.iter().all(|sender| sender.is_settled())
+            && !self.owed.contains(&true)
     }
 }

@@ -26,6 +26,9 @@ write-requires c =
       | inl put ↦ goes (heads.Put at put.0 put.1) put.2
       | inr back ↦ elim back [
         | inl get ↦ goes (heads.GetBack at get.0) get.1
-        | inr word ↦ goes (heads.RmwBack at word.0) word.1
+        | inr word ↦ elim word [
+          | inl rmw ↦ goes (heads.RmwBack at rmw.0) rmw.1
+          | inr echo ↦ goes (heads.Echo at echo.0) echo.1
+        ]
       ]
     ])

@@ -1,10 +1,12 @@
-use Rattle.std.proofs.Common.{◌≡◌, ◌≤◌, [], Some, refl, ap, ◌∙◌, subst, sym, inl, arith}
+use Rattle.std.proofs.Common.{ℕ, ◌≤◌, [], Some, refl, ap, ◌∙◌, subst, sym, arith}
+use Rattle.lapi_base.specs.declared.layout.TheConstants.{PAYLOAD_ROOM}
 use Rattle.lapi_base.specs.declared.packet.DataPacket.{DataPacket}
 use Rattle.lapi_base.proofs.Results.{on-ok}
-use Rattle.lapi_parts.proofs.FirstLayout.{first-unit}
+use Rattle.lapi_reassembly.specs.Partial.{IsUnit}
 use Rattle.lapi_task.specs.Copies.{join_of}
 use Rattle.lapi_task.specs.Landed.{MayLeave, with_follower}
 use Rattle.lapi_task.proofs.Copying.CopyJoins.{round-known, unit-here, some-statement, found-join, join-made, join-leaves}
+use Rattle.lapi_task.proofs.Copying.Units.{unit-sizes}
 use Rattle.lapi_task.proofs.task.Task.copy_join.Goals as goal
 
 pub unreachable-requires : goal.unreachable-requires
@@ -29,8 +31,8 @@ send-requires-clause-link c =
 pub send-requires-clause-unit : goal.send-requires-clause-unit
 send-requires-clause-unit c =
     let x = c.requires in
-    let unit : c.unit.result ≡ 256 = c.unit.ensures.unit ∙ unit-here x.0 x.1 x.2 c.args.i c.args.self.now x.3 c.args.d x.4 ∙ first-unit x.0 x.4.calls.valid in
-    (inl unit, (let e : c.unit.result ≤ 256 = omega (arith, unit) in e))
+    let unit = c.unit.ensures.unit ∙ unit-here x.0 x.1 x.2 c.args.i c.args.self.now x.3 c.args.d x.4 in
+    subst (λ (u : ℕ). IsUnit u × (u ≤ PAYLOAD_ROOM)) (sym unit) (unit-sizes x.0)
 
 pub send-requires-clause-allowed : goal.send-requires-clause-allowed
 send-requires-clause-allowed c =

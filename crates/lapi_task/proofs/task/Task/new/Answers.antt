@@ -29,4 +29,5 @@ returns c = λ rules valid count. new-stands c.args.script.now rules c.args.task
       (c.in_ok-unfinished.ensures.0 ∙ ap (λ (xs : List Statement). replicate (length xs) false) all, c.in_ok-unfinished.ensures.1 ∙ ap (λ (xs : List Statement). replicate (length xs) 0) all);
   senders = (c.in_ok-senders.ensures.count, c.in_ok-senders.ensures.new);
   receivers = (c.in_ok-receivers.ensures.count, c.in_ok-receivers.ensures.new);
+  owed = c.in_ok-owed.ensures;
 })
