@@ -69,6 +69,8 @@ module _ (script : Script) (rules : Rules) where
       receiver_count = h.receiver_count;
       senders = λ b l. sender-with t b (slice_get task.senders.items b) (h.senders b l);
       receivers = h.receivers;
+      owed_count = h.owed_count;
+      owed = h.owed;
     }
 
     pub network-with : (network : Network) → Stands script rules network r → Stands script rules network replied
@@ -127,7 +129,7 @@ module _ (script : Script) (rules : Rules) where
   hand-replies : (r : Run) (a b : ℕ) (p : Packet) → (hand_over script rules r a b p).replies ≡ r.replies
   unfolding hand_over
   hand-replies r a b (Data p) = refl
-  hand-replies r a b (Ack from to base bits) = refl
+  hand-replies r a b (Ack layout from to base bits) = refl
 
   pub did-replies : (r : Run) (a b k : ℕ) (p : Packet) → slice_get (r.wire a b) k ≡ Some p → (performed script rules r (Deliver a b k)).replies ≡ r.replies ++ Did ∷ []
   did-replies r a b k p e = ap (λ (q : Run). q.replies) (deliver-some r a b k p e) ∙ ap (λ (rs : List Reply). rs ++ Did ∷ []) (hand-replies r a b p)

@@ -2,7 +2,8 @@ use Rattle.std.proofs.Common.{◌≡◌, ◌<◌, true, get_or, length, sym, ap,
 use Rattle.lapi_base.specs.Record.Below.{every_below}
 use Rattle.lapi_base.proofs.BelowLaws.{every-more, every-none}
 use Rattle.lapi_world.proofs.Acts.{task-read}
-use Rattle.lapi_world.proofs.Quietness.{is_still, all-still, one-busy}
+use Rattle.lapi_task.specs.Still.{is_still}
+use Rattle.lapi_world.proofs.Quietness.{all-still, one-busy}
 use Rattle.lapi_world.proofs.network.Network.is_quiet.Goals as goal
 
 pub loop-task-init : goal.loop-task-init

@@ -5,7 +5,7 @@ use Rattle.lapi_base.specs.Record.Below.{every_below}
 use Rattle.lapi_base.specs.Record.Wires.{Run}
 use Rattle.lapi_base.specs.Record.WorldView.{IsRecord}
 use Rattle.lapi_world.specs.Stands.{Stands}
-use Rattle.lapi_world.proofs.Quietness.{is_still}
+use Rattle.lapi_task.specs.Still.{is_still}
 use Rattle.lapi_world.proofs.network.Network.is_quiet.Given as goal
 
 abbrev pub invariant-loop-task : goal.invariant-loop-task
