@@ -2,6 +2,7 @@ pub mod Counts
 pub mod Digits
 pub mod Entries
 pub mod Frames
+pub mod LayoutWords
 pub mod Numbers
 pub mod OfStatements
 pub mod Pairs

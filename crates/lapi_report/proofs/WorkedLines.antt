@@ -1,11 +1,14 @@
 -- Lines of the texts by the definitions alone, each written out.
-use Rattle.std.proofs.Common.{◌≡◌, ℕ, List, [], ◌∷◌, ◌++◌, replicate, refl}
+use Rattle.std.proofs.Common.{◌≡◌, ℕ, List, [], ◌∷◌, ◌++◌, replicate, Some, refl}
 use Rattle.std.specs.Prelude.{codes}
 use Rattle.std.specs.Fmt.{digits}
 use Rattle.hex.specs.Hex.{encode_with}
 use Rattle.lapi_base.specs.declared.message.Leg.{Leg}
-use Rattle.lapi_base.specs.declared.message.Leg.TheVariants.{Go, Back, Join}
+use Rattle.lapi_base.specs.declared.message.Leg.TheVariants.{Go, Back, Echo, Join}
 use Rattle.lapi_base.specs.declared.message.MsgName.{MsgName}
+use Rattle.lapi_base.specs.declared.head.Head.TheVariants as Head
+use Rattle.lapi_base.specs.declared.packet.Packet.TheVariants as Packet
+use Rattle.lapi_base.specs.declared.packet.DataPacket.{DataPacket}
 use Rattle.lapi_base.specs.declared.refusal.Refusal.TheVariants.{NoTable, StrideBelowBlock}
 use Rattle.lapi_base.specs.declared.reply.Reason.TheVariants.{NotCanonical}
 use Rattle.lapi_base.specs.declared.reply.Reply.{Reply}
@@ -16,6 +19,7 @@ use Rattle.lapi_base.specs.declared.schedule.Act.TheVariants.{Poll, Tick, Delive
 use Rattle.lapi_base.specs.Record.Below.{below}
 use Rattle.lapi_base.specs.Record.Operations.{numbers_below}
 use Rattle.lapi_base.specs.Output.JournalText.{event_line}
+use Rattle.lapi_base.specs.Output.PacketText.{packet_line}
 use Rattle.lapi_base.specs.Output.TraceText.{trace_line}
 use Rattle.lapi_base.specs.Output.ReportText.{statements_text, memory_text}
 
@@ -84,6 +88,22 @@ worker_busy = refl
 worker_done : traced (End 1 0) Did ≡ codes "15 end 1 0 : did\n"
 unfolding digits
 worker_done = refl
+
+-- the text of a packet tells its layout
+first_acknowledgement : packet_line (Packet.Ack 1 1 0 1 2) ≡ codes "ack from 1 to 0 base 1 bits 00000002\n"
+unfolding digits encode_with
+first_acknowledgement = refl
+
+second_acknowledgement : packet_line (Packet.Ack 2 1 0 1 2) ≡ codes "ack2 from 1 to 0 base 1 bits 0000000000000002\n"
+unfolding digits encode_with
+second_acknowledgement = refl
+
+abbrev answer : DataPacket
+answer = record { layout = 2; from = 1; to = 0; seq = 0; name = message Echo; head = Head.Echo 32 (Some 0); length = 4; fragment = 0; payload = 0 ∷ 0 ∷ 0 ∷ 10 ∷ [] }
+
+answer_line : packet_line (Packet.Data answer) ≡ codes "data2 from 1 to 0 seq 0 message 0.1 echo op am length 4 fragment 0 dest 32 cmpl 0 payload 0000000a\n"
+unfolding digits encode_with
+answer_line = refl
 
 -- what was refused and what was read stand in one list, by their statements
 refused_and_read : statements_text 1 5 ((0, NoTable) ∷ (3, StrideBelowBlock) ∷ []) ((2, 5) ∷ (4, 18446744073709551615) ∷ []) ≡ codes "refused 1 0 6 NoTable\nread 1 2 5\nrefused 1 3 11 StrideBelowBlock\nread 1 4 18446744073709551615\n"

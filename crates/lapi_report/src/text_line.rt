@@ -104,9 +104,25 @@ impl TextLine {
         }
     }
 
-    /// In hexadecimal, at most 512 bytes; or `-` for none.
+    /// In hexadecimal, at most 1,024 bytes.
+    fn hex_in_parts(&mut self, bytes: &[u8])
+        requires few { length bytes.now ≤ 1024 }
+        requires room { length self.old + 2 * length bytes.now ≤ 4096 }
+        ensures text { self.new ≡ self.old ++ encode_lower bytes.now }
+        ensures room { length self.new ≡ length self.old + 2 * length bytes.now }
+    {
+        if bytes.len() <= 512 {
+            self.hex(bytes);
+        } else {
+            let (front, rest) = bytes.split_at(512);
+            self.hex(front);
+            self.hex(rest);
+        }
+    }
+
+    /// In hexadecimal, at most 1,024 bytes; or `-` for none.
     pub(crate) fn optional_hex(&mut self, bytes: &[u8])
-        requires few { length bytes.now ≤ 512 }
+        requires few { length bytes.now ≤ 1024 }
         requires room { length self.old + 2 * length bytes.now + 1 ≤ 4096 }
         ensures text { self.new ≡ self.old ++ hex_word bytes.now }
         ensures room { length self.new ≤ length self.old + 2 * length bytes.now + 1 }
@@ -114,7 +130,7 @@ impl TextLine {
         if bytes.is_empty() {
             self.text("-");
         } else {
-            self.hex(bytes);
+            self.hex_in_parts(bytes);
         }
     }
 
