@@ -1,5 +1,6 @@
 //! Journals of two tasks, and the verdicts on them. Only task 0 has statements.
-ghost use Rattle.std.specs.Prelude.{IfOk};
+ghost use Rattle.std.specs.Prelude.{◌≡◌, true, IfOk};
+ghost use Rattle.lapi_base.specs.Packet.Layout.{is_version};
 ghost use Rattle.lapi_base.specs.Record.Valid.{ValidScript, ValidStatement};
 
 use super::*;
@@ -51,6 +52,12 @@ enum Given {
     FarPutAndLongWait,
     /// A wait for 0, and an address above the memory.
     WaitAndFarAddress,
+    /// A store, and a message whose completion answers at byte 32. It is of the second layout.
+    StoreAndAnswer,
+    /// The same of the first layout, in which nobody answers.
+    StoreAndNote,
+    /// A store, and a message whose completion would answer at byte 34. It is of the second layout.
+    StoreAndFarAnswer,
 }
 
 fn put(target: u32) -> Statement
@@ -82,6 +89,23 @@ fn message(alloc: Global, handler: u32) -> Statement
     }
 }
 
+/// A message with a user value, a target counter and a completion counter.
+fn answered(alloc: Global, user: u8) -> Result<Statement, Memory>
+    ensures { IfOk result ValidStatement }
+{
+    let header = Bytes::from_slice(alloc, &[0, 0, 0, 16, 0, 0, 0, user, 0, 0, 0, 4])?;
+    Ok(Statement::Am {
+        target: 1,
+        handler: 1,
+        header,
+        from: 0,
+        len: 4,
+        tgt: Some(0),
+        org: None,
+        cmpl: Some(0),
+    })
+}
+
 fn wait(counter: u32, value: u32) -> Statement
     ensures { ValidStatement result }
 {
@@ -95,7 +119,8 @@ fn store(alloc: Global) -> Result<Statement, Memory>
     Ok(Statement::Store { at: 0, bytes })
 }
 
-fn script(alloc: Global, first: Statement, second: Statement) -> Result<Script, Memory>
+fn script(alloc: Global, layout: u32, first: Statement, second: Statement) -> Result<Script, Memory>
+    requires layout { is_version layout ≡ true }
     requires first { ValidStatement first }
     requires second { ValidStatement second }
     ensures { IfOk result ValidScript }
@@ -107,7 +132,7 @@ fn script(alloc: Global, first: Statement, second: Statement) -> Result<Script, 
     lists.push(statements)?;
     lists.push(Statements::new(alloc))?;
     Ok(Script {
-        layout: 1,
+        layout,
         tasks: 2,
         memory: 64,
         counters: 4,
@@ -121,18 +146,24 @@ impl Given {
         ensures { IfOk result ValidScript }
     {
         match self {
-            Given::StoreAndPut => script(alloc, store(alloc)?, put(1)),
-            Given::MessageAndFence => script(alloc, message(alloc, 1), Statement::Fence),
-            Given::MessageAndWait => script(alloc, message(alloc, 0), wait(0, 1)),
-            Given::GfenceAndFence => script(alloc, Statement::Gfence, Statement::Fence),
+            Given::StoreAndPut => script(alloc, 1, store(alloc)?, put(1)),
+            Given::MessageAndFence => script(alloc, 1, message(alloc, 1), Statement::Fence),
+            Given::MessageAndWait => script(alloc, 1, message(alloc, 0), wait(0, 1)),
+            Given::GfenceAndFence => script(alloc, 1, Statement::Gfence, Statement::Fence),
             Given::Addresses => script(
                 alloc,
+                1,
                 Statement::Addr { at: 8 },
                 Statement::Addr { at: 100 },
             ),
-            Given::FarPutAndWait => script(alloc, put(9), wait(9, 0)),
-            Given::FarPutAndLongWait => script(alloc, put(9), wait(9, 1)),
-            Given::WaitAndFarAddress => { script(alloc, wait(0, 0), Statement::Addr { at: 100 }) }
+            Given::FarPutAndWait => script(alloc, 1, put(9), wait(9, 0)),
+            Given::FarPutAndLongWait => script(alloc, 1, put(9), wait(9, 1)),
+            Given::WaitAndFarAddress => {
+                script(alloc, 1, wait(0, 0), Statement::Addr { at: 100 })
+            }
+            Given::StoreAndAnswer => script(alloc, 2, store(alloc)?, answered(alloc, 32)?),
+            Given::StoreAndNote => script(alloc, 1, store(alloc)?, answered(alloc, 32)?),
+            Given::StoreAndFarAnswer => script(alloc, 2, store(alloc)?, answered(alloc, 34)?),
         }
     }
 
@@ -245,6 +276,38 @@ fn an_operation_goes_its_way_once(rt: HostRuntime) -> Result<(), Fail> {
         ("no completion to end", &unbegun[..], broken(3, 4)),
     ];
     Given::MessageAndWait.compare(&rt, alloc, &of_none)
+}
+
+#[test]
+fn an_answer_takes_the_place_of_a_note(rt: HostRuntime) -> Result<(), Fail> {
+    let alloc = rt.alloc();
+    let [stored, sent, copied] = [issue(0), issue(1), copy(1, GO)];
+    let [headed, landed] = [head(1), land(1, GO)];
+    let [begun, ended] = [begin(1, 1, 0), end(1)];
+    let [echo, note] = [copy(1, Leg::Echo), copy(1, Leg::Note)];
+    let [told, noted] = [land(1, Leg::Echo), land(1, Leg::Note)];
+    let answer = [
+        stored, sent, copied, headed, landed, begun, ended, echo, told,
+    ];
+    let by_note = [
+        stored, sent, copied, headed, landed, begun, ended, note, noted,
+    ];
+    let early = [stored, sent, copied, headed, landed, begun, echo];
+    let uncopied = [stored, sent, copied, headed, landed, begun, ended, told];
+    let of_answers = [
+        ("it answers", &answer[..], ATOMIC),
+        ("it is on its way", &answer[..8], ATOMIC),
+        ("no note beside the answer", &by_note[..], broken(1, 7)),
+        ("before its job ends", &early[..], broken(2, 6)),
+        ("it lands uncopied", &uncopied[..], broken(2, 7)),
+    ];
+    Given::StoreAndAnswer.compare(&rt, alloc, &of_answers)?;
+    let of_notes = [
+        ("a note", &by_note[..], ATOMIC),
+        ("nobody answers", &answer[..], broken(1, 7)),
+    ];
+    Given::StoreAndNote.compare(&rt, alloc, &of_notes)?;
+    Given::StoreAndFarAnswer.compare(&rt, alloc, &of_notes)
 }
 
 #[test]
