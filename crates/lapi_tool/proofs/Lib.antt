@@ -6,5 +6,6 @@ pub mod WorldTexts
 pub mod Feeding
 pub mod Unwritten
 pub mod OutOfMemory
+pub mod PlanMemories
 pub mod LiveTexts
 pub mod RanLanes

@@ -20,4 +20,5 @@ out-of-memory rules (Some (commands.Sum number)) left held = (cut-short _ held, 
 out-of-memory rules (Some commands.Check) left held = inl (tt, refl)
 out-of-memory rules (Some commands.Audit) left held = inl (tt, refl)
 out-of-memory rules (Some commands.Landings) left held = inl (tt, refl)
+out-of-memory rules (Some commands.Array) left held = inl (tt, refl)
 out-of-memory rules (Some (commands.Read view)) left held = inl (tt, refl)

@@ -23,9 +23,9 @@ use Rattle.lapi_base.specs.Record.WorldView.{WorldView, acts_of, record_at, reco
 use Rattle.lapi_base.proofs.LayoutLaws.{most_lines_by}
 use Rattle.lapi_live.specs.Rooms.{plan_of_world}
 use Rattle.lapi_script.specs.ReaderAnswers.{GivesInput}
-use Rattle.lapi_tool.specs.Answered.{WasRead, refused_answer}
+use Rattle.lapi_tool.specs.Answered.{refused_answer}
 use Rattle.lapi_tool.specs.Live.{IsLiveAnswered, IsLiveReported, LiveTells, TellsLanes, HasRunLanes, live_world_text}
-use Rattle.lapi_tool.specs.Outcomes.{CommandGives, IsCutShort, IsSilent, IsUnread}
+use Rattle.lapi_tool.specs.Outcomes.{CommandGives, IsCutShort, IsSilent, IsUnread, WasRead}
 use Rattle.lapi_tool.proofs.Reported.{kept, IsOther}
 
 -- a valid schedule of either layout is short enough for lanes

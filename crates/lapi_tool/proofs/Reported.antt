@@ -25,8 +25,8 @@ use Rattle.lapi_base.specs.Laws.Headline.{HoldsOfRuns}
 use Rattle.lapi_base.specs.declared.script.Script.{Script}
 use Rattle.lapi_base.specs.declared.schedule.Act.{Act}
 use Rattle.lapi_base.specs.declared.schedule.Line.{Line}
-use Rattle.lapi_tool.specs.Answered.{IsAnswered, IsReported, WasRead}
-use Rattle.lapi_tool.specs.Outcomes.{CommandGives, IsUnread, IsCutShort}
+use Rattle.lapi_tool.specs.Answered.{IsAnswered, IsReported}
+use Rattle.lapi_tool.specs.Outcomes.{CommandGives, IsUnread, IsCutShort, WasRead}
 use Rattle.lapi_world.specs.Settled.{IsSettled}
 
 err_ok : {A B : Type 0} (e : B) (x : A) → Err e ≡ Ok x → ⊥

@@ -2,7 +2,7 @@
 use Rattle.std.specs.Prelude.{◌≡◌, ◌↔◌, IsTrue, ℕ, ◌+◌, ◌≤◌, ◌⊎◌, List, [], length, reverse, Option, Some, None, Result, Ok, Err}
 use Rattle.std.specs.Io.KnownBytes.{Appends, Consumes, IsAtEnd}
 use Rattle.lapi_base.specs.declared.command.Command.{Command}
-use Rattle.lapi_base.specs.declared.command.Command.TheVariants.{Read, Check, Audit, Landings, Show, Gen, Sum}
+use Rattle.lapi_base.specs.declared.command.Command.TheVariants.{Read, Check, Audit, Landings, Array, Show, Gen, Sum}
 use Rattle.lapi_base.specs.declared.input.Input.{Input}
 use Rattle.lapi_base.specs.declared.input.ReadFault.{ReadFault}
 use Rattle.lapi_base.specs.declared.input.ReadFault.TheVariants as faults
@@ -22,13 +22,10 @@ use Rattle.lapi_base.specs.Output.ReportText.{report_text}
 use Rattle.lapi_base.specs.Input.Rows.{IsInputText}
 use Rattle.lapi_base.specs.declared.rule.Rules.{Rules}
 use Rattle.lapi_gen.specs.Inputs.{generated_input}
+use Rattle.lapi_tool.specs.Arrays.{IsArrayTold}
 use Rattle.lapi_tool.specs.Landings.{IsLanded}
-use Rattle.lapi_tool.specs.Outcomes.{CommandGives, IsSilent}
+use Rattle.lapi_tool.specs.Outcomes.{CommandGives, IsSilent, WasRead}
 use Rattle.lapi_world.specs.Settled.{IsSettled}
-
--- all that was left was read; or, of a source with more bytes than an input may have, one byte more than those
-abbrev pub WasRead : (left rest : Option (List ℕ)) → List ℕ → Type 0
-WasRead left rest bytes = Consumes left rest bytes × (length bytes ≤ most_input + 1) × (length bytes ≤ most_input → IsAtEnd rest)
 
 -- What is told of a fault of the input; where memory ran out that is nothing.
 abbrev pub refused_answer : ReadFault → Answer
@@ -63,6 +60,7 @@ IsAnswered rules (Some (Sum number)) left rest held now result = CommandGives (s
 IsAnswered rules (Some Check) left rest held now result = IsToldOf counts_text left rest held now result
 IsAnswered rules (Some Audit) left rest held now result = IsAudited rules left rest held now result
 IsAnswered rules (Some Landings) left rest held now result = IsLanded left rest held now result
+IsAnswered rules (Some Array) left rest held now result = IsArrayTold left rest held now result
 IsAnswered rules (Some (Read view)) left rest held now result = IsToldOf (view_text view rules) left rest held now result
 
 -- The whole source is the text of an input; the report of the record of all its lines was appended; the journal of that

@@ -1,4 +1,5 @@
 pub mod Answered
+pub mod Arrays
 pub mod AuditedJournals
 pub mod Landings
 pub mod Live

@@ -12,8 +12,7 @@ use Rattle.lapi_base.specs.Output.ReportText.{report_text}
 use Rattle.lapi_base.specs.Record.Atomic.{AtomicInTime}
 use Rattle.lapi_base.specs.Record.Lanes.{IsFirstClash, IsInterleaving, WorkersKeepLanes}
 use Rattle.lapi_base.specs.Record.WorldView.{WorldView, record_at, view_record}
-use Rattle.lapi_tool.specs.Answered.{WasRead}
-use Rattle.lapi_tool.specs.Outcomes.{CommandGives, IsSilent}
+use Rattle.lapi_tool.specs.Outcomes.{CommandGives, IsSilent, WasRead}
 
 -- no worker has lines in two lanes, and the lines taken are an interleaving of the lanes: they were told, and their report
 abbrev pub TellsLanes : Rules → Input → (held now : Option (List ℕ)) → Status → Type 0

@@ -11,6 +11,7 @@ ghost use Rattle.lapi_tool.specs.Answered.{IsAnswered, IsToldOf, IsReported, ref
 ghost use Rattle.lapi_tool.specs.Outcomes.{CommandGives};
 ghost use Rattle.lapi_tool.specs.Shown.{asked_text};
 
+use crate::array::run_and_answer;
 use crate::fault::{status_of, write_fault};
 use crate::generated::{write_generated, write_sum};
 use crate::landings::find_and_answer;
@@ -38,7 +39,8 @@ pub(crate) const USAGE: &str =
 
 /// Does what the words say, which are the arguments after the program's name: reads an input, performs every
 /// line of its schedule with these handlers and writes what is asked of it, tells the verdict on a journal, tells the
-/// landings in a capture, shows a packet, or writes the input that a number generates or a summary of its record.
+/// landings in a capture, runs a plan on a block array, shows a packet, or writes the input that a number generates or a
+/// summary of its record.
 ///
 /// All text goes to the sink, that of a refusal too.
 pub fn run<S: Source, K: Sink>(
@@ -79,6 +81,7 @@ pub fn run<S: Source, K: Sink>(
         Ok(Some(Command::Check)) => read_and_answer(alloc, None, source, sink, handlers),
         Ok(Some(Command::Audit)) => audit_and_answer(alloc, source, sink, handlers),
         Ok(Some(Command::Landings)) => find_and_answer(alloc, source, sink),
+        Ok(Some(Command::Array)) => run_and_answer(alloc, source, sink, handlers),
         Ok(Some(Command::Read(view))) => read_and_answer(alloc, Some(view), source, sink, handlers),
     }
 }

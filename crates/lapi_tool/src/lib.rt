@@ -1,6 +1,7 @@
 //! The commands: what a user's words and input come to, from the bytes in to the bytes out.
 #![tactic(auto)]
 
+mod array;
 mod audited;
 mod command;
 mod counts;

@@ -41,6 +41,8 @@ fn read_of(word: &str) -> Option<Command>
         Some(Command::Audit)
     } else if word == "landings" {
         Some(Command::Landings)
+    } else if word == "array" {
+        Some(Command::Array)
     } else {
         view_of(word).map(Command::Read)
     }

@@ -1,4 +1,4 @@
-use Rattle.std.proofs.Common.{subst, sym}
+use Rattle.std.proofs.Common.{subst, sym, refl}
 use Rattle.lapi_base.specs.Output.CommandAnswers.{input_answer}
 use Rattle.lapi_tool.specs.Outcomes.{CommandGives}
 use Rattle.lapi_tool.specs.Shown.{asked_text}
@@ -11,4 +11,4 @@ returns-in-Ok-clause-answer g c =
     subst (λ r. CommandGives (input_answer (asked_text c.args.view (rules_of c.args.handlers.now)) r) (g.K.Sink.held c.args.sink.now) (g.K.Sink.held c.write_view.new.sink) c.end.result) (sym c.in-Ok.ensures.exact) (c.end.ensures.answer _ _ _ c.write_view.ensures.text)
 
 pub returns-in-Err-clause-answer : goal.returns-in-Err-clause-answer
-returns-in-Err-clause-answer g c = refused_is (asked_text c.args.view (rules_of c.args.handlers.now)) c.in-Err.fault _ _ _ _ c.in-Err.ensures.exact c.refuse.ensures.answer
+returns-in-Err-clause-answer g c = refused_is (input_answer (asked_text c.args.view (rules_of c.args.handlers.now))) (λ fault. refl) c.in-Err.fault _ _ _ _ c.in-Err.ensures.exact c.refuse.ensures.answer
