@@ -4,7 +4,7 @@
 use lapi_base::{CompletionRule, HeaderIn, Status};
 use lapi_handlers::{
     CompletionFn, Handlers, HeaderFn, NOWHERE, PER_ORIGIN, WORD, WORD_AND_CHOICE, nothing, nowhere,
-    per_origin, reversed, same, sum, word, word_and_choice,
+    per_origin, reversed, same, sum, sum_back, word, word_and_choice,
 };
 use lapi_io::{StdSink, StdSource};
 use lapi_live::OpenGate;
@@ -53,6 +53,10 @@ fn answer<R: Threads + Wait + Sync>(rt: &HostRuntime, threads: &R) -> io::Result
     completions.push(CompletionFn::new(
         CompletionRule::Reversed,
         Box::new(alloc, |user: u32, buffer: &[u8]| reversed(user, buffer))?,
+    ))?;
+    completions.push(CompletionFn::new(
+        CompletionRule::Answer,
+        Box::new(alloc, |user: u32, buffer: &[u8]| sum_back(user, buffer))?,
     ))?;
     let handlers = Handlers::new(headers, completions);
     command(rt, threads, &words, &handlers)

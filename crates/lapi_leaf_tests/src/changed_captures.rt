@@ -163,13 +163,15 @@ fn clashes(before: &[&[u8]], frame: &[u8]) -> bool {
         return !is_addressed(frame);
     };
     !is_addressed(frame)
-        || before.iter().any(|earlier| is_of(earlier, &packet).is_some_and(|other| other.length
-            != packet.length))
+        || before.iter().any(|earlier| is_of(earlier, &packet).is_some_and(|other| other.layout
+            != packet.layout
+            || other.length != packet.length))
 }
 
 /// Whether all fragments of a packet's message are in these frames.
 fn is_whole(frames: &[&[u8]], packet: &DataPacket) -> bool {
-    let count = packet.length.div_ceil(256).max(1);
+    let unit = if packet.layout == 2 { 1024 } else { 256 };
+    let count = packet.length.div_ceil(unit).max(1);
     (0..count).all(|number| {
         frames.iter().any(|frame| is_of(frame, packet).is_some_and(|other| other.fragment
             == number))

@@ -3,8 +3,8 @@ use lapi_base::{
     UserHeader,
 };
 use lapi_handlers::{
-    CompletionFn, Handlers, HeaderFn, Job, nothing, nowhere, per_origin, reversed, same, sum, word,
-    word_and_choice,
+    CompletionFn, Handlers, HeaderFn, Job, nothing, nowhere, per_origin, reversed, same, sum,
+    sum_back, word, word_and_choice,
 };
 use std::alloc::Global;
 use std::process::Abort;
@@ -64,7 +64,7 @@ const HEADER_ROWS: [HeaderRow; 16] = [
 /// A completion handler's number, the user value, the buffer and the effect.
 type CompletionRow = (u32, u32, &'static [u8], Effect);
 
-const COMPLETION_ROWS: [CompletionRow; 9] = [
+const COMPLETION_ROWS: [CompletionRow; 11] = [
     (0, 32, b"\x01\x02\x03\x04", Effect::Nothing),
     (0, 0, b"", Effect::Nothing),
     (
@@ -87,6 +87,13 @@ const COMPLETION_ROWS: [CompletionRow; 9] = [
     (2, 4294967295, b"", Effect::Same { at: 4294967295 }),
     (3, 256, b"\x01\x02\x03\x04", Effect::Reversed { at: 256 }),
     (3, 512, b"", Effect::Reversed { at: 512 }),
+    (
+        4,
+        32,
+        b"\x01\x02\x03\x04",
+        Effect::Answer { at: 32, value: 10 },
+    ),
+    (4, 34, b"", Effect::Answer { at: 34, value: 0 }),
 ];
 
 fn ask_header(rt: &impl Abort, handlers: &Handlers, row: &HeaderRow) {
@@ -182,8 +189,12 @@ fn built_in_completions_answer_as_their_table(rt: HostRuntime) -> Result<(), Fai
         CompletionRule::Reversed,
         Box::new(alloc, |user: u32, buffer: &[u8]| reversed(user, buffer))?,
     ))?;
+    completions.push(CompletionFn::new(
+        CompletionRule::Answer,
+        Box::new(alloc, |user: u32, buffer: &[u8]| sum_back(user, buffer))?,
+    ))?;
     let handlers = Handlers::new(Vec::new(alloc), completions);
-    assert_eq!(rt; handlers.completion_count(), 4);
+    assert_eq!(rt; handlers.completion_count(), 5);
     for row in &COMPLETION_ROWS {
         complete_job(&rt, alloc, &handlers, row)?;
     }

@@ -43,6 +43,7 @@ fn later_fragment() -> DataPacket
     let mut payload = Payload::new();
     payload.push(9);
     DataPacket {
+        layout: 1,
         from: 0,
         to: 1,
         seq: 0,

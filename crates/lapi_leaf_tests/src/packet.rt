@@ -3,8 +3,9 @@ use lapi_packet::{decode, encode, valid};
 use std::alloc::Global;
 use std::test::Fail;
 
-/// The bytes of packets of each kind, leg and operation. The table of `lapi_rows` has what each of them says.
-const VECTORS: [&str; 17] = [
+/// The bytes of packets of each kind, leg and operation, and behind them of layout 2. The table of `lapi_rows` has what
+/// each of them says.
+const VECTORS: [&str; 20] = [
     "4c0101000100000000000001010100000008000000000010ffff6162636465666768",
     "4c010201000000000100000000",
     "4c010201000000000000000004",
@@ -22,6 +23,38 @@ const VECTORS: [&str; 17] = [
     "4c0101010000000000000000020500000004000000000008ff00000005",
     "4c0101010000000000000000030300000000000000",
     "4c0101010000000000000000030600000000000000",
+    "4c0201000100000000000001010100000008000000000010ffff6162636465666768",
+    "4c02020100000000010000000000000000",
+    "4c0201010000000000000001050600000004000000000020000000000a",
+];
+
+/// Bytes of both layouts that spell no packet, each with the place and the reason of its first fault.
+const REFUSED: [(&str, usize, Reason); 8] = [
+    ("4c02", 2, Reason::Short),
+    ("4c03", 1, Reason::Version),
+    // The lowest bit of an acknowledgement's 64.
+    (
+        "4c02020100000000010000000000000001",
+        9,
+        Reason::NotCanonical,
+    ),
+    // An acknowledgement's 32 bits, in layout 2.
+    ("4c020201000000000100000000", 13, Reason::Short),
+    // An answer in layout 1.
+    (
+        "4c0101010000000000000001050600000004000000000020000000000a",
+        12,
+        Reason::Kind,
+    ),
+    // An active message of 16,385 bytes, and a put of 65,537, in layout 2.
+    ("4c0201000100000000000001010600004001", 14, Reason::Field),
+    ("4c0201000100000000000001010100010001", 14, Reason::Field),
+    // Fragment 64 of a put of 65,536 bytes.
+    (
+        "4c02010001000000000000010101000100000040",
+        18,
+        Reason::Field,
+    ),
 ];
 
 fn bytes_of(alloc: Global, digits: &str) -> Result<Vec<u8>, Fail> {
@@ -43,13 +76,44 @@ fn known_packets_are_read_and_written(rt: HostRuntime) -> Result<(), Fail> {
             assert_eq!(rt; out.as_slice(), bytes.as_slice(), "{text}");
         }
     }
-    let bit_of_the_base = Packet::Ack {
+    Ok(())
+}
+
+/// An acknowledgement of task 0's packets.
+fn acknowledgement(layout: u32, bits: u64) -> Packet {
+    Packet::Ack {
+        layout,
         from: 1,
         to: 0,
         base: 0,
-        bits: 1,
-    };
-    assert!(rt; !valid(&bit_of_the_base));
+        bits,
+    }
+}
+
+#[test]
+fn an_acknowledgement_has_the_bits_of_its_layout(rt: HostRuntime) -> Result<(), Fail> {
+    let widest = 4_294_967_296;
+    assert!(rt; valid(&acknowledgement(1, widest - 2)));
+    assert!(rt; !valid(&acknowledgement(1, widest)));
+    assert!(rt; valid(&acknowledgement(2, widest)));
+    for layout in 1..3 {
+        assert!(rt;
+            !valid(&acknowledgement(layout, 1)),
+            "the base's own bit, {layout}"
+        );
+    }
+    for layout in [0, 3] {
+        assert!(rt; !valid(&acknowledgement(layout, 0)), "no layout {layout}");
+    }
+    Ok(())
+}
+
+#[test]
+fn a_refused_packet_has_the_place_of_its_first_fault(rt: HostRuntime) -> Result<(), Fail> {
+    for (text, place, reason) in REFUSED {
+        let bytes = bytes_of(rt.alloc(), text)?;
+        assert_eq!(rt; refusal(bytes.as_slice()), Some((place, reason)), "{text}");
+    }
     Ok(())
 }
 

@@ -15,7 +15,7 @@ use anyhow::Context;
 use lapi_base::{CompletionRule, HeaderIn};
 use lapi_handlers::{
     CompletionFn, Handlers, HeaderFn, NOWHERE, PER_ORIGIN, WORD, WORD_AND_CHOICE, nothing, nowhere,
-    per_origin, reversed, same, sum, word, word_and_choice,
+    per_origin, reversed, same, sum, sum_back, word, word_and_choice,
 };
 use ran::Ran;
 use row::Row;
@@ -54,6 +54,10 @@ fn main(rt: HostRuntime) -> anyhow::Result<()> {
     completions.push(CompletionFn::new(
         CompletionRule::Reversed,
         Box::new(alloc, |user: u32, buffer: &[u8]| reversed(user, buffer))?,
+    ))?;
+    completions.push(CompletionFn::new(
+        CompletionRule::Answer,
+        Box::new(alloc, |user: u32, buffer: &[u8]| sum_back(user, buffer))?,
     ))?;
     let handlers = Handlers::new(headers, completions);
     run_table(&rt, alloc, &handlers)
