@@ -1,6 +1,6 @@
 //! What a plan's tasks hold after a run, and the text of it.
 
-ghost use Rattle.std.specs.Prelude.{◌≡◌, Err};
+ghost use Rattle.std.specs.Prelude.{◌≡◌, ◌≤◌, Err};
 ghost use Rattle.lapi_base.specs.declared.status.WriteFault.TheVariants as fault;
 ghost use Rattle.lapi_io.specs.Causes.{Rose};
 ghost use Rattle.lapi_io.specs.Writes.{Wrote};
@@ -31,7 +31,9 @@ pub fn write_array<K: Sink>(
     requires memories { AreLeft plan.now memories.now }
     ensures text { Wrote (K.held sink.old) (K.held sink.new) (array_text plan.now) result }
     ensures failed { result ≡ Err fault.Failed → Rose (K.faults sink.old) (K.faults sink.new) }
+    ensures later { K.faults sink.old ≤ K.faults sink.new }
     ensures memory { result ≡ Err fault.Memory → sink.new ≡ sink.old }
+    ensures room { K.room sink.new ≡ K.room sink.old }
 {
     let Ok(text) = array_text(alloc, plan, memories) else {
         return Err(WriteFault::Memory);
