@@ -1,18 +1,25 @@
 -- Dissects the packets of lapi in files of `lapi_view pcap`, of link type USER0 (147):
 --   tshark -X lua_script:lapi.lua -r run.pcap -V
--- Each field stands as its name and value, in the order and the words of `lapi show`. Bytes that spell no packet are
--- refused as `lapi show` refuses them: the place of the first fault, and the number and name of its reason.
+-- Each field stands as its name and value, in the order and the words of `lapi show`, in both layouts. Bytes that spell
+-- no packet are refused as `lapi show` refuses them: the place of the first fault, and the number and name of its reason.
 
 local lapi = Proto("lapi", "LAPI over a lossy switch")
 
 local REASONS = { "Short", "Long", "Magic", "Version", "Kind", "Task", "Field", "NotCanonical" }
 local SHORT, LONG, MAGIC, VERSION, KIND, TASK, FIELD, NOT_CANONICAL = 1, 2, 3, 4, 5, 6, 7, 8
-local LEGS = { "go", "back", "note", "join" }
+local LEGS = { "go", "back", "note", "join", "echo" }
 local OPERATIONS = { "put", "get", "putv", "getv", "rmw", "am", "gfence", "addr" }
 local UPDATES = { "add", "or", "swap", "cas" }
-local GO, BACK, NOTE, JOIN = 1, 2, 3, 4
+local GO, BACK, NOTE, JOIN, ECHO = 1, 2, 3, 4, 5
 local PUT, GET, PUTV, GETV, RMW, AM, GFENCE, ADDR = 1, 2, 3, 4, 5, 6, 7, 8
-local MEMORY, LONGEST, UNIT = 65536, 16384, 256
+local MEMORY, LONGEST_ACTIVE = 65536, 16384
+
+-- What differs from one layout to another, by the byte that tells the version: the first words, the payload of each
+-- fragment but the last, the longest message, the bytes of an acknowledgement's bits, and whether handlers answer.
+local LAYOUTS = {
+  { data = "data", ack = "ack", unit = 256, longest = 16384, bits = 4, echo = false },
+  { data = "data2", ack = "ack2", unit = 1024, longest = 65536, bits = 8, echo = true },
+}
 
 local NUMBERS = {
   "from", "to", "seq", "length", "fragment", "at", "asked", "source", "dest", "in1", "in2", "prev", "handler", "round",
@@ -146,7 +153,7 @@ local function as_long_as(others)
 end
 
 -- What each message carries before its payload, by leg and operation.
-local heads = { [GO] = {}, [BACK] = {}, [NOTE] = {}, [JOIN] = {} }
+local heads = { [GO] = {}, [BACK] = {}, [NOTE] = {}, [JOIN] = {}, [ECHO] = {} }
 
 heads[GO][PUT] = function(r, length)
   r:range("at", length)
@@ -155,7 +162,7 @@ heads[GO][PUT] = function(r, length)
 end
 
 heads[GO][GET] = function(r)
-  local asked = r:shown("asked", 4, function(n) return n <= LONGEST end)
+  local asked = r:shown("asked", 4, function(n) return n <= r.layout.longest end)
   r:range("source", asked)
   r:range("dest", asked)
   r:counter("tgt")
@@ -173,7 +180,7 @@ heads[GO][GETV] = function(r)
   r:counter("tgt")
   r:counter("org")
   local count = r:count()
-  local sources = r:spans("sources", "source", count, within(LONGEST))
+  local sources = r:spans("sources", "source", count, within(r.layout.longest))
   r:spans("dests", "dest", count, as_long_as(sources))
 end
 
@@ -219,6 +226,11 @@ local function note(r)
 end
 heads[NOTE][PUT], heads[NOTE][PUTV], heads[NOTE][AM] = note, note, note
 
+heads[ECHO][AM] = function(r)
+  r:word("dest")
+  r:counter("cmpl")
+end
+
 heads[JOIN][GFENCE] = function(r)
   r:shown("round", 2, function(n) return n <= 511 end)
 end
@@ -228,48 +240,66 @@ heads[JOIN][ADDR] = function(r)
   r:shown("address", 4, function(n) return n <= MEMORY end)
 end
 
+-- Go and Join are from the origin, Join to another task, and the others to the origin.
+local function is_leg(r, from, to, origin, n)
+  if n == GO then
+    return origin == from
+  elseif n == JOIN then
+    return origin == from and from ~= to
+  elseif n == ECHO then
+    return r.layout.echo and origin == to
+  end
+  return (n == BACK or n == NOTE) and origin == to
+end
+
+-- Requests, notices and joins carry no bytes, and the answer of a read-modify-write and that of a handler a word.
+local function is_length(r, leg, op, n)
+  if leg == ECHO or (leg == BACK and op == RMW) then
+    return n == 4
+  elseif leg == NOTE or leg == JOIN or (leg == GO and (op == GET or op == GETV or op == RMW)) then
+    return n == 0
+  elseif leg == GO and op == AM then
+    return n <= LONGEST_ACTIVE
+  end
+  return n <= r.layout.longest
+end
+
 local function data(r, from, to)
   r:shown("seq", 4)
   local start = r.place
   local origin = r:number(1, TASK, function(n) return n == from or n == to end)
   local statement = r:number(2, FIELD, function(n) return n <= 511 end)
-  local leg = r:number(1, KIND, function(n)
-    return ((n == GO or n == JOIN) and origin == from and (n == GO or from ~= to)) or ((n == BACK or n == NOTE) and origin == to)
-  end)
+  local leg = r:number(1, KIND, function(n) return is_leg(r, from, to, origin, n) end)
   local name = origin .. "." .. statement .. " " .. LEGS[leg] .. (leg == JOIN and "-" .. to or "")
   r:keep("message", start, name, "message " .. name)
   start = r.place
   local op = r:number(1, KIND, function(n) return heads[leg][n] ~= nil end)
   r:keep("op", start, OPERATIONS[op], "op " .. OPERATIONS[op])
-  local length = r:shown("length", 4, function(n)
-    if leg == BACK and op == RMW then
-      return n == 4
-    elseif leg == NOTE or leg == JOIN or (leg == GO and (op == GET or op == GETV or op == RMW)) then
-      return n == 0
-    end
-    return n <= LONGEST
-  end)
-  local fragment = r:shown("fragment", 2, function(n) return n < math.max(1, math.ceil(length / UNIT)) end)
+  local length = r:shown("length", 4, function(n) return is_length(r, leg, op, n) end)
+  local unit = r.layout.unit
+  local fragment = r:shown("fragment", 2, function(n) return n < math.max(1, math.ceil(length / unit)) end)
   heads[leg][op](r, length)
   start = r.place
-  local payload = r:hex(math.min(UNIT, length - UNIT * fragment))
+  local payload = r:hex(math.min(unit, length - unit * fragment))
   r:keep("payload", start, payload, "payload " .. payload)
 end
 
 local function acknowledgement(r)
   r:shown("base", 4)
   local start = r.place
-  local bits = r:number(4, NOT_CANONICAL, function(n) return n % 2 == 0 end)
-  local digits = string.format("%08x", bits)
+  local digits = r:hex(r.layout.bits)
+  if r.bytes(r.place - 1, 1):uint() % 2 == 1 then
+    r:refuse(start, NOT_CANONICAL)
+  end
   r:keep("bits", start, digits, "bits " .. digits)
 end
 
 local function packet(r)
   r:number(1, MAGIC, function(n) return n == 0x4c end)
-  r:number(1, VERSION, function(n) return n == 1 end)
+  r.layout = LAYOUTS[r:number(1, VERSION, function(n) return LAYOUTS[n] ~= nil end)]
   local start = r.place
   local kind = r:number(1, KIND, function(n) return n == 1 or n == 2 end)
-  local word = kind == 1 and "data" or "ack"
+  local word = kind == 1 and r.layout.data or r.layout.ack
   r:keep("packet", start, word, word)
   local from = r:shown("from", 1, function(n) return n <= 7 end, TASK)
   local to = r:shown("to", 1, function(n) return n <= 7 end, TASK)
