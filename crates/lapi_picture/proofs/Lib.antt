@@ -1,2 +1,3 @@
 pub mod EachRow
 pub mod Joins
+pub mod Unshown

@@ -70,6 +70,10 @@ row_task (Happened task event) = task
 row_task (Counted task counter value) = task
 row_task (Sent from to place cargo) = from
 
+-- task T: and the words
+unfoldable pub said_words : (rows : List Row) → Row → List ℕ
+said_words rows row = codes "task " ++ decimal (row_task row) ++ codes ": " ++ row_words rows row
+
 -- the name of its mark
 abbrev pub reply_mark : Reply → List ℕ
 reply_mark replies.Did = codes "did"

@@ -10,7 +10,7 @@ use Rattle.lapi_picture.specs.Shapes.{attribute, column, edge, line_shape, text_
 
 -- words run to the right of the last column
 abbrev pub width : Page → ℕ
-width page = column page.tasks + 360
+width page = column page.tasks + 590
 
 abbrev pub height : Page → ℕ
 height page = edge page page.last + 24

@@ -9,7 +9,7 @@ ghost use Rattle.lapi_picture.specs.Rows.{place_of};
 use crate::cargo::Cargo;
 use crate::deed::Deed;
 use crate::label::cargo_at;
-use crate::page::{Page, column};
+use crate::page::{Page, column, side};
 use crate::place::place_of;
 use crate::row::Row;
 use crate::shapes::{add_bar, add_line};
@@ -25,7 +25,6 @@ pub fn add_strokes(
     j: usize,
     row: &Row,
 ) -> Result<(), Memory>
-    requires { j < length rows.now }
     ensures { OnOk result (out.new.bytes.items ≡ out.old.bytes.items ++ row_strokes page rows.now j row.now) }
 {
     match *row {
@@ -56,7 +55,7 @@ pub fn add_strokes(
 }
 
 /// The arrow of an entry that row `j` handed over whole.
-#[tactic(auto, unfolding(crate::specs::Chart::arrow))]
+#[tactic(auto, using(crate::proofs::Unshown::arrow_above), unfolding(crate::specs::Chart::arrow))]
 fn add_delivery(
     out: &mut String,
     page: Page,
@@ -69,6 +68,9 @@ fn add_delivery(
     ensures { let i = place_of (wanted.Sent from to place) rows.now in
         OnOk result (out.new.bytes.items ≡ out.old.bytes.items ++ arrow page (cargo_class (found_cargo rows.now i)) from to i j) }
 {
+    if !page.reaches(j) {
+        return Ok(());
+    }
     match place_of(rows, Wanted::Sent { from, to, place }) {
         Some(i) => add_arrow(out, page, class_of(cargo_at(rows, i)), from, to, i, j),
         None => Ok(()),
@@ -76,7 +78,7 @@ fn add_delivery(
 }
 
 /// The arrow of an entry of which row `j` handed over the first bytes alone.
-#[tactic(auto, unfolding(crate::specs::Chart::arrow))]
+#[tactic(auto, using(crate::proofs::Unshown::arrow_above), unfolding(crate::specs::Chart::arrow))]
 fn add_cut(
     out: &mut String,
     page: Page,
@@ -89,6 +91,9 @@ fn add_cut(
     ensures { OnOk result (out.new.bytes.items ≡ out.old.bytes.items
         ++ arrow page (codes "cut") from to (place_of (wanted.Sent from to place) rows.now) j) }
 {
+    if !page.reaches(j) {
+        return Ok(());
+    }
     match place_of(rows, Wanted::Sent { from, to, place }) {
         Some(i) => add_arrow(out, page, "cut", from, to, i, j),
         None => Ok(()),
@@ -105,24 +110,23 @@ fn add_arrow(
     i: usize,
     j: usize,
 ) -> Result<(), Memory>
-    requires { i < 2 ^ 63 }
     ensures { OnOk result (out.new.bytes.items ≡ out.old.bytes.items ++ arrow page class.now from to (Some i) j) }
 {
     if page.shows(i, j) {
         add_line(
             out,
             class,
-            column(from),
-            page.edge(i + 1),
-            column(to),
-            page.edge(j),
+            side(from, to),
+            page.middle(i),
+            side(to, from),
+            page.middle(j),
         )?;
     }
     Ok(())
 }
 
 /// The cross of an entry that row `j` put on its wire and that was never handed over whole.
-#[tactic(auto, unfolding(crate::specs::Chart::cross))]
+#[tactic(auto, using(crate::proofs::Unshown::cross_hidden), unfolding(crate::specs::Chart::cross))]
 fn add_lost(
     out: &mut String,
     page: Page,
@@ -132,10 +136,12 @@ fn add_lost(
     to: u32,
     place: usize,
 ) -> Result<(), Memory>
-    requires { j < length rows.now }
     ensures { OnOk result (out.new.bytes.items ≡ out.old.bytes.items
         ++ cross page from to (place_of (wanted.Delivered from to place) rows.now) j) }
 {
+    if !page.shows(j, j) {
+        return Ok(());
+    }
     match place_of(rows, Wanted::Delivered { from, to, place }) {
         Some(_) => Ok(()),
         None => add_cross(out, page, from, to, j),
@@ -144,19 +150,12 @@ fn add_lost(
 
 #[tactic(auto, unfolding(crate::specs::Chart::cross))]
 fn add_cross(out: &mut String, page: Page, from: u32, to: u32, j: usize) -> Result<(), Memory>
-    requires { j < 2 ^ 63 }
     ensures { OnOk result (out.new.bytes.items ≡ out.old.bytes.items ++ cross page from to None j) }
 {
     if page.shows(j, j) {
-        let y = page.edge(j + 1);
-        add_line(
-            out,
-            "lost",
-            column(from),
-            y,
-            (column(from) + column(to)) / 2,
-            y,
-        )?;
+        let y = page.middle(j);
+        let x = side(from, to);
+        add_line(out, "lost", x, y, (3 * x + side(to, from)) / 4, y)?;
     }
     Ok(())
 }
@@ -196,7 +195,7 @@ fn add_bar_to(
     if page.shows(j, end) {
         let top = page.edge(j);
         let height = page.edge(end + 1).saturating_sub(top);
-        let x = column(task).saturating_sub(12 + 7 * u64::from(worker));
+        let x = column(task).saturating_sub(9 + 4 * u64::from(worker));
         add_bar(out, x, top, height)?;
     }
     Ok(())

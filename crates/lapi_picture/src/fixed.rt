@@ -73,7 +73,7 @@ impl Fixed {
             Fixed::Line => "<line class=\"",
             Fixed::Mark => "<use href=\"#",
             Fixed::NameEnd => "\"",
-            Fixed::Bar => "<rect class=\"job\" width=\"5\"",
+            Fixed::Bar => "<rect class=\"job\" width=\"3\"",
             Fixed::ShapeEnd => "/>\n",
             Fixed::Text => "<text",
             Fixed::TextEnd => "</text>\n",

@@ -2,7 +2,7 @@
 
 ghost use Rattle.std.specs.Prelude.{◌≡◌, ◌++◌, OnOk, Some};
 ghost use Rattle.lapi_picture.specs.Chart.{line_number, row_labels};
-ghost use Rattle.lapi_picture.specs.Labels.{event_mark, found_cargo, found_words, handed_words, reply_mark, row_mark, row_task, row_words};
+ghost use Rattle.lapi_picture.specs.Labels.{event_mark, found_cargo, found_words, handed_words, reply_mark, row_mark, row_task, row_words, said_words};
 ghost use Rattle.lapi_picture.specs.Rows.{cargo_of};
 
 use crate::cargo::Cargo;
@@ -28,11 +28,10 @@ pub fn add_labels(
 {
     if page.shows(j, j) {
         let y = page.edge(j);
-        let x = column(task_of(row));
         add_number(out, y + 13, row)?;
-        add_mark(out, mark_of(row), x, y + 9)?;
-        begin_text(out, x + 12, y + 13)?;
-        add_words(out, rows, row)?;
+        add_mark(out, mark_of(row), column(task_of(row)), y + 9)?;
+        begin_text(out, page.words_column(), y + 13)?;
+        add_said(out, rows, row)?;
         end_text(out)?;
     }
     Ok(())
@@ -53,6 +52,16 @@ fn add_number(out: &mut String, y: u64, row: &Row) -> Result<(), Memory>
         Row::Happened { .. } | Row::Counted { .. } | Row::Sent { .. } => {}
     }
     Ok(())
+}
+
+/// The task and the words.
+#[tactic(auto, unfolding(crate::specs::Labels::said_words))]
+fn add_said(out: &mut String, rows: &[Row], row: &Row) -> Result<(), Memory>
+    ensures { OnOk result (out.new.bytes.items ≡ out.old.bytes.items ++ said_words rows.now row.now) }
+{
+    let task = task_of(row);
+    write!(out, "task {task}: ")?;
+    add_words(out, rows, row)
 }
 
 #[tactic(auto, unfolding(crate::specs::Labels::row_words))]

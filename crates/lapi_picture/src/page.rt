@@ -1,6 +1,5 @@
-ghost use Rattle.std.specs.Prelude.{◌≡◌, ◌<◌, ◌*◌, ◌+◌, ◌^◌};
-ghost use Rattle.lapi_picture.specs.Chart.{is_shown};
-ghost use Rattle.lapi_picture.specs.Shapes.{column, edge};
+ghost use Rattle.std.specs.Prelude.{◌≡◌, ◌<◌, ◌*◌, ◌+◌, ◌^◌, nat_le};
+ghost use Rattle.lapi_picture.specs.Shapes.{column, edge, is_shown, middle, side, words_column};
 
 use std::cmp;
 
@@ -17,7 +16,14 @@ impl Page {
     pub fn shows(self, i: usize, j: usize) -> bool
         ensures { result ≡ is_shown self i j }
     {
-        (i as u64) < u64::from(self.last) && u64::from(self.first) <= j as u64
+        (i as u64) < u64::from(self.last) && self.reaches(j)
+    }
+
+    /// Whether a row isn't above those that are shown.
+    pub fn reaches(self, place: usize) -> bool
+        ensures { result ≡ nat_le self.first place }
+    {
+        u64::from(self.first) <= place as u64
     }
 
     /// The upper edge of the row of this place, in pixels.
@@ -29,6 +35,24 @@ impl Page {
         let shown = cmp::min(cmp::max(place as u64, first), u64::from(self.last));
         72 + 18 * shown.saturating_sub(first)
     }
+
+    /// Its middle, or the edge where the row isn't shown.
+    pub fn middle(self, place: usize) -> u64
+        ensures { result ≡ middle self place }
+    {
+        if self.shows(place, place) {
+            self.edge(place) + 9
+        } else {
+            self.edge(place)
+        }
+    }
+
+    /// Where all words stand, in pixels from the left.
+    pub fn words_column(self) -> u64
+        ensures { result ≡ words_column self }
+    {
+        column(self.tasks).saturating_sub(80)
+    }
 }
 
 /// The line of a task's life, in pixels from the left.
@@ -36,5 +60,17 @@ pub fn column(task: u32) -> u64
     ensures column { result ≡ column task }
     ensures small { result < 2 ^ 40 }
 {
-    96 + 200 * u64::from(task)
+    84 + 120 * u64::from(task)
+}
+
+/// Where arrows between a task and another leave and reach its line.
+pub fn side(task: u32, other: u32) -> u64
+    ensures side { result ≡ side task other }
+    ensures small { result < 2 ^ 41 }
+{
+    if other < task {
+        column(task).saturating_sub(24)
+    } else {
+        column(task) + 10
+    }
 }

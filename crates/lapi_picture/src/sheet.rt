@@ -16,7 +16,7 @@ pub fn add_top(out: &mut String, page: Page) -> Result<(), Memory>
     ensures { OnOk result (out.new.bytes.items ≡ out.old.bytes.items ++ sheet_top page) }
 {
     let bottom = page.edge(page.last as usize);
-    add_frame(out, column(page.tasks) + 360, bottom + 24)?;
+    add_frame(out, column(page.tasks) + 590, bottom + 24)?;
     add_spoken(out, page.tasks, page.last.saturating_sub(page.first))?;
     out.push_str(Fixed::Style.text())?;
     add_marks(out)?;
