@@ -1,8 +1,12 @@
 pub mod AllTaken
+pub mod EachNumber
 pub mod KeptJobs
+pub mod LineRows
 pub mod LinesInOrder
 pub mod Packets
 pub mod Pairs
 pub mod Progress
 pub mod Refusals
+pub mod RunRows
+pub mod SentRows
 pub mod Unwritten

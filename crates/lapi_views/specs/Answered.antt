@@ -1,5 +1,5 @@
 -- What the program did to its source and its sink. This is the project's own.
-use Rattle.std.specs.Prelude.{◌≡◌, ℕ, ◌+◌, ◌≤◌, ◌⊎◌, Bool, true, false, List, [], ◌∷◌, length, codes, Option, Result, Ok, Err}
+use Rattle.std.specs.Prelude.{◌≡◌, ℕ, ◌+◌, ◌≤◌, ◌⊎◌, List, [], length, codes, Option, Some, None}
 use Rattle.std.specs.Io.KnownBytes.{Appends, Consumes, IsAtEnd}
 use Rattle.lapi_base.specs.declared.input.Input.{Input}
 use Rattle.lapi_base.specs.declared.input.ReadFault.{ReadFault}
@@ -9,10 +9,12 @@ use Rattle.lapi_base.specs.declared.rule.Rules.{Rules}
 use Rattle.lapi_base.specs.declared.status.Status.{Status}
 use Rattle.lapi_base.specs.declared.status.Status.TheVariants as status
 use Rattle.lapi_base.specs.Input.Reading.{most_input, read}
-use Rattle.lapi_base.specs.Input.Tokens.{same_text}
 use Rattle.lapi_base.specs.Output.CommandAnswers.{Answer, fault_answer, input_answer, recorded}
 use Rattle.lapi_base.specs.Record.Operations.{numbers_below}
 use Rattle.lapi_io.specs.Writes.{AppendsFront}
+use Rattle.lapi_views.specs.declared.asked.Asked.{Asked}
+use Rattle.lapi_views.specs.declared.asked.Asked.TheVariants.{Packets, Chart}
+use Rattle.lapi_views.specs.Chart.{chart_of}
 use Rattle.lapi_views.specs.Pcap.{pcap_bytes}
 
 -- the sink refused, or memory ran out
@@ -49,20 +51,19 @@ refused_answer faults.Memory = record { status = status.Memory; text = [] }
 abbrev pub packets_text : Rules → Input → List ℕ
 packets_text rules x = pcap_bytes (recorded rules x) x.schedule (numbers_below (length x.schedule))
 
-abbrev pub usage_answer : Answer
-usage_answer = record { status = status.Usage; text = codes "usage: lapi_view pcap\n" }
+-- what was asked for of an input
+abbrev pub asked_text : Rules → Asked → Input → List ℕ
+asked_text rules Packets x = packets_text rules x
+asked_text rules (Chart part) x = chart_of rules part x
 
--- the one word that asks for them
-unfoldable pub is_pcap : List (List ℕ) → Bool
-is_pcap [] = false
-is_pcap (word ∷ []) = same_text word (codes "pcap")
-is_pcap (word ∷ more ∷ words) = false
+abbrev pub usage_answer : Answer
+usage_answer = record { status = status.Usage; text = codes "usage: lapi_view pcap | chart [--from LINE] [--to LINE]\n" }
 
 -- the source couldn't be read, and nothing was written; or it was read, and this was told of its input
 abbrev pub IsToldOf : (text : Input → List ℕ) → (left rest held now : Option (List ℕ)) → Status → Type 0
 IsToldOf text left rest held now result =
     IsSilent result held now ⊎ ((bytes : List ℕ) × WasRead left rest bytes × CommandGives (input_answer text (read bytes)) held now result)
 
-abbrev pub IsAnswered : Rules → (asked : Bool) → (left rest held now : Option (List ℕ)) → Status → Type 0
-IsAnswered rules false left rest held now result = CommandGives usage_answer held now result × (rest ≡ left)
-IsAnswered rules true left rest held now result = IsToldOf (packets_text rules) left rest held now result
+abbrev pub IsAnswered : Rules → Option Asked → (left rest held now : Option (List ℕ)) → Status → Type 0
+IsAnswered rules None left rest held now result = CommandGives usage_answer held now result × (rest ≡ left)
+IsAnswered rules (Some asked) left rest held now result = IsToldOf (asked_text rules asked) left rest held now result

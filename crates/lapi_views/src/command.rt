@@ -6,13 +6,17 @@ ghost use Rattle.lapi_base.specs.Record.Valid.{ValidScript, ValidSchedule};
 ghost use Rattle.lapi_handlers.specs.Handlers.{rules_of};
 ghost use Rattle.lapi_io.specs.Causes.{Rose};
 ghost use Rattle.lapi_io.specs.Writes.{Wrote};
-ghost use Rattle.lapi_views.specs.Answered.{CommandGives, IsAnswered, IsToldOf, is_pcap, packets_text, refused_answer};
+ghost use Rattle.lapi_views.specs.Answered.{CommandGives, IsAnswered, IsToldOf, asked_text, packets_text, refused_answer};
 ghost use Rattle.lapi_views.specs.SinkWrites.{WritesWithMemory};
+ghost use Rattle.lapi_views.specs.Words.{asked_for};
 
+use crate::asked::Asked;
+use crate::chart::write_chart;
 use crate::fault::{status_of, write_fault};
 use crate::pcap::write_pcap;
 use crate::performed::performed;
 use crate::text::write_text;
+use crate::words::asked_for;
 use lapi_base::{Input, LONGEST_INPUT, ReadFault, Status, Which, WriteFault};
 use lapi_handlers::Handlers;
 use lapi_io::{ReadAll, Sink, Source, read_all};
@@ -26,10 +30,10 @@ const TOO_LONG: ReadFault = ReadFault::Limit {
     line: 0,
 };
 
-const USAGE: &str = "usage: lapi_view pcap\n";
+const USAGE: &str = "usage: lapi_view pcap | chart [--from LINE] [--to LINE]\n";
 
 /// Does what the words say, which are the arguments after the program's name: reads an input, performs every line of its
-/// schedule with these handlers, and writes the packets that the switch handed over.
+/// schedule with these handlers, and writes the packets that the switch handed over, or the chart of some lines.
 ///
 /// All text goes to the sink, that of a refusal too.
 pub fn run<S: Source, K: Sink>(
@@ -40,7 +44,7 @@ pub fn run<S: Source, K: Sink>(
     handlers: &Handlers,
 ) -> Status
     // The status and the text that are defined for the words and the input, or a front of that text.
-    ensures answer { IsAnswered (rules_of handlers.now) (is_pcap (map (λ word. word.bytes.items) words.now.items))
+    ensures answer { IsAnswered (rules_of handlers.now) (asked_for (map (λ word. word.bytes.items) words.now.items))
         (S.left source.old) (S.left source.new) (K.held sink.old) (K.held sink.new) result }
     // A fault is answered only where its count rose.
     ensures source { result ≡ Status.SourceFault → Rose (S.faults source.old) (S.faults source.new) }
@@ -48,31 +52,21 @@ pub fn run<S: Source, K: Sink>(
     ensures sink { result ≡ Status.SinkFault → Rose (K.faults sink.old) (K.faults sink.new) }
     ensures room { K.room sink.new ≡ K.room sink.old }
 {
-    if is_pcap(words) {
-        read_and_answer(alloc, source, sink, handlers)
-    } else {
-        end(Status::Usage, write_text(USAGE, sink))
-    }
-}
-
-#[tactic(auto, unfolding(crate::specs::Answered::is_pcap))]
-fn is_pcap(words: &Vec<String>) -> bool
-    ensures { result ≡ is_pcap (map (λ word. word.bytes.items) words.now.items) }
-{
-    match words.as_slice() {
-        [word] => word.as_str() == "pcap",
-        _ => false,
+    match asked_for(words) {
+        Some(asked) => read_and_answer(alloc, asked, source, sink, handlers),
+        None => end(Status::Usage, write_text(USAGE, sink)),
     }
 }
 
 /// Reads the whole source, and answers what was read.
 fn read_and_answer<S: Source, K: Sink>(
     alloc: Global,
+    asked: Asked,
     source: &mut S,
     sink: &mut K,
     handlers: &Handlers,
 ) -> Status
-    ensures answer { IsToldOf (packets_text (rules_of handlers.now)) (S.left source.old) (S.left source.new)
+    ensures answer { IsToldOf (asked_text (rules_of handlers.now) asked) (S.left source.old) (S.left source.new)
         (K.held sink.old) (K.held sink.new) result }
     ensures source { result ≡ Status.SourceFault → Rose (S.faults source.old) (S.faults source.new) }
     ensures unwritten { result ≡ Status.SourceFault → sink.new ≡ sink.old }
@@ -80,7 +74,7 @@ fn read_and_answer<S: Source, K: Sink>(
     ensures room { K.room sink.new ≡ K.room sink.old }
 {
     match read_all(alloc, source, LONGEST_INPUT) {
-        Ok(bytes) => answer_input(alloc, bytes.as_slice(), sink, handlers),
+        Ok(bytes) => answer_input(alloc, asked, bytes.as_slice(), sink, handlers),
         Err(ReadAll::Long) => refuse(alloc, TOO_LONG, sink),
         Err(ReadAll::Failed) => Status::SourceFault,
         Err(ReadAll::Memory) => Status::Memory,
@@ -88,16 +82,41 @@ fn read_and_answer<S: Source, K: Sink>(
 }
 
 /// Answers bytes that are no more than an input may have.
-fn answer_input<K: Sink>(alloc: Global, bytes: &[u8], sink: &mut K, handlers: &Handlers) -> Status
-    ensures answer { CommandGives (input_answer (packets_text (rules_of handlers.now)) (read bytes.now))
+fn answer_input<K: Sink>(
+    alloc: Global,
+    asked: Asked,
+    bytes: &[u8],
+    sink: &mut K,
+    handlers: &Handlers,
+) -> Status
+    ensures answer { CommandGives (input_answer (asked_text (rules_of handlers.now) asked) (read bytes.now))
         (K.held sink.old) (K.held sink.new) result }
     ensures source { result ≢ Status.SourceFault }
     ensures sink { result ≡ Status.SinkFault → Rose (K.faults sink.old) (K.faults sink.new) }
     ensures room { K.room sink.new ≡ K.room sink.old }
 {
     match read_input(alloc, bytes) {
-        Ok(input) => end(Status::Ok, write_packets(alloc, input, sink, handlers)),
+        Ok(input) => end(Status::Ok, write_asked(alloc, asked, input, sink, handlers)),
         Err(fault) => refuse(alloc, fault, sink),
+    }
+}
+
+/// Writes what was asked for of an input.
+fn write_asked<K: Sink>(
+    alloc: Global,
+    asked: Asked,
+    input: Input,
+    sink: &mut K,
+    handlers: &Handlers,
+) -> Result<(), WriteFault>
+    requires script { ValidScript input.script }
+    requires schedule { ValidSchedule input.script spells_packet input.schedule }
+    ensures { WritesWithMemory K.held K.faults K.room sink.old sink.new
+        (asked_text (rules_of handlers.now) asked input) result }
+{
+    match asked {
+        Asked::Packets => write_packets(alloc, input, sink, handlers),
+        Asked::Chart(part) => write_chart(alloc, input, part, sink, handlers),
     }
 }
 

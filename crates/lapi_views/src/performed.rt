@@ -37,7 +37,7 @@ pub fn performed(alloc: Global, input: Input, handlers: &Handlers) -> Result<Wor
 }
 
 /// Takes line `n`, of whatever form.
-fn take_line(
+pub(crate) fn take_line(
     alloc: Global,
     world: &mut World,
     handlers: &Handlers,
